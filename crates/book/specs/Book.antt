@@ -1,0 +1,146 @@
+-- "The book": its tables, what it holds with meter memory in the rules' terms, and what a taken command puts into both.
+use mathlib.Core.Bool.{Bool, true, false, cond}
+use mathlib.Core.List.{List, [], _∷_, _++_}
+use mathlib.Core.Option.{Option, none, some}
+use Prim.Native.Nat.{ℕ, _+_}
+use lib.IntN.{ℤ, pos, negsuc}
+use lib.Dec.{ltb}
+use lib.ListN.{getD, take, drop, set, replicate}
+use Rattle.rules.specs.Ledger.{Ledger, noContract, spanOf}
+use Rattle.rules.specs.Refusal.{isReading}
+use Rattle.rules.specs.declared.contract.Contract.{Contract}
+use Rattle.rules.specs.declared.entries.Window.{Window}
+use Rattle.rules.specs.declared.entries.Instruction.{Instruction}
+use Rattle.rules.specs.declared.entries.Default.{Default}
+use Rattle.rules.specs.declared.entries.Command.{Command}
+use Rattle.rules.specs.declared.entries.Command.the-variants.{Contract as contractᶜ, Window as windowᶜ, Instruction as instructionᶜ, Default as defaultᶜ, Reading as readingᶜ, Close as closeᶜ}
+use Rattle.book.specs.declared.Book.{Book}
+
+-- an unused entry of the table of windows
+abbrev pub noWindow : Window
+noWindow = record { start = record { 0 = 0 }; end = record { 0 = 0 }; verdict = 0 }
+
+-- an unused entry of the table of instructions
+abbrev pub noInstruction : Instruction
+noInstruction = record { issue = record { 0 = 0 }; cease = record { 0 = 0 } }
+
+-- an unused entry of the table of defaults
+abbrev pub noDefault : Default
+noDefault = record { minute = record { 0 = 0 }; kind = 0; reach = 0 }
+
+-- the empty book: no contract, and zeros
+unfoldable pub emptyBook : Book
+emptyBook =
+    record {
+      agreed = false;
+      closed = false;
+      contract = noContract;
+      windows = replicate 128 noWindow;
+      nwindows = 0;
+      instructions = replicate 64 noInstruction;
+      ninstructions = 0;
+      defaults = replicate 128 noDefault;
+      ndefaults = 0;
+    }
+
+-- the mark of a minute without a reading
+abbrev pub missing : ℤ
+missing = negsuc 2147483647
+
+-- a cell's reading: none where it is outside the range
+abbrev pub cell : ℤ → Option ℤ
+cell z = cond (isReading z) (some z) none
+
+-- ---- what a book and meter memory hold
+
+-- the ledger of a book and meter memory. Cells past the span are no readings
+unfoldable pub ledgerIn : Book → List ℤ → Ledger
+ledgerIn b meter =
+    record {
+      contracts = cond (b .agreed) (b .contract ∷ []) [];
+      windows = take (b .nwindows) (b .windows);
+      instructions = take (b .ninstructions) (b .instructions);
+      defaults = take (b .ndefaults) (b .defaults);
+      closed = b .closed;
+      reading = λ m. cond (ltb m (spanOf (b .contract))) (cell (getD meter m missing)) none;
+    }
+
+-- ---- a taken command put into the book and the meter memory
+
+-- the book with a command's entry
+abbrev pub putBook : Book → Command → Book
+putBook b (contractᶜ k) =
+    record {
+      agreed = true;
+      closed = b .closed;
+      contract = k;
+      windows = b .windows;
+      nwindows = b .nwindows;
+      instructions = b .instructions;
+      ninstructions = b .ninstructions;
+      defaults = b .defaults;
+      ndefaults = b .ndefaults;
+    }
+putBook b (windowᶜ w) =
+    record {
+      agreed = b .agreed;
+      closed = b .closed;
+      contract = b .contract;
+      windows = set (b .windows) (b .nwindows) w;
+      nwindows = b .nwindows + 1;
+      instructions = b .instructions;
+      ninstructions = b .ninstructions;
+      defaults = b .defaults;
+      ndefaults = b .ndefaults;
+    }
+putBook b (instructionᶜ i) =
+    record {
+      agreed = b .agreed;
+      closed = b .closed;
+      contract = b .contract;
+      windows = b .windows;
+      nwindows = b .nwindows;
+      instructions = set (b .instructions) (b .ninstructions) i;
+      ninstructions = b .ninstructions + 1;
+      defaults = b .defaults;
+      ndefaults = b .ndefaults;
+    }
+putBook b (defaultᶜ d) =
+    record {
+      agreed = b .agreed;
+      closed = b .closed;
+      contract = b .contract;
+      windows = b .windows;
+      nwindows = b .nwindows;
+      instructions = b .instructions;
+      ninstructions = b .ninstructions;
+      defaults = set (b .defaults) (b .ndefaults) d;
+      ndefaults = b .ndefaults + 1;
+    }
+putBook b (readingᶜ r) = b
+putBook b closeᶜ =
+    record {
+      agreed = b .agreed;
+      closed = true;
+      contract = b .contract;
+      windows = b .windows;
+      nwindows = b .nwindows;
+      instructions = b .instructions;
+      ninstructions = b .ninstructions;
+      defaults = b .defaults;
+      ndefaults = b .ndefaults;
+    }
+
+-- meter memory with a command's reading, or with a contract's span marked
+abbrev pub putMeter : List ℤ → Command → List ℤ
+putMeter meter (contractᶜ k) = replicate (spanOf k) missing ++ drop (spanOf k) meter
+putMeter meter (windowᶜ w) = meter
+putMeter meter (instructionᶜ i) = meter
+putMeter meter (defaultᶜ d) = meter
+putMeter meter (readingᶜ r) = set meter (r .minute .0) (r .kw .0)
+putMeter meter closeᶜ = meter
+
+-- the book with the entries of a list of commands
+unfoldable pub putAll : Book → List Command → Book
+putAll b [] = b
+putAll b (c ∷ t) = putAll (putBook b c) t

@@ -1,0 +1,27 @@
+-- "A book takes a command and hands back the book after it": answer, book and meter memory after, by one equation over the rules.
+use mathlib.Core.Bool.{not}
+use mathlib.Core.List.{List}
+use mathlib.Core.Option.{Option, none, some}
+use Prim.Native.Nat.{ℕ}
+use lib.IntN.{ℤ}
+use lib.ListN.{length}
+use Rattle.rules.specs.Refusal.{refusal, answerOf}
+use Rattle.rules.specs.declared.entries.Command.{Command}
+use Rattle.book.specs.Book.{ledgerIn, putBook, putMeter}
+use Rattle.book.specs.Sound.{sound}
+use Rattle.book.specs.declared.Book.{Book}
+use Rattle.book.specs.declared.Entry.{Entry}
+
+-- the answer with the book after it, and meter memory after it
+pub record Entered : Type 0 where
+  pub entry : Entry
+  pub meter : List ℤ
+
+-- a command refused under a number changes nothing; one that is not is put into both
+abbrev pub enteredBy : Option ℕ → Book → List ℤ → Command → Entered
+enteredBy none b meter c = record { entry = record { answer = answerOf none; book = putBook b c }; meter = putMeter meter c }
+enteredBy (some n) b meter c = record { entry = record { answer = answerOf (some n); book = b }; meter = meter }
+
+-- entering a command: what every method of the book promises
+unfoldable pub enterBook : Book → List ℤ → Command → Entered
+enterBook b meter c = enteredBy (refusal (not (sound b)) (length meter) (ledgerIn b meter) c) b meter c

@@ -1,0 +1,26 @@
+// The book of one unit: what has been entered, by value, and one method for each entry.
+use rules::answer::Answer;
+use rules::contract::Contract;
+use rules::entries::Default;
+use rules::entries::Instruction;
+use rules::entries::Window;
+
+// The tables are in order of entry; unused entries are zeros.
+pub struct Book {
+    // a contract has been taken
+    pub agreed: bool,
+    pub closed: bool,
+    pub contract: Contract,
+    pub windows: [Window; 128],
+    pub nwindows: usize,
+    pub instructions: [Instruction; 64],
+    pub ninstructions: usize,
+    pub defaults: [Default; 128],
+    pub ndefaults: usize,
+}
+
+// The book after a command, and whether the command was taken.
+pub struct Entry {
+    pub answer: Answer,
+    pub book: Book,
+}

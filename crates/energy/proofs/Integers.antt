@@ -1,0 +1,223 @@
+-- A signed number z as up z - down z, two naturals of which one is 0. A statement on ℤ becomes one on ℕ, which `omega` reads.
+use mathlib.Core.Path.{_≡_, refl, sym, _∙_, ap, subst}
+use mathlib.Core.Logic.{_⊎_, inl, inr}
+use mathlib.Core.Bool.{Bool, true, false, not, cond}
+use Prim.Native.Nat.{ℕ, zero, suc, _+_, _*_, _-_, _/_, _%_, _≤_, _<_, _^_}
+use native.Mathlib.Omega.{arith}
+use lib.Dec.{T, ltb, leb, leb→le, le→leb, ltb→lt, lt→ltb, nltb→le}
+use lib.IntN.{ℤ, pos, negsuc, negℤ, natAbs, subℕ, _+ℤ_, _-ℤ_, _*ℤ_}
+use lib.Signed.{leZ, ltZ, nonNeg, quotZ, remZ, _≤ℤ_, _<ℤ_}
+use native.Mathlib.Nat.{zero-div, zero-mod, div-add-mod, div-le-self, mod-lt}
+use mir.Syntax.{Width}
+use mir.Val.{SFits, hbits}
+use lib.Pow.{pow-pos}
+use Rattle.energy.specs.Number.{up, down}
+use borrow.Author.Tests.{leb-false, ltb-false, le-leb, lt-leb}
+
+-- z is p - n. Then its own parts, of which one is 0, are at most p and n
+pub record Is (z : ℤ) (p n : ℕ) : Type 0 where
+  pub same : up z + n ≡ p + down z
+  pub most : up z ≤ p
+  pub least : down z ≤ n
+
+pub is : (z : ℤ) (p n : ℕ) → up z + n ≡ p + down z → Is z p n
+is (pos a) p n e = record { same = e; most = omega arith; least = omega arith }
+is (negsuc a) p n e = record { same = e; most = omega arith; least = omega arith }
+
+-- and which of the two is 0. Each `-` has `omega` split the proof: listed only where it is needed
+pub exact : {z : ℤ} {p n : ℕ} → Is z p n → (up z ≡ p - n) × (down z ≡ n - p)
+exact {z = pos a} i = omega arith
+exact {z = negsuc a} i = omega arith
+
+-- ---- the operations
+cond-ind : (c : Bool) (x y : ℤ) (P : ℤ → Type 0) → (T c → P x) → (T (not c) → P y) → P (cond c x y)
+cond-ind true x y P f g = f tt
+cond-ind false x y P f g = g tt
+
+sub-is : (a b : ℕ) → up (subℕ a b) + b ≡ a + down (subℕ a b)
+sub-is a b = cond-ind (ltb a b) (negsuc (b - suc a)) (pos (a - b)) (λ z. up z + b ≡ a + down z)
+    (λ t. omega (arith, ltb→lt a b t)) (λ t. omega (arith, nltb→le a b t))
+
+pub sub-parts : (a b : ℕ) → Is (subℕ a b) a b
+sub-parts a b = is _ _ _ (sub-is a b)
+
+add-is : (a b : ℤ) → up (a +ℤ b) + (down a + down b) ≡ up a + up b + down (a +ℤ b)
+add-is (pos a) (pos b) = omega arith
+add-is (pos a) (negsuc b) = omega (arith, sub-is a (suc b))
+add-is (negsuc a) (pos b) = omega (arith, sub-is b (suc a))
+add-is (negsuc a) (negsuc b) = omega arith
+
+pub add-parts : (a b : ℤ) → Is (a +ℤ b) (up a + up b) (down a + down b)
+add-parts a b = is _ _ _ (add-is a b)
+
+pub neg-parts : (a : ℤ) → (up (negℤ a) ≡ down a) × (down (negℤ a) ≡ up a)
+neg-parts (pos zero) = (refl, refl)
+neg-parts (pos (suc n)) = (refl, refl)
+neg-parts (negsuc n) = (refl, refl)
+
+pub diff-parts : (a b : ℤ) → Is (a -ℤ b) (up a + down b) (down a + up b)
+diff-parts a b = is _ _ _ (omega (arith, add-is a (negℤ b), neg-parts b))
+
+mul-is : (a b : ℤ) → up (a *ℤ b) + (up a * down b + down a * up b) ≡ up a * up b + down a * down b + down (a *ℤ b)
+mul-is (pos a) (pos b) = omega arith
+mul-is (pos a) (negsuc b) = omega (arith, neg-parts (pos (a * suc b)))
+mul-is (negsuc a) (pos b) = omega (arith, neg-parts (pos (suc a * b)))
+mul-is (negsuc a) (negsuc b) = omega arith
+
+pub mul-parts : (a b : ℤ) → Is (a *ℤ b) (up a * up b + down a * down b) (up a * down b + down a * up b)
+mul-parts a b = is _ _ _ (mul-is a b)
+
+-- ---- equations and orders, from and to the parts
+pub from-parts : (a b : ℤ) → up a + down b ≡ up b + down a → a ≡ b
+from-parts (pos a) (pos b) h = ap pos (omega arith)
+from-parts (pos a) (negsuc b) h = absurd (omega arith)
+from-parts (negsuc a) (pos b) h = absurd (omega arith)
+from-parts (negsuc a) (negsuc b) h = ap negsuc (omega arith)
+
+pub to-parts : {a b : ℤ} → a ≡ b → up a + down b ≡ up b + down a
+to-parts {a} {b} e = subst (λ (z : ℤ). up a + down z ≡ up z + down a) e refl
+
+le-in : (a b : ℤ) → up a + down b ≤ up b + down a → T (leZ a b)
+le-in (pos a) (pos b) h = le→leb a b (omega arith)
+le-in (pos a) (negsuc b) h = absurd (omega arith)
+le-in (negsuc a) (pos b) h = tt
+le-in (negsuc a) (negsuc b) h = le→leb b a (omega arith)
+
+le-out : (a b : ℤ) → T (leZ a b) → (up a ≤ up b) × (down b ≤ down a)
+le-out (pos a) (pos b) h = omega (arith, leb→le a b h)
+le-out (pos a) (negsuc b) h = absurd h
+le-out (negsuc a) (pos b) h = omega arith
+le-out (negsuc a) (negsuc b) h = omega (arith, leb→le b a h)
+
+lt-in : (a b : ℤ) → up a + down b < up b + down a → T (ltZ a b)
+lt-in (pos a) (pos b) h = lt→ltb a b (omega arith)
+lt-in (pos a) (negsuc b) h = absurd (omega arith)
+lt-in (negsuc a) (pos b) h = tt
+lt-in (negsuc a) (negsuc b) h = lt→ltb b a (omega arith)
+
+lt-out : (a b : ℤ) → T (ltZ a b) → (up a ≤ up b) × (down b ≤ down a) × (up a + down b < up b + down a)
+lt-out (pos a) (pos b) h = omega (arith, ltb→lt a b h)
+lt-out (pos a) (negsuc b) h = absurd h
+lt-out (negsuc a) (pos b) h = omega arith
+lt-out (negsuc a) (negsuc b) h = omega (arith, ltb→lt b a h)
+
+pub ≤-from-parts : (a b : ℤ) → up a + down b ≤ up b + down a → a ≤ℤ b
+≤-from-parts a b h = record { le = le-in a b h }
+
+pub ≤-to-parts : {a b : ℤ} → a ≤ℤ b → (up a ≤ up b) × (down b ≤ down a)
+≤-to-parts {a} {b} h = le-out a b (h .le)
+
+pub <-from-parts : (a b : ℤ) → up a + down b < up b + down a → a <ℤ b
+<-from-parts a b h = record { lt = lt-in a b h }
+
+pub <-to-parts : {a b : ℤ} → a <ℤ b → (up a ≤ up b) × (down b ≤ down a) × (up a + down b < up b + down a)
+<-to-parts {a} {b} h = lt-out a b (h .lt)
+
+-- what `omega` takes for statements on ℤ. It applies one rule to a hypothesis, which yields one statement: for a bound on one part list `≤-to-parts h`
+pub ≤-apart : {a b : ℤ} → a ≤ℤ b → up a + down b ≤ up b + down a
+≤-apart h = omega (arith, ≤-to-parts h)
+
+pub <-apart : {a b : ℤ} → a <ℤ b → up a + down b < up b + down a
+<-apart h = <-to-parts h .2
+
+pub ruleset arithℤ = (arith, from-parts, to-parts, ≤-from-parts, <-from-parts, ≤-apart, <-apart)
+
+pub distrib : (a b c : ℤ) → a *ℤ (b +ℤ c) ≡ a *ℤ b +ℤ a *ℤ c
+distrib a b c = omega (arithℤ, mul-parts a (b +ℤ c), mul-parts a b, mul-parts a c, add-parts (a *ℤ b) (a *ℤ c), ap (λ x. up a * x) (add-is b c), ap (λ x. down a * x) (add-is b c))
+
+-- ---- a signed width's range, and the magnitude
+pub fits-parts : (w : Width) (z : ℤ) → (up z < 2 ^ hbits w) × (down z ≤ 2 ^ hbits w) → SFits w z
+fits-parts w (pos n) h = record { sfits = h .0 }
+fits-parts w (negsuc n) h = record { sfits = h .1 }
+
+pub parts-fit : (w : Width) (z : ℤ) → SFits w z → (up z < 2 ^ hbits w) × (down z ≤ 2 ^ hbits w)
+parts-fit w (pos n) h = (h .sfits, omega arith)
+parts-fit w (negsuc n) h = (omega (arith, pow-pos (hbits w)), h .sfits)
+
+pub abs-parts : (z : ℤ) → natAbs z ≡ up z + down z
+abs-parts (pos n) = omega arith
+abs-parts (negsuc n) = omega arith
+
+-- ---- quotient and remainder toward zero, by a natural
+pub quot-parts : (z : ℤ) (m : ℕ) → (up (quotZ z (pos m)) ≡ up z / m) × (down (quotZ z (pos m)) ≡ down z / m)
+quot-parts (pos a) m = (refl, sym (zero-div m))
+quot-parts (negsuc a) m = (neg-parts (pos (suc a / m)) .0 ∙ sym (zero-div m), neg-parts (pos (suc a / m)) .1)
+
+pub rem-parts : (z : ℤ) (m : ℕ) → (up (remZ z (pos m)) ≡ up z % m) × (down (remZ z (pos m)) ≡ down z % m)
+rem-parts (pos a) m = (refl, sym (zero-mod m))
+rem-parts (negsuc a) m = (neg-parts (pos (suc a % m)) .0 ∙ sym (zero-mod m), neg-parts (pos (suc a % m)) .1)
+
+-- ---- what a test of the machine tells
+pub leZ-true : (a b : ℤ) → leZ a b ≡ true → (up a ≤ up b) × (down b ≤ down a)
+leZ-true a b e = le-out a b (subst T (sym e) tt)
+
+pub leZ-false : (a b : ℤ) → leZ a b ≡ false → (up b ≤ up a) × (down a ≤ down b) × (up b + down a < up a + down b)
+leZ-false (pos a) (pos b) e = omega (arith, leb-false a b e)
+leZ-false (pos a) (negsuc b) e = omega arith
+leZ-false (negsuc a) (pos b) e = absurd (subst T e tt)
+leZ-false (negsuc a) (negsuc b) e = omega (arith, leb-false b a e)
+
+pub ltZ-true : (a b : ℤ) → ltZ a b ≡ true → (up a ≤ up b) × (down b ≤ down a) × (up a + down b < up b + down a)
+ltZ-true a b e = lt-out a b (subst T (sym e) tt)
+
+pub ltZ-false : (a b : ℤ) → ltZ a b ≡ false → (up b ≤ up a) × (down a ≤ down b)
+ltZ-false (pos a) (pos b) e = omega (arith, ltb-false a b e)
+ltZ-false (pos a) (negsuc b) e = omega arith
+ltZ-false (negsuc a) (pos b) e = absurd (subst T e tt)
+ltZ-false (negsuc a) (negsuc b) e = omega (arith, ltb-false b a e)
+
+-- a test and the test the other way round
+pub leZ-yes : (a b : ℤ) → up a + down b ≤ up b + down a → leZ a b ≡ true
+leZ-yes (pos a) (pos b) h = le-leb a b (omega arith)
+leZ-yes (pos a) (negsuc b) h = absurd (omega arith)
+leZ-yes (negsuc a) (pos b) h = refl
+leZ-yes (negsuc a) (negsuc b) h = le-leb b a (omega arith)
+
+pub leZ-no : (a b : ℤ) → up b + down a < up a + down b → leZ a b ≡ false
+leZ-no (pos a) (pos b) h = lt-leb a b (omega arith)
+leZ-no (pos a) (negsuc b) h = refl
+leZ-no (negsuc a) (pos b) h = absurd (omega arith)
+leZ-no (negsuc a) (negsuc b) h = lt-leb b a (omega arith)
+
+pub leZ-not-below : (a b : ℤ) → ltZ a b ≡ false → leZ b a ≡ true
+leZ-not-below a b e = leZ-yes b a (omega (arith, ltZ-false a b e))
+
+pub leZ-below : (a b : ℤ) → ltZ a b ≡ true → leZ b a ≡ false
+leZ-below a b e = leZ-no b a (omega (arith, ltZ-true a b e))
+
+pub nonNeg-parts : (z : ℤ) → down z ≡ 0 → T (nonNeg z)
+nonNeg-parts (pos n) h = tt
+nonNeg-parts (negsuc n) h = absurd (omega arith)
+
+pub order : (a b : ℤ) → (a <ℤ b) ⊎ (b ≤ℤ a)
+order a b = go (ltZ a b) refl
+  where
+    go : (t : Bool) → ltZ a b ≡ t → (a <ℤ b) ⊎ (b ≤ℤ a)
+    go true e = inl (record { lt = subst T (sym e) tt })
+    go false e = inr (≤-from-parts b a (omega (arith, ltZ-false a b e)))
+
+pub abs-le : (z : ℤ) (b : ℕ) → up z ≤ b + down z → down z ≤ b + up z → natAbs z ≤ b
+abs-le (pos n) b h k = omega arith
+abs-le (negsuc n) b h k = omega arith
+
+-- z = m q + r by the parts, with r nearer 0 than m
+pub record QuotRem (z : ℤ) (m : ℕ) : Type 0 where
+  pub ups : m * up (quotZ z (pos m)) + up (remZ z (pos m)) ≡ up z
+  pub downs : m * down (quotZ z (pos m)) + down (remZ z (pos m)) ≡ down z
+  pub quot : (up (quotZ z (pos m)) ≤ up z) × (down (quotZ z (pos m)) ≤ down z)
+  pub rem : (up (remZ z (pos m)) < m) × (down (remZ z (pos m)) < m)
+
+pub quot-rem : (z : ℤ) (m : ℕ) → 0 < m → QuotRem z m
+quot-rem z m h =
+    let (qu, qd) = quot-parts z m in
+    let (ru, rd) = rem-parts z m in
+    record {
+      ups = rw (qu, ru) (div-add-mod (up z) m);
+      downs = rw (qd, rd) (div-add-mod (down z) m);
+      quot = (rw qu (div-le-self (up z) m), rw qd (div-le-self (down z) m));
+      rem = (rw ru (mod-lt (up z) h), rw rd (mod-lt (down z) h));
+    }
+
+-- the triangle inequality
+pub abs-add : (a b : ℤ) → natAbs (a +ℤ b) ≤ natAbs a + natAbs b
+abs-add a b = omega (arith, add-parts a b, abs-parts a, abs-parts b, abs-parts (a +ℤ b))

@@ -1,0 +1,4 @@
+pub mod Tests
+pub mod Integers
+pub mod Sums
+pub mod Rounding

@@ -1,0 +1,90 @@
+-- Laws of tests.
+use mathlib.Core.Path.{_≡_, refl, sym, ap, _∙_, subst}
+use mathlib.Core.Logic.{_≢_}
+use mathlib.Core.Bool.{Bool, true, false, not, _&&_, _||_, true≢false, false≢true}
+use mathlib.Core.List.{List, [], _∷_, _++_}
+use Prim.Native.Nat.{ℕ, suc, _≤_, _<_}
+use lib.Dec.{T, leb, ltb, eqb, leb→le, le→leb, ltb→lt, lt→ltb, nleb→lt, nltb→le, eqb→eq, eqb-refl}
+use Rattle.energy.specs.Lists.{pass, all, any}
+
+pub eq-true : (a b : ℕ) → a ≡ b → eqb a b ≡ true
+eq-true a b e = ap (λ x. eqb a x) (sym e) ∙ go (eqb a a) (eqb-refl a)
+  where
+    go : (x : Bool) → T x → x ≡ true
+    go true t = refl
+    go false t = absurd t
+
+pub eq-false : (a b : ℕ) → a ≢ b → eqb a b ≡ false
+eq-false a b h = go (eqb a b) (λ t. h (eqb→eq a b t))
+  where
+    go : (x : Bool) → (T x → ⊥) → x ≡ false
+    go true f = absurd (f tt)
+    go false f = refl
+
+pub to-T : {b : Bool} → b ≡ true → T b
+to-T e = subst (λ x. T x) (sym e) tt
+
+pub of-T : (b : Bool) → T b → b ≡ true
+of-T true t = refl
+of-T false t = absurd t
+
+pub T-and : (a b : Bool) → T (a && b) → T a × T b
+T-and true b t = (tt, t)
+T-and false b t = absurd t
+
+pub and-T : (a b : Bool) → T a → T b → T (a && b)
+and-T true b s t = t
+and-T false b s t = s
+
+-- a condition that does not hold
+pub off-not : (b : Bool) → not b ≡ false → T b
+off-not true e = tt
+off-not false e = absurd (true≢false e)
+
+pub off-T : (b : Bool) → b ≡ false → T (not b)
+off-T true e = absurd (true≢false e)
+off-T false e = tt
+
+pub off-or : (a b : Bool) → (a || b) ≡ false → (a ≡ false) × (b ≡ false)
+off-or true b e = absurd (true≢false e)
+off-or false b e = (refl, e)
+
+pub off-leb : (a b : ℕ) → leb a b ≡ false → b < a
+off-leb a b e = nleb→lt a b (off-T (leb a b) e)
+
+pub off-ltb : (a b : ℕ) → ltb a b ≡ false → b ≤ a
+off-ltb a b e = nltb→le a b (off-T (ltb a b) e)
+
+abbrev pub Passes : List Bool → Type 0
+Passes [] = Unit {0}
+Passes (b ∷ bs) = T b × Passes bs
+
+pub passes : (bs : List Bool) → T (pass bs) → Passes bs
+unfolding pass
+passes [] t = tt
+passes (b ∷ bs) t = (T-and b (pass bs) t .0, passes bs (T-and b (pass bs) t .1))
+
+pub passed : (bs : List Bool) → Passes bs → T (pass bs)
+unfolding pass
+passed [] h = tt
+passed (b ∷ bs) h = and-T b (pass bs) (h .0) (passed bs (h .1))
+
+module _ {A : Type 0} where
+  pub all-mono : (f g : A → Bool) (xs : List A) → ((x : A) → T (f x) → T (g x)) → T (all f xs) → T (all g xs)
+  unfolding all
+  all-mono f g [] h t = tt
+  all-mono f g (x ∷ xs) h t = and-T (g x) (all g xs) (h x (T-and (f x) (all f xs) t .0)) (all-mono f g xs h (T-and (f x) (all f xs) t .1))
+
+  pub all-snoc : (f : A → Bool) (xs : List A) (a : A) → T (all f xs) → T (f a) → T (all f (xs ++ (a ∷ [])))
+  unfolding all
+  all-snoc f [] a t s = and-T (f a) true s tt
+  all-snoc f (x ∷ xs) a t s = and-T (f x) (all f (xs ++ (a ∷ []))) (T-and (f x) (all f xs) t .0) (all-snoc f xs a (T-and (f x) (all f xs) t .1) s)
+
+  pub any-snoc : (f : A → Bool) (xs : List A) (a : A) → T (any f xs) → T (any f (xs ++ (a ∷ [])))
+  unfolding any
+  any-snoc f [] a t = absurd t
+  any-snoc f (x ∷ xs) a t = go (f x) (λ q. any-snoc f xs a q) t
+    where
+      go : (b : Bool) → (T (any f xs) → T (any f (xs ++ (a ∷ [])))) → T (b || any f xs) → T (b || any f (xs ++ (a ∷ [])))
+      go true r t = tt
+      go false r t = r t

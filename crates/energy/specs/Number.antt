@@ -1,0 +1,31 @@
+-- Division as the rules round it, and how large a signed number is.
+use Prim.Native.Nat.{ℕ, zero, suc, _+_, _-_, _*_, _/_, _≤_}
+use mathlib.Core.Bool.{Bool, cond}
+use lib.IntN.{ℤ, pos, negsuc, _+ℤ_, _*ℤ_}
+use lib.Signed.{shrZ, leZ}
+
+-- n / d, taken up to a whole number
+unfoldable pub ceiling : ℕ → ℕ → ℕ
+ceiling n d = (n + (d - 1)) / d
+
+-- n / d to the nearest whole number, a half to the larger: the floor of (2n + d) / 2d
+unfoldable pub nearest : ℤ → ℕ → ℤ
+nearest n d = shrZ (pos 2 *ℤ n +ℤ pos d) (2 * d)
+
+-- the lesser of two numbers
+unfoldable pub lesser : ℤ → ℤ → ℤ
+lesser a b = cond (leZ a b) a b
+
+-- how far z is above 0
+abbrev pub up : ℤ → ℕ
+up (pos n) = n
+up (negsuc n) = 0
+
+-- how far z is below 0
+abbrev pub down : ℤ → ℕ
+down (pos n) = 0
+down (negsuc n) = suc n
+
+-- z is from −n to n
+abbrev pub Within : ℕ → ℤ → Type 0
+Within n z = (up z ≤ n) × (down z ≤ n)

@@ -1,0 +1,2 @@
+// Energy and money: the four kinds of number, rounding, energy and pence. Everything else builds on these promises.
+pub mod units;

@@ -1,0 +1,318 @@
+-- A segment's minutes are an interval: from its first minute up to the end of its stage or of its period, whichever is first. So the segments of an instruction are the cuts of its active minutes, one after the other.
+use mathlib.Core.Path.{_≡_, refl, sym, ap, ap₂, _∙_, subst}
+use mathlib.Core.Logic.{_⊎_, inl, inr, ⊎-elim, _≢_}
+use mathlib.Core.Bool.{Bool, true, false, cond, not, _&&_, _||_}
+use mathlib.Core.List.{List, [], _∷_, _++_, map}
+use Prim.Native.Nat.{ℕ, zero, suc, _+_, _-_, _*_, _/_, _≤_, _<_, zero-le, min}
+use native.Mathlib.Nat.{le-refl}
+use native.Mathlib.Omega.{arith}
+use native.Mathlib.Decide.{ℕ-discrete, decLe, decLt}
+use lib.Dec.{T, leb, ltb, eqb, ltb→lt, nltb→le, eqb→eq, eqb-refl}
+use Rattle.energy.specs.Lists.{filter, run, between}
+use Rattle.energy.proofs.Tests.{eq-true, eq-false}
+use Rattle.energy.proofs.Sums.{run-append, between-split, between-cons}
+use Rattle.rules.specs.Ledger.{Ledger, contractOf, expiry, rise, endOf}
+use Rattle.rules.specs.Segment.{periodOf, stageOf, sameStage, alike, heads, active, Segment, segmentsOf, segmentsFrom, segments}
+use Rattle.rules.specs.declared.contract.Contract.{Contract}
+use Rattle.rules.specs.declared.entries.Instruction.{Instruction}
+use Rattle.rules.specs.declared.statement.Stage.{Stage}
+use Rattle.rules.specs.declared.statement.Stage.the-variants.{Up, Steady, Down}
+
+-- ---- what a test keeps of numbers in a row
+module _ (f : ℕ → Bool) where
+  filter-append : (xs ys : List ℕ) → filter f (xs ++ ys) ≡ filter f xs ++ filter f ys
+  unfolding filter
+  filter-append [] ys = refl
+  filter-append (x ∷ xs) ys = go (f x) (filter-append xs ys)
+    where
+      go : (b : Bool) → filter f (xs ++ ys) ≡ filter f xs ++ filter f ys
+          → elim b as (λ z. List ℕ) [ true ↦ x ∷ filter f (xs ++ ys) | false ↦ filter f (xs ++ ys) ]
+          ≡ elim b as (λ z. List ℕ) [ true ↦ x ∷ filter f xs | false ↦ filter f xs ] ++ filter f ys
+      go true e = ap (λ l. x ∷ l) e
+      go false e = e
+
+  filter-yes : (x : ℕ) (xs : List ℕ) → f x ≡ true → filter f (x ∷ xs) ≡ x ∷ filter f xs
+  unfolding filter
+  filter-yes x xs e = ap (λ b. elim b as (λ z. List ℕ) [ true ↦ x ∷ filter f xs | false ↦ filter f xs ]) e
+
+  all-run : (a n : ℕ) → ((x : ℕ) → a ≤ x → x < a + n → f x ≡ true) → filter f (run a n) ≡ run a n
+  unfolding filter run
+  all-run a zero h = refl
+  all-run a (suc n) h =
+      let e : f a ≡ true = h a (le-refl a) (omega arith) in
+      rw e (ap (λ l. a ∷ l) (all-run (suc a) n (λ x l k. h x (omega arith) (omega arith))))
+
+  none-run : (a n : ℕ) → ((x : ℕ) → a ≤ x → x < a + n → f x ≡ false) → filter f (run a n) ≡ []
+  unfolding filter run
+  none-run a zero h = refl
+  none-run a (suc n) h =
+      let e : f a ≡ false = h a (le-refl a) (omega arith) in
+      rw e (none-run (suc a) n (λ x l k. h x (omega arith) (omega arith)))
+
+  pub filter-all : (a b : ℕ) → ((x : ℕ) → a ≤ x → x < b → f x ≡ true) → filter f (between a b) ≡ between a b
+  unfolding between
+  filter-all a b h = all-run a (b - a) (λ x l k. h x l (omega arith))
+
+  pub filter-none : (a b : ℕ) → ((x : ℕ) → a ≤ x → x < b → f x ≡ false) → filter f (between a b) ≡ []
+  unfolding between
+  filter-none a b h = none-run a (b - a) (λ x l k. h x l (omega arith))
+
+-- ---- a number that never falls, r, and the place where it next rises, cut
+pub record Rises (r cut : ℕ → ℕ) (B : ℕ) : Type 0 where
+  pub mono : (x y : ℕ) → x ≤ y → r x ≤ r y
+  pub above : (m : ℕ) → m < B → m < cut m
+  pub inside : (m : ℕ) → m < B → cut m ≤ B
+  pub flat : (m x : ℕ) → m ≤ x → x < cut m → r x ≡ r m
+  pub jump : (m : ℕ) → cut m < B → r m < r (cut m)
+
+module _ (r cut : ℕ → ℕ) (A B : ℕ) (R : Rises r cut B) where
+  -- m is the first of its run
+  abbrev Head : ℕ → Type 0
+  Head m = (m ≡ A) ⊎ (r (m - 1) < r m)
+
+  headTest : ℕ → Bool
+  headTest x = eqb x A || not (eqb (r (x - 1)) (r x))
+
+  -- the minutes of a run are an interval
+  run-between : (m : ℕ) → A ≤ m → m < B → Head m → filter (λ x. eqb (r m) (r x)) (between A B) ≡ between m (cut m)
+  run-between m h l q =
+      let u : m < cut m = R .above m l in let v : cut m ≤ B = R .inside m l in
+      ap (filter (λ x. eqb (r m) (r x))) (between-split A m B h (omega arith) ∙ ap (λ z. between A m ++ z) (between-split m (cut m) B (omega arith) v))
+      ∙ filter-append _ (between A m) (between m (cut m) ++ between (cut m) B)
+      ∙ ap₂ _++_ (filter-none _ A m (λ x i k. eq-false (r m) (r x) (λ e. before x i k q e)))
+      (filter-append _ (between m (cut m)) (between (cut m) B)
+      ∙ ap₂ _++_ (filter-all _ m (cut m) (λ x i k. eq-true (r m) (r x) (sym (R .flat m x i k))))
+      (filter-none _ (cut m) B (λ x i k. eq-false (r m) (r x) (λ e. omega (arith, R .jump m (omega arith), R .mono (cut m) x i)))))
+      ∙ end-nil (between m (cut m))
+    where
+      before : (x : ℕ) → A ≤ x → x < m → Head m → r m ≡ r x → ⊥
+      before x i k (inl e) d = omega arith
+      before x i k (inr j) d = omega (arith, R .mono x (m - 1) (omega arith))
+
+      end-nil : (xs : List ℕ) → xs ++ [] ≡ xs
+      end-nil [] = refl
+      end-nil (x ∷ xs) = ap (λ l. x ∷ l) (end-nil xs)
+
+  -- the first of the runs from m on: m, and then those from the cut on
+  heads-cons : (m : ℕ) → A ≤ m → m < B → Head m → filter headTest (between m B) ≡ m ∷ filter headTest (between (cut m) B)
+  unfolding headTest
+  heads-cons m h l q =
+      let u : m < cut m = R .above m l in let v : cut m ≤ B = R .inside m l in
+      ap (filter headTest) (between-cons m B l ∙ ap (λ z. m ∷ z) (between-split (suc m) (cut m) B u v))
+      ∙ filter-yes headTest m (between (suc m) (cut m) ++ between (cut m) B) (yes-head q)
+      ∙ ap (λ z. m ∷ z) (filter-append headTest (between (suc m) (cut m)) (between (cut m) B)
+      ∙ ap (λ z. z ++ filter headTest (between (cut m) B)) (filter-none headTest (suc m) (cut m) (λ x i k. no-head x i k)))
+    where
+      or-true : (b : Bool) → (b || true) ≡ true
+      or-true true = refl
+      or-true false = refl
+
+      yes-head : Head m → headTest m ≡ true
+      yes-head (inl e) = rw (eq-true m A e) refl
+      yes-head (inr j) = rw (eq-false (r (m - 1)) (r m) (λ e. omega arith)) (or-true (eqb m A))
+
+      no-head : (x : ℕ) → suc m ≤ x → x < cut m → headTest x ≡ false
+      no-head x i k = rw (eq-false x A (λ e. omega arith), eq-true (r (x - 1)) (r x) (R .flat m (x - 1) (omega arith) (omega arith) ∙ sym (R .flat m x (omega arith) k))) refl
+
+  head-next : (m : ℕ) → m < B → cut m < B → Head (cut m)
+  head-next m l k = inr (omega (arith, R .jump m k, R .flat m (cut m - 1) (omega (arith, R .above m l)) (omega (arith, R .above m l))))
+
+-- ---- stage and period as one number that never falls
+-- e the expiry, c the cease, f the end
+abbrev pub stageAt : ℕ → ℕ → ℕ → Stage
+stageAt e c m = cond (ltb m e) Up (cond (ltb m c) Steady Down)
+
+abbrev pub stageEnd : ℕ → ℕ → ℕ → ℕ → ℕ
+stageEnd e c f m = cond (ltb m e) e (cond (ltb m c) c f)
+
+-- the end of the segment that begins at m
+unfoldable pub cutOf : ℕ → ℕ → ℕ → ℕ → ℕ
+cutOf e c f m = min (stageEnd e c f m) (30 * (m / 30) + 30)
+
+abbrev pub stageIx : Stage → ℕ
+stageIx Up = 0
+stageIx Steady = 1
+stageIx Down = 2
+
+abbrev pub rank : ℕ → ℕ → ℕ → ℕ
+rank e c m = periodOf m + stageIx (stageAt e c m)
+
+-- the three stages of a minute
+pub split : (e c m : ℕ) (P : Bool → Bool → Type 0) → (m < e → (q : Bool) → P true q) → (e ≤ m → m < c → P false true) → (e ≤ m → c ≤ m → P false false) → P (ltb m e) (ltb m c)
+split e c m P up steady down = go (ltb m e) (ltb m c) refl refl
+  where
+    less : (a b : ℕ) → ltb a b ≡ true → a < b
+    less a b q = ltb→lt a b (subst (λ x. T x) (sym q) tt)
+
+    most : (a b : ℕ) → ltb a b ≡ false → b ≤ a
+    most a b q = nltb→le a b (subst (λ x. T (not x)) (sym q) tt)
+
+    go : (p q : Bool) → ltb m e ≡ p → ltb m c ≡ q → P p q
+    go true q a b = up (less m e a) q
+    go false true a b = steady (most m e a) (less m c b)
+    go false false a b = down (most m e a) (most m c b)
+
+abbrev ixOf : Bool → Bool → ℕ
+ixOf p q = stageIx (cond p Up (cond q Steady Down))
+
+ix-mono : (e c m n : ℕ) → m ≤ n → stageIx (stageAt e c m) ≤ stageIx (stageAt e c n)
+ix-mono e c m n h =
+    split e c m (λ p q. ixOf p q ≤ ixOf (ltb n e) (ltb n c)) (λ l q. zero-le)
+    (λ k l. split e c n (λ p q. 1 ≤ ixOf p q) (λ l q. absurd (omega arith)) (λ i j. le-refl 1) (λ i j. omega arith))
+    (λ k l. split e c n (λ p q. 2 ≤ ixOf p q) (λ l q. absurd (omega arith)) (λ i j. absurd (omega arith)) (λ i j. le-refl 2))
+
+ix-flat : (e c f m n : ℕ) → m ≤ n → n < stageEnd e c f m → stageIx (stageAt e c n) ≡ stageIx (stageAt e c m)
+ix-flat e c f m n h =
+    split e c m (λ p q. n < cond p e (cond q c f) → ixOf (ltb n e) (ltb n c) ≡ ixOf p q)
+    (λ l q k. split e c n (λ p q. ixOf p q ≡ 0) (λ i q. refl) (λ i j. absurd (omega arith)) (λ i j. absurd (omega arith)))
+    (λ a b k. split e c n (λ p q. ixOf p q ≡ 1) (λ i q. absurd (omega arith)) (λ i j. refl) (λ i j. absurd (omega arith)))
+    (λ a b k. split e c n (λ p q. ixOf p q ≡ 2) (λ i q. absurd (omega arith)) (λ i j. absurd (omega arith)) (λ i j. refl))
+
+ix-jump : (e c f m : ℕ) → e ≤ c → stageEnd e c f m < f → stageIx (stageAt e c m) < stageIx (stageAt e c (stageEnd e c f m))
+ix-jump e c f m o =
+    split e c m (λ p q. cond p e (cond q c f) < f → ixOf p q < ixOf (ltb (cond p e (cond q c f)) e) (ltb (cond p e (cond q c f)) c))
+    (λ l q k. split e c e (λ p q. 0 < ixOf p q) (λ i q. absurd (omega arith)) (λ i j. omega arith) (λ i j. omega arith))
+    (λ l i k. split e c c (λ p q. 1 < ixOf p q) (λ i q. absurd (omega arith)) (λ i j. absurd (omega arith)) (λ i j. omega arith))
+    (λ l i k. absurd (omega arith))
+
+pub rises : (e c f : ℕ) → e ≤ c → c ≤ f → Rises (rank e c) (cutOf e c f) f
+unfolding cutOf
+rises e c f o o′ =
+    record {
+      mono = λ x y h. omega (arith, ix-mono e c x y h);
+      above = λ m h. split e c m (λ p q. m < min (cond p e (cond q c f)) (30 * (m / 30) + 30)) (λ l q. omega arith) (λ k l. omega arith) (λ k l. omega arith);
+      inside = λ m h. split e c m (λ p q. min (cond p e (cond q c f)) (30 * (m / 30) + 30) ≤ f) (λ l q. omega arith) (λ k l. omega arith) (λ k l. omega arith);
+      flat = λ m x h k. let i : stageIx (stageAt e c x) ≡ stageIx (stageAt e c m) = ix-flat e c f m x h (omega arith) in omega arith;
+      jump = λ m h. go m h (decLe (stageEnd e c f m) (30 * (m / 30) + 30));
+    }
+  where
+    go : (m : ℕ) → min (stageEnd e c f m) (30 * (m / 30) + 30) < f → Dec (stageEnd e c f m ≤ 30 * (m / 30) + 30)
+        → rank e c m < rank e c (min (stageEnd e c f m) (30 * (m / 30) + 30))
+    go m h (yes l) =
+        let a : min (stageEnd e c f m) (30 * (m / 30) + 30) ≡ stageEnd e c f m = omega arith in
+        let b : m ≤ stageEnd e c f m = split e c m (λ p q. cond p e (cond q c f) < f → m ≤ cond p e (cond q c f)) (λ l q z. omega arith) (λ k l z. omega arith) (λ k l z. absurd (omega arith)) (omega arith) in
+        rw a (omega (arith, ix-jump e c f m o (omega arith)))
+    go m h (no d) =
+        let a : min (stageEnd e c f m) (30 * (m / 30) + 30) ≡ 30 * (m / 30) + 30 = omega (arith, d) in
+        rw a (omega (arith, ix-mono e c m (30 * (m / 30) + 30) (omega arith)))
+
+-- ---- the segments of an instruction are its cuts
+same-ix : (s t : Stage) → sameStage s t ≡ eqb (stageIx s) (stageIx t)
+same-ix Up Up = refl
+same-ix Up Steady = refl
+same-ix Up Down = refl
+same-ix Steady Up = refl
+same-ix Steady Steady = refl
+same-ix Steady Down = refl
+same-ix Down Up = refl
+same-ix Down Steady = refl
+same-ix Down Down = refl
+
+both-eq : (p q a b : ℕ) → ((p ≤ q) × (a ≤ b)) ⊎ ((q ≤ p) × (b ≤ a)) → (eqb p q && eqb a b) ≡ eqb (p + a) (q + b)
+both-eq p q a b h = go (ℕ-discrete p q) (ℕ-discrete a b)
+  where
+    apart : (p ≡ q → a ≡ b → ⊥) → p + a ≢ q + b
+    apart d e = ⊎-elim (λ w. d (omega (arith, w .0, w .1)) (omega (arith, w .0, w .1))) (λ w. d (omega (arith, w .0, w .1)) (omega (arith, w .0, w .1))) h
+
+    and-false : (x : Bool) → (x && false) ≡ false
+    and-false true = refl
+    and-false false = refl
+
+    go : Dec (p ≡ q) → Dec (a ≡ b) → (eqb p q && eqb a b) ≡ eqb (p + a) (q + b)
+    go (yes d) (yes e) = rw (eq-true p q d, eq-true a b e, eq-true (p + a) (q + b) (ap₂ _+_ d e)) refl
+    go (yes d) (no e) = rw (eq-false a b e, eq-false (p + a) (q + b) (apart (λ x y. e y))) (and-false (eqb p q))
+    go (no d) e = rw (eq-false p q d, eq-false (p + a) (q + b) (apart (λ x y. d x))) refl
+
+alike-rank : (k : Contract) (i : Instruction) (m n : ℕ) → alike k i m n ≡ eqb (rank (expiry k i) (i .cease .0) m) (rank (expiry k i) (i .cease .0) n)
+unfolding alike stageOf
+alike-rank k i m n =
+    ap (λ x. eqb (periodOf m) (periodOf n) && x) (same-ix (stageAt (expiry k i) (i .cease .0) m) (stageAt (expiry k i) (i .cease .0) n))
+    ∙ both-eq (periodOf m) (periodOf n) (stageIx (stageAt (expiry k i) (i .cease .0) m)) (stageIx (stageAt (expiry k i) (i .cease .0) n)) (go (decLe m n))
+  where
+    go : Dec (m ≤ n)
+        → ((periodOf m ≤ periodOf n) × (stageIx (stageAt (expiry k i) (i .cease .0) m) ≤ stageIx (stageAt (expiry k i) (i .cease .0) n)))
+        ⊎ ((periodOf n ≤ periodOf m) × (stageIx (stageAt (expiry k i) (i .cease .0) n) ≤ stageIx (stageAt (expiry k i) (i .cease .0) m)))
+    go (yes h) = inl (omega arith, ix-mono (expiry k i) (i .cease .0) m n h)
+    go (no d) = let h : n ≤ m = omega (arith, d) in inr (omega arith, ix-mono (expiry k i) (i .cease .0) n m h)
+
+module _ {A : Type 0} where
+  pub filter-ext : (f g : A → Bool) → ((x : A) → f x ≡ g x) → (xs : List A) → filter f xs ≡ filter g xs
+  unfolding filter
+  filter-ext f g h [] = refl
+  filter-ext f g h (x ∷ xs) = ap₂ (λ b l. elim b as (λ z. List A) [ true ↦ x ∷ l | false ↦ l ]) (h x) (filter-ext f g h xs)
+
+-- the segment from m of the instruction i, the n-th
+abbrev pub cut : Contract → Instruction → ℕ → ℕ
+cut k i m = cutOf (expiry k i) (i .cease .0) (endOf k i) m
+
+abbrev pub segmentAt : Contract → ℕ → Instruction → ℕ → Segment
+segmentAt k n i m = record { number = n; instruction = i; head = m; minutes = between m (cut k i m) }
+
+-- the segments from m on: at most u of them
+unfoldable pub cutsFrom : Contract → ℕ → Instruction → ℕ → ℕ → List Segment
+cutsFrom k n i zero m = []
+cutsFrom k n i (suc u) m = cond (ltb m (endOf k i)) (segmentAt k n i m ∷ cutsFrom k n i u (cut k i m)) []
+
+-- what the book ensures of an instruction's times
+pub record Timed (k : Contract) (i : Instruction) : Type 0 where
+  pub starts : rise k i ≤ expiry k i
+  pub steady : expiry k i ≤ i .cease .0
+
+module _ (k : Contract) (n : ℕ) (i : Instruction) (t : Timed k i) where
+  abbrev R : Rises (rank (expiry k i) (i .cease .0)) (cut k i) (endOf k i)
+  R = rises (expiry k i) (i .cease .0) (endOf k i) (t .steady) (omega arith)
+
+  abbrev r : ℕ → ℕ
+  r = rank (expiry k i) (i .cease .0)
+
+  abbrev Hd : ℕ → Type 0
+  Hd = Head r (cut k i) (rise k i) (endOf k i) R
+
+  abbrev seg : ℕ → Segment
+  seg m = record { number = n; instruction = i; head = m; minutes = filter (alike k i m) (active k i) }
+
+  seg-at : (m : ℕ) → rise k i ≤ m → m < endOf k i → Hd m → seg m ≡ segmentAt k n i m
+  unfolding active
+  seg-at m h l q = ap (λ (z : List ℕ). record { number = n; instruction = i; head = m; minutes = z })
+      (filter-ext (alike k i m) (λ x. eqb (r m) (r x)) (λ x. alike-rank k i m x) (between (rise k i) (endOf k i)) ∙ run-between r (cut k i) (rise k i) (endOf k i) R m h l q)
+
+  abbrev test : ℕ → Bool
+  test = headTest r (cut k i) (rise k i) (endOf k i) R
+
+  cuts-go : (u m : ℕ) → endOf k i ≤ m + u → rise k i ≤ m → (m < endOf k i → Hd m) → map seg (filter test (between m (endOf k i))) ≡ cutsFrom k n i u m
+  unfolding cutsFrom
+  cuts-go zero m h l q = ap (map seg) (filter-none test m (endOf k i) (λ x a b. absurd (omega arith)))
+  cuts-go (suc u) m h l q = go (ltb m (endOf k i)) refl (cuts-go u (cut k i m))
+    where
+      go : (b : Bool) → ltb m (endOf k i) ≡ b
+          → (endOf k i ≤ cut k i m + u → rise k i ≤ cut k i m → (cut k i m < endOf k i → Hd (cut k i m)) → map seg (filter test (between (cut k i m) (endOf k i))) ≡ cutsFrom k n i u (cut k i m))
+          → map seg (filter test (between m (endOf k i))) ≡ cond b (segmentAt k n i m ∷ cutsFrom k n i u (cut k i m)) []
+      go true e rest =
+          let a : m < endOf k i = ltb→lt m (endOf k i) (subst (λ x. T x) (sym e) tt) in
+          let b : m < cut k i m = R .above m a in
+          ap (map seg) (heads-cons r (cut k i) (rise k i) (endOf k i) R m l a (q a))
+          ∙ ap₂ _∷_ (seg-at m l a (q a)) (rest (omega arith) (omega arith) (λ z. head-next r (cut k i) (rise k i) (endOf k i) R m a z))
+      go false e rest = ap (map seg) (filter-none test m (endOf k i) (λ x a b. absurd (omega (arith, nltb→le m (endOf k i) (subst (λ x. T (not x)) (sym e) tt)))))
+
+  -- the segments of an instruction, one after the other
+  pub segments-cuts : segmentsOf k n i ≡ cutsFrom k n i (endOf k i - rise k i) (rise k i)
+  unfolding segmentsOf heads headTest active
+  segments-cuts =
+      ap (map seg) (filter-ext (λ m. eqb m (rise k i) || not (alike k i (m - 1) m)) test (λ x. ap (λ b. eqb x (rise k i) || not b) (alike-rank k i (x - 1) x)) (between (rise k i) (endOf k i)))
+      ∙ cuts-go (endOf k i - rise k i) (rise k i) (omega arith) (le-refl (rise k i)) (λ z. inl refl)
+
+-- the stage is the same throughout a segment
+pub stage-flat : (e c f m n : ℕ) → m ≤ n → n < cutOf e c f m → stageAt e c n ≡ stageAt e c m
+unfolding cutOf
+stage-flat e c f m n h k = ix-same (stageAt e c n) (stageAt e c m) (ix-flat e c f m n h (omega arith))
+  where
+    ix-same : (s t : Stage) → stageIx s ≡ stageIx t → s ≡ t
+    ix-same Up Up p = refl
+    ix-same Up Steady p = absurd (omega arith)
+    ix-same Up Down p = absurd (omega arith)
+    ix-same Steady Up p = absurd (omega arith)
+    ix-same Steady Steady p = refl
+    ix-same Steady Down p = absurd (omega arith)
+    ix-same Down Up p = absurd (omega arith)
+    ix-same Down Steady p = absurd (omega arith)
+    ix-same Down Down p = refl

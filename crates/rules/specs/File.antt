@@ -1,0 +1,180 @@
+-- "The unit file": the table of command bytes and operand widths, what reading at a position gives, what a command and a book are written as,
+-- and the commands that a file's bytes fix.
+use mathlib.Core.Bool.{Bool, true, false, cond}
+use mathlib.Core.List.{List, [], _∷_, _++_, map}
+use mathlib.Core.Option.{Option, none, some}
+use Prim.Native.Nat.{ℕ, zero, suc, _+_, _-_, _*_, _/_, _%_, _^_}
+use lib.IntN.{ℤ, pos, negsuc, natAbs}
+use lib.Dec.{eqb, leb, ltb}
+use lib.ListN.{length, getD, take, drop}
+use Rattle.energy.specs.Lists.{concatMap, between}
+use Rattle.rules.specs.Ledger.{Ledger, contractOf, spanOf}
+use Rattle.rules.specs.declared.entries.Command.{Command}
+use Rattle.rules.specs.declared.entries.Command.the-variants.{Contract as contractᶜ, Window as windowᶜ, Instruction as instructionᶜ, Default as defaultᶜ, Reading as readingᶜ, Close as closeᶜ}
+use Rattle.rules.specs.declared.file.Read.{Read}
+use Rattle.rules.specs.declared.file.Read.the-variants.{Got, Refused, End}
+
+-- a command byte and the widths of its operands
+pub record Layout : Type 0 where
+  pub byte : ℕ
+  pub widths : List ℕ
+
+-- a row of the table
+abbrev row : ℕ → List ℕ → Layout
+row b ws = record { byte = b; widths = ws }
+
+-- contract, window, instruction, default, reading, close
+unfoldable pub table : List Layout
+table =
+    row 0x43 (1 ∷ 1 ∷ 1 ∷ 4 ∷ 4 ∷ 4 ∷ 2 ∷ 2 ∷ 4 ∷ 4 ∷ 4 ∷ [])
+    ∷ row 0x57 (2 ∷ 2 ∷ 1 ∷ [])
+    ∷ row 0x49 (2 ∷ 2 ∷ [])
+    ∷ row 0x44 (2 ∷ 1 ∷ 1 ∷ [])
+    ∷ row 0x4D (2 ∷ 4 ∷ [])
+    ∷ row 0x5A []
+    ∷ []
+
+-- the operand widths of a command byte, if the table has it
+unfoldable pub widthsOf : ℕ → List Layout → Option (List ℕ)
+widthsOf b [] = none
+widthsOf b (r ∷ rs) = cond (eqb (r .byte) b) (some (r .widths)) (widthsOf b rs)
+
+-- the length of all operands
+unfoldable pub total : List ℕ → ℕ
+total [] = 0
+total (w ∷ ws) = w + total ws
+
+-- the number that bytes say after n, high byte first
+unfoldable pub wordFrom : ℕ → List ℕ → ℕ
+wordFrom n [] = n
+wordFrom n (b ∷ bs) = wordFrom (n * 256 + b) bs
+
+-- a number in w bytes, high byte first
+unfoldable pub bytesOf : ℕ → ℕ → List ℕ
+bytesOf zero n = []
+bytesOf (suc w) n = n / 256 ^ w % 256 ∷ bytesOf w n
+
+-- the signed number of 4 bytes, two's complement
+unfoldable pub signedOf : ℕ → ℤ
+signedOf n = cond (ltb n (2 ^ 31)) (pos n) (negsuc (2 ^ 32 - suc n))
+
+-- a signed number as 4 bytes say it
+abbrev pub unsignedOf : ℤ → ℕ
+unsignedOf (pos n) = n
+unsignedOf (negsuc n) = 2 ^ 32 - suc n
+
+-- the operands that bytes say, by their widths
+unfoldable pub operands : List ℕ → List ℕ → List ℕ
+operands [] s = []
+operands (w ∷ ws) s = wordFrom 0 (take w s) ∷ operands ws (drop w s)
+
+-- the command of a byte of the table, from its operands
+unfoldable pub commandOf : ℕ → List ℕ → Command
+commandOf b v =
+    cond (eqb b 0x43)
+    (contractᶜ
+    (record {
+      days = getD v 0 0;
+      kind = getD v 1 0;
+      service = getD v 2 0;
+      contracted = record { 0 = pos (getD v 3 0) };
+      rampup = getD v 4 0;
+      rampdown = getD v 5 0;
+      response = record { 0 = getD v 6 0 };
+      recovery = record { 0 = getD v 7 0 };
+      availability = getD v 8 0;
+      utilisation = getD v 9 0;
+      optional = getD v 10 0;
+    }))
+    (cond (eqb b 0x57)
+    (windowᶜ (record { start = record { 0 = getD v 0 0 }; end = record { 0 = getD v 1 0 }; verdict = getD v 2 0 }))
+    (cond (eqb b 0x49)
+    (instructionᶜ (record { issue = record { 0 = getD v 0 0 }; cease = record { 0 = getD v 1 0 } }))
+    (cond (eqb b 0x44)
+    (defaultᶜ (record { minute = record { 0 = getD v 0 0 }; kind = getD v 1 0; reach = getD v 2 0 }))
+    (cond (eqb b 0x4D)
+    (readingᶜ (record { minute = record { 0 = getD v 0 0 }; kw = record { 0 = signedOf (getD v 1 0) } }))
+    closeᶜ))))
+
+-- what stands at a position before the end, by the operand widths of its command byte: 1 where it has none, 2 where bytes are missing
+abbrev readBody : Option (List ℕ) → List ℕ → ℕ → Read
+readBody none s at = Refused 1
+readBody (some ws) s at =
+    cond (ltb (length s - at) (1 + total ws)) (Refused 2)
+    (Got (commandOf (getD s at 0) (operands ws (drop (at + 1) s))) (at + (1 + total ws)))
+
+-- what a reader finds at a position: a command and the position after it, 1, 2, or the end
+unfoldable pub readAt : List ℕ → ℕ → Read
+readAt s at = cond (leb (length s) at) End (readBody (widthsOf (getD s at 0) table) s at)
+
+-- ---- writing
+
+-- a command's byte
+abbrev pub byteOf : Command → ℕ
+byteOf (contractᶜ k) = 0x43
+byteOf (windowᶜ w) = 0x57
+byteOf (instructionᶜ i) = 0x49
+byteOf (defaultᶜ d) = 0x44
+byteOf (readingᶜ r) = 0x4D
+byteOf closeᶜ = 0x5A
+
+-- a command's operands, as numbers without a sign
+abbrev pub operandsOf : Command → List ℕ
+operandsOf (contractᶜ k) =
+    k .days ∷ k .kind ∷ k .service ∷ natAbs (k .contracted .0) ∷ k .rampup ∷ k .rampdown ∷ k .response .0 ∷ k .recovery .0 ∷ k .availability
+    ∷ k .utilisation
+    ∷ k .optional
+    ∷ []
+operandsOf (windowᶜ w) = w .start .0 ∷ w .end .0 ∷ w .verdict ∷ []
+operandsOf (instructionᶜ i) = i .issue .0 ∷ i .cease .0 ∷ []
+operandsOf (defaultᶜ d) = d .minute .0 ∷ d .kind ∷ d .reach ∷ []
+operandsOf (readingᶜ r) = r .minute .0 ∷ unsignedOf (r .kw .0) ∷ []
+operandsOf closeᶜ = []
+
+-- operands as bytes, by their widths
+unfoldable pub writeOperands : List ℕ → List ℕ → List ℕ
+writeOperands [] v = []
+writeOperands (w ∷ ws) [] = []
+writeOperands (w ∷ ws) (n ∷ v) = bytesOf w n ++ writeOperands ws v
+
+-- the widths, none for a byte that the table lacks
+abbrev widthsOr : Option (List ℕ) → List ℕ
+widthsOr none = []
+widthsOr (some ws) = ws
+
+-- a command's bytes
+unfoldable pub write : Command → List ℕ
+write c = byteOf c ∷ writeOperands (widthsOr (widthsOf (byteOf c) table)) (operandsOf c)
+
+-- the reading of minute m as a command, if there is one
+abbrev pub readingAt : Option ℤ → ℕ → List Command
+readingAt none m = []
+readingAt (some z) m = readingᶜ (record { minute = record { 0 = m }; kw = record { 0 = z } }) ∷ []
+
+-- the commands that a book is written as: contract, windows, instructions, defaults, readings by rising minute, close if closed
+unfoldable pub written : Ledger → List Command
+written g =
+    map contractᶜ (g .contracts) ++ map windowᶜ (g .windows) ++ map instructionᶜ (g .instructions) ++ map defaultᶜ (g .defaults)
+    ++ concatMap (λ m. readingAt (g .reading m) m) (between 0 (spanOf (contractOf g)))
+    ++ cond (g .closed) (closeᶜ ∷ []) []
+
+-- the bytes that a book is written as
+unfoldable pub fileOf : Ledger → List ℕ
+fileOf g = concatMap write (written g)
+
+-- ---- the commands of a file
+
+-- a command read, and those read after it; none at an end, 1 or 2
+abbrev pub readOn : (ℕ → List Command) → Read → List Command
+readOn go (Got c next) = c ∷ go next
+readOn go (Refused n) = []
+readOn go End = []
+
+-- each read where the last one stopped, at most so many of them
+unfoldable pub commandsFrom : ℕ → List ℕ → ℕ → List Command
+commandsFrom zero s at = []
+commandsFrom (suc fuel) s at = readOn (λ next. commandsFrom fuel s next) (readAt s at)
+
+-- the commands of a file: read from its first byte up to the first end, 1 or 2
+unfoldable pub commandsIn : List ℕ → List Command
+commandsIn s = commandsFrom (length s) s 0

@@ -1,0 +1,130 @@
+-- "The book" and "The lists of demand 3": what the commands taken give. Every condition and every sum reads contract, windows, instructions,
+-- defaults, close, span and the reading of a minute off a ledger.
+use mathlib.Core.Bool.{Bool, true, false, cond, _&&_}
+use mathlib.Core.List.{List, [], _∷_}
+use mathlib.Core.Option.{Option, none, some}
+use Prim.Native.Nat.{ℕ, _+_, _-_, _*_}
+use lib.IntN.{ℤ, pos, natAbs}
+use lib.Dec.{eqb, leb, ltb}
+use Rattle.energy.specs.Lists.{first, later, concatMap, any}
+use Rattle.energy.specs.Number.{ceiling}
+use Rattle.rules.specs.Command.{onContract, onWindow, onInstruction, onDefault, onReading, onClose, always}
+use Rattle.rules.specs.declared.contract.Contract.{Contract}
+use Rattle.rules.specs.declared.entries.Window.{Window}
+use Rattle.rules.specs.declared.entries.Instruction.{Instruction}
+use Rattle.rules.specs.declared.entries.Default.{Default}
+use Rattle.rules.specs.declared.entries.Reading.{Reading}
+use Rattle.rules.specs.declared.entries.Command.{Command}
+
+-- what has been entered. There is at most one contract
+pub record Ledger : Type 0 where
+  pub contracts : List Contract
+  pub windows : List Window
+  pub instructions : List Instruction
+  pub defaults : List Default
+  pub closed : Bool
+  pub reading : ℕ → Option ℤ
+
+-- ---- read off the commands taken
+
+-- the contract that a command brings
+abbrev pub contractIn : Command → List Contract
+contractIn c = onContract (λ k. k ∷ []) (always []) c
+
+-- the window that a command brings
+abbrev pub windowIn : Command → List Window
+windowIn c = onWindow (λ w. w ∷ []) (always []) c
+
+-- the instruction that a command brings
+abbrev pub instructionIn : Command → List Instruction
+instructionIn c = onInstruction (λ i. i ∷ []) (always []) c
+
+-- the default that a command brings
+abbrev pub defaultIn : Command → List Default
+defaultIn c = onDefault (λ d. d ∷ []) (always []) c
+
+-- the kW that a command gives minute m
+abbrev pub readingIn : Command → ℕ → Option ℤ
+readingIn c m = onReading (λ r. cond (eqb (r .minute .0) m) (some (r .kw .0)) none) (always none) c
+
+-- a command is a close
+abbrev pub isClose : Command → Bool
+isClose c = onClose true (always false) c
+
+-- a command is a contract
+abbrev pub isContract : Command → Bool
+isContract c = onContract (λ k. true) (always false) c
+
+-- the reading of minute m: the kW of the last command that gives it one
+unfoldable pub readingOf : List Command → ℕ → Option ℤ
+readingOf [] m = none
+readingOf (c ∷ t) m = later (readingIn c m) (readingOf t m)
+
+-- the ledger of the commands taken
+unfoldable pub ledgerOf : List Command → Ledger
+ledgerOf t =
+    record {
+      contracts = concatMap contractIn t;
+      windows = concatMap windowIn t;
+      instructions = concatMap instructionIn t;
+      defaults = concatMap defaultIn t;
+      closed = any isClose t;
+      reading = readingOf t;
+    }
+
+-- ---- the contract and its figures
+
+-- in place of a contract that is not there: zeros, so that the span is 0
+abbrev pub noContract : Contract
+noContract =
+    record {
+      days = 0;
+      kind = 0;
+      service = 0;
+      contracted = record { 0 = pos 0 };
+      rampup = 0;
+      rampdown = 0;
+      response = record { 0 = 0 };
+      recovery = record { 0 = 0 };
+      availability = 0;
+      utilisation = 0;
+      optional = 0;
+    }
+
+-- the contract of a ledger
+unfoldable pub contractOf : Ledger → Contract
+contractOf g = first noContract (g .contracts)
+
+-- the minutes of the month
+abbrev pub spanOf : Contract → ℕ
+spanOf k = 1440 * k .days
+
+-- contracted kW
+abbrev pub kwOf : Contract → ℕ
+kwOf k = natAbs (k .contracted .0)
+
+-- ramp up minutes U
+unfoldable pub upMinutes : Contract → ℕ
+upMinutes k = ceiling (kwOf k) (k .rampup)
+
+-- ramp down minutes V
+unfoldable pub downMinutes : Contract → ℕ
+downMinutes k = ceiling (kwOf k) (k .rampdown)
+
+-- ---- the times of an instruction, and a window's minutes
+
+-- e: the response expires
+abbrev pub expiry : Contract → Instruction → ℕ
+expiry k i = i .issue .0 + k .response .0
+
+-- e − U: the ramp up starts
+abbrev pub rise : Contract → Instruction → ℕ
+rise k i = expiry k i - upMinutes k
+
+-- f: the end
+abbrev pub endOf : Contract → Instruction → ℕ
+endOf k i = i .cease .0 + downMinutes k
+
+-- minute m is in window w
+abbrev pub within : Window → ℕ → Bool
+within w m = leb (w .start .0) m && ltb m (w .end .0)

@@ -1,0 +1,180 @@
+-- "When a command or call is turned down": each condition that a command meets, under its number, and what is taken of a list.
+use mathlib.Core.Bool.{Bool, true, false, not, _&&_, _||_}
+use mathlib.Core.List.{List, [], _∷_, _++_}
+use mathlib.Core.Option.{Option, none, some}
+use Prim.Native.Nat.{ℕ, _+_, _%_}
+use lib.IntN.{ℤ, pos, negsuc}
+use lib.Signed.{leZ}
+use lib.Dec.{eqb, leb, ltb}
+use lib.ListN.{length}
+use Rattle.energy.specs.Lists.{any, last, isEmpty, isSome}
+use Rattle.rules.specs.Command.{onContract, onWindow, onInstruction, onDefault, onReading, always}
+use Rattle.rules.specs.Ledger.{Ledger, ledgerOf, contractOf, isContract, spanOf, upMinutes, downMinutes, expiry, endOf, within}
+use Rattle.rules.specs.declared.contract.Contract.{Contract}
+use Rattle.rules.specs.declared.entries.Instruction.{Instruction}
+use Rattle.rules.specs.declared.entries.Command.{Command}
+use Rattle.rules.specs.declared.answer.Answer.{Answer}
+use Rattle.rules.specs.declared.answer.Answer.the-variants.{Taken, Refused}
+
+-- ---- from the input
+
+-- n is from a to b
+abbrev pub from-to : ℕ → ℕ → ℕ → Bool
+from-to a b n = leb a n && leb n b
+
+-- the same of a signed number
+abbrev pub from-toℤ : ℤ → ℤ → ℤ → Bool
+from-toℤ a b n = leZ a n && leZ n b
+
+-- a reading: from −500,000 to 500,000 kW. A cell of meter memory that is none counts as no reading
+abbrev pub isReading : ℤ → Bool
+isReading z = from-toℤ (negsuc 499999) (pos 500000) z
+
+-- 3: every operand is in its range or one of its values
+abbrev pub inRange : Command → Bool
+inRange c =
+    onContract
+    (λ k. from-to 1 31 (k .days) && from-to 0 1 (k .kind) && from-to 0 1 (k .service) && from-toℤ (pos 3000) (pos 500000) (k .contracted .0)
+    && from-to 1 500000 (k .rampup)
+    && from-to 1 500000 (k .rampdown)
+    && from-to 1 240 (k .response .0)
+    && from-to 0 1200 (k .recovery .0)
+    && from-to 0 1000000 (k .availability)
+    && from-to 0 1000000 (k .utilisation)
+    && from-to 0 1000000 (k .optional))
+    (onWindow (λ w. from-to 0 44640 (w .start .0) && from-to 0 44640 (w .end .0) && from-to 0 1 (w .verdict))
+    (onInstruction (λ i. from-to 3 44640 (i .issue .0) && from-to 0 44640 (i .cease .0))
+    (onDefault (λ d. from-to 0 44640 (d .minute .0) && from-to 1 4 (d .kind) && from-to 1 3 (d .reach))
+    (onReading (λ r. from-to 0 44640 (r .minute .0) && isReading (r .kw .0))
+    (always true)))))
+    c
+
+-- 4: ramp up minutes above the response, or ramp down minutes above 240
+abbrev pub rampTooLong : Command → Bool
+rampTooLong c = onContract (λ k. ltb (k .response .0) (upMinutes k) || ltb 240 (downMinutes k)) (always false) c
+
+-- 5: window start not below its end, or either not a multiple of 30
+abbrev pub badWindow : Command → Bool
+badWindow c =
+    onWindow (λ w. leb (w .end .0) (w .start .0) || not (eqb (w .start .0 % 30) 0) || not (eqb (w .end .0 % 30) 0)) (always false) c
+
+-- ---- from the state
+
+-- 15: the span that meter memory must hold: a contract's own, or the book's
+abbrev pub spanFor : Ledger → Command → ℕ
+spanFor g c = onContract spanOf (always (spanOf (contractOf g))) c
+
+-- 16: window end or instruction end above the span, or default or reading minute not below it
+abbrev pub beyondSpan : Ledger → Command → Bool
+beyondSpan g c =
+    onWindow (λ w. ltb (spanOf (contractOf g)) (w .end .0))
+    (onInstruction (λ i. ltb (spanOf (contractOf g)) (endOf (contractOf g) i))
+    (onDefault (λ d. leb (spanOf (contractOf g)) (d .minute .0))
+    (onReading (λ r. leb (spanOf (contractOf g)) (r .minute .0))
+    (always false))))
+    c
+
+-- 17: rejected window under a committed contract
+abbrev pub rejectedCommitted : Ledger → Command → Bool
+rejectedCommitted g c = onWindow (λ w. eqb (contractOf g .service) 0 && eqb (w .verdict) 1) (always false) c
+
+-- the last window's end; 0 where there is none, which no start is before
+abbrev pub windowsEnd : Ledger → ℕ
+windowsEnd g = last (record { start = record { 0 = 0 }; end = record { 0 = 0 }; verdict = 0 }) (g .windows) .end .0
+
+-- 18: window starting before the last one's end
+abbrev pub windowOverlaps : Ledger → Command → Bool
+windowOverlaps g c = onWindow (λ w. ltb (w .start .0) (windowsEnd g)) (always false) c
+
+-- 19: cease before the response expires
+abbrev pub ceaseEarly : Ledger → Command → Bool
+ceaseEarly g c = onInstruction (λ i. ltb (i .cease .0) (expiry (contractOf g) i)) (always false) c
+
+-- the last instruction's end plus recovery; 0 where there is none, which no issue is before
+abbrev pub recovered : Contract → List Instruction → ℕ
+recovered k [] = 0
+recovered k (i ∷ is) = endOf k (last i is) + k .recovery .0
+
+-- 20: issue before the last instruction's end plus recovery
+abbrev pub issueEarly : Ledger → Command → Bool
+issueEarly g c = onInstruction (λ i. ltb (i .issue .0) (recovered (contractOf g) (g .instructions))) (always false) c
+
+-- 21: default minute in no window entered
+abbrev pub outsideWindows : Ledger → Command → Bool
+outsideWindows g c = onDefault (λ d. not (any (λ w. within w (d .minute .0)) (g .windows))) (always false) c
+
+-- 22: minute already has a reading
+abbrev pub hasReading : Ledger → Command → Bool
+hasReading g c = onReading (λ r. isSome (g .reading (r .minute .0))) (always false) c
+
+-- 23: the command's table is full
+abbrev pub tableFull : Ledger → Command → Bool
+tableFull g c =
+    onWindow (λ w. leb 128 (length (g .windows)))
+    (onInstruction (λ i. leb 64 (length (g .instructions)))
+    (onDefault (λ d. leb 128 (length (g .defaults)))
+    (always false)))
+    c
+
+-- ---- the lowest number that applies
+
+-- a refusal's number, and whether its condition holds
+pub record Condition : Type 0 where
+  pub number : ℕ
+  pub holds : Bool
+
+-- n is the number where b holds
+abbrev pub _when_ : ℕ → Bool → Condition
+n when b = record { number = n; holds = b }
+
+infix 20 _when_
+-- what a command meets. unleft: no list of commands leaves the book, which is never so of a book that one left; size: the length of meter memory
+unfoldable pub conditions : Bool → ℕ → Ledger → Command → List Condition
+conditions unleft size g c =
+    (3 when not (inRange c))
+    ∷ (4 when rampTooLong c)
+    ∷ (5 when badWindow c)
+    ∷ (11 when unleft)
+    ∷ (12 when g .closed)
+    ∷ (13 when isEmpty (g .contracts) && not (isContract c))
+    ∷ (14 when not (isEmpty (g .contracts)) && isContract c)
+    ∷ (15 when ltb size (spanFor g c))
+    ∷ (16 when beyondSpan g c)
+    ∷ (17 when rejectedCommitted g c)
+    ∷ (18 when windowOverlaps g c)
+    ∷ (19 when ceaseEarly g c)
+    ∷ (20 when issueEarly g c)
+    ∷ (21 when outsideWindows g c)
+    ∷ (22 when hasReading g c)
+    ∷ (23 when tableFull g c)
+    ∷ []
+
+-- the lowest number whose condition holds
+unfoldable pub lowest : List Condition → Option ℕ
+lowest [] = none
+lowest (c ∷ cs) = elim (c .holds) [ true ↦ some (c .number) | false ↦ lowest cs ]
+
+-- the number under which a command is turned down, if it is
+unfoldable pub refusal : Bool → ℕ → Ledger → Command → Option ℕ
+refusal unleft size g c = lowest (conditions unleft size g c)
+
+-- the answer for a number: taken where there is none
+abbrev pub answerOf : Option ℕ → Answer
+answerOf none = Taken
+answerOf (some n) = Refused n
+
+-- ---- what is taken
+
+-- a command for which no condition holds joins the commands taken, as the last; a refused one leaves them alone
+abbrev pub joined : Option ℕ → List Command → Command → List Command
+joined none t c = t ++ (c ∷ [])
+joined (some n) t c = t
+
+-- what is taken after the commands t, of a list that follows them
+unfoldable pub takenAfter : ℕ → List Command → List Command → List Command
+takenAfter size t [] = t
+takenAfter size t (c ∷ cs) = takenAfter size (joined (refusal false size (ledgerOf t) c) t c) cs
+
+-- what is taken of a list from the empty book
+unfoldable pub taken : ℕ → List Command → List Command
+taken size cs = takenAfter size [] cs
