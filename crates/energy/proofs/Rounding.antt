@@ -2,12 +2,11 @@
 use mathlib.Core.Path.{_≡_, refl, sym, _∙_, ap, subst}
 use mathlib.Core.Logic.{_⊎_, ⊎-elim}
 use Prim.Native.Nat.{ℕ, zero, suc, _+_, _*_, _-_, _/_, _%_, _≤_, _<_}
-use native.Mathlib.Nat.{mul-add, mul-comm, div-add-mod', mod-lt, div-eq-of-lt-le, mul-le-mul-left, le-of-lt, le-of-eq}
+use native.Mathlib.Nat.{mul-add, mul-comm, suc-mul, div-add-mod', div-lt-iff-lt-mul, mod-lt, div-eq-of-lt-le, mul-le-mul-left, le-of-lt, le-of-eq}
 use native.Mathlib.Omega.{arith}
 use lib.IntN.{ℤ, pos, negsuc, negℤ, natAbs, _+ℤ_, _-ℤ_, _*ℤ_}
 use lib.Signed.{mag, shrZ, _≤ℤ_, _<ℤ_}
-use Rattle.energy.specs.Number.{nearest}
-use Rattle.energy.specs.Number.{up, down}
+use Rattle.energy.specs.Number.{ceiling, nearest, up, down}
 use Rattle.energy.proofs.Integers.{exact, abs-parts, abs-le, order, from-parts, <-apart, add-parts, diff-parts, mul-parts, arithℤ}
 
 -- ---- the floor of z / m: its bounds, and the only number within them
@@ -59,3 +58,21 @@ raised-nearest n h K p b =
     let e : 2 * h * (up r + K) ≡ 2 * h * (q + down r) = ap (λ z. 2 * h * z) (omega (arith, diff-parts (pos q) (pos K))) in
     let d>0 : 0 < 2 * h = omega arith in
     nearest-by n (2 * h) r (omega (arith, e, mul-add (2 * h) (up r) K, mul-add (2 * h) q (down r), div-add-mod' a (2 * h), mul-comm q (2 * h), mod-lt a d>0))
+
+-- the same of a signed number raised in the code: what it is raised to has a magnitude, and its quotient is the nearest raised by K
+pub record Raised (n : ℤ) (h K : ℕ) : Type 0 where
+  pub low : down (n +ℤ pos (2 * h * K + h)) ≡ 0
+  pub size : natAbs (n +ℤ pos (2 * h * K + h)) + down n ≡ up n + (2 * h * K + h)
+  pub quotient : pos (natAbs (n +ℤ pos (2 * h * K + h)) / (2 * h)) -ℤ pos K ≡ nearest n (2 * h)
+
+pub raised : (n : ℤ) (h K : ℕ) → 0 < h → down n ≤ 2 * h * K → Raised n h K
+raised n h K p b =
+    let z : ℤ = n +ℤ pos (2 * h * K + h) in
+    let e = exact (add-parts n (pos (2 * h * K + h))) in
+    let value : natAbs z ≡ up n + (2 * h * K + h) - down n = omega (arith, abs-parts z) in
+    record { low = omega arith; size = omega arith; quotient = rw value (raised-nearest n h K p b) }
+
+-- ---- taken up to a whole number, a quotient is at most what is divided
+pub ceiling-most : (n d : ℕ) → 0 < d → ceiling n d ≤ n
+unfolding ceiling
+ceiling-most n d h = omega (arith, div-lt-iff-lt-mul {k = d} {x = n + (d - 1)} {y = suc n} h .1 (omega (arith, suc-mul n d, mul-le-mul-left n h)))

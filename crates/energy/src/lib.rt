@@ -1,2 +1,5 @@
 // Energy and money: the four kinds of number, rounding, energy and pence. Everything else builds on these promises.
+pub mod money;
+pub mod quarters;
+pub mod ramp;
 pub mod units;

@@ -1,0 +1,69 @@
+-- `energy::quarters::total` meets its contract. The sum so far is the sum over the minutes passed. Assumes nothing.
+use mathlib.Core.Path.{_≡_, refl, sym, _∙_, ap}
+use Prim.Native.Nat.{ℕ, _+_, _-_, _*_, _≤_}
+use native.Mathlib.Omega.{arith}
+use lib.IntN.{ℤ, pos, _+ℤ_}
+use lib.ListN.{getD}
+use borrow.Author.Needs.{needs}
+use mir.Syntax.{w32}
+use mir.Val.{SFits, toZ, ofZ}
+use mir.Facts.{toZ-ofZ}
+use Rattle.energy.specs.Lists.{sum as sumOf, between}
+use Rattle.energy.proofs.Integers.{fits-parts}
+use Rattle.energy.proofs.Sums.{sum-snoc, sum-none, sum-within}
+use Rattle.energy.specs.Energy.{cell}
+use Rattle.energy.proofs.quarters.total.Statement.{statement}
+use Rattle.energy.proofs.quarters.total.Tie as tie
+
+abbrev Inv-loop : tie.InvT-loop
+Inv-loop meter from to sum₀ i₀ sum i = (from ≤ i) × (i ≤ to) × (sum ≡ ofZ w32 (sumOf (cell meter) (between from i)))
+
+abbrev μ-loop : tie.MeasureT-loop
+μ-loop meter from to sum₀ i₀ sum i = to - i
+
+abbrev Loop : Type 0
+Loop = tie.At-loop Inv-loop μ-loop
+
+abbrev part : Loop → ℕ → ℤ
+part c i = sumOf (cell (c .before .args .meter .now)) (between (c .before .args .from) i)
+
+part-fits : (c : Loop) (i : ℕ) → i ≤ c .before .args .to → SFits w32 (part c i)
+part-fits c i h = fits-parts w32 (part c i) (omega (arith, sum-within (cell (c .before .args .meter .now)) 500000 (c .before .args .from) i (λ m a b. c .before .pre .read m a (omega arith))))
+
+so-far : (c : Loop) → toZ w32 (c .loop .sum) ≡ part c (c .loop .i)
+so-far c = let f = part-fits c (c .loop .i) (omega arith) in rw (c .loop .inv .2) (simp toZ-ofZ refl)
+
+loop-holds : tie.Need-loop-holds Inv-loop μ-loop
+loop-holds c = (omega arith, omega arith, rw (sum-none (cell (c .args .meter .now)) (c .args .from)) refl)
+
+mul-x : tie.Need-mul-x Inv-loop μ-loop
+mul-x c = search needs
+
+shared-slice-copy-out-x : tie.Need-shared-slice-copy-out-x Inv-loop μ-loop
+shared-slice-copy-out-x c = search needs
+
+-- after a turn, the sum over one minute more
+turn : (c : tie.After-x Inv-loop μ-loop) → toZ w32 (c .before .before .loop .sum) +ℤ toZ w32 (ofZ w32 (cell (c .before .before .before .args .meter .now) (c .before .before .loop .i))) ≡ part (c .before .before) (c .before .before .loop .i + 1)
+turn c =
+    let l = c .before .before in
+    let x : SFits w32 (getD (l .before .args .meter .now) (l .loop .i) (pos 0)) = record { sfits = c .x .given } in
+    simp toZ-ofZ (ap (λ z. z +ℤ cell (l .before .args .meter .now) (l .loop .i)) (so-far l)) ∙ sym (sum-snoc (cell (l .before .args .meter .now)) (l .before .args .from) (l .loop .i) (l .loop .inv .0))
+
+add-sum : tie.Need-add-sum Inv-loop μ-loop
+add-sum c = rw (turn c) (part-fits (c .before .before) (c .before .before .loop .i + 1) (omega arith))
+
+add-i : tie.Need-add-i Inv-loop μ-loop
+add-i c = search needs
+
+loop-less : tie.Need-loop-less Inv-loop μ-loop
+loop-less c = search needs
+
+loop-again : tie.Need-loop-again Inv-loop μ-loop
+loop-again c = (omega arith, omega arith, rw (turn c) refl)
+
+returns : tie.Need-returns Inv-loop μ-loop
+returns c = let e : c .before .loop .i ≡ c .before .before .args .to = omega arith in so-far (c .before) ∙ rw e refl
+
+pub total-spec : {M : Type 1} → statement M
+total-spec =
+    tie.close (tie.spec Inv-loop μ-loop loop-holds mul-x shared-slice-copy-out-x add-sum add-i loop-less loop-again returns)

@@ -1,0 +1,38 @@
+-- `energy::ramp::ramp_minutes` meets its contract. The sum fits 64 bits, and the quotient is at most kw + 1. Assumes nothing.
+use mathlib.Core.Path.{_≡_, refl, sym}
+use Prim.Native.Nat.{_+_, _-_, _/_}
+use native.Mathlib.Nat.{div-zero}
+use native.Mathlib.Omega.{arith}
+use borrow.Author.Needs.{needs}
+use Rattle.energy.specs.Number.{ceiling}
+use Rattle.energy.proofs.Rounding.{ceiling-most}
+use Rattle.energy.proofs.ramp.ramp_minutes.Statement.{statement}
+use Rattle.energy.proofs.ramp.ramp_minutes.Tie as tie
+
+returns : tie.Need-returns
+unfolding ceiling
+returns c = let e : c .before .args .ramp ≡ 0 = omega arith in rw e (sym (div-zero (c .before .args .kw + (0 - 1))))
+
+sub-raised : tie.Need-sub-raised
+sub-raised c = search needs
+
+cast-raised : tie.Need-cast-raised
+cast-raised c = search needs
+
+add-raised : tie.Need-add-raised
+add-raised c = search needs
+
+div-result : tie.Need-div-result
+div-result c = search needs
+
+cast-result : tie.Need-cast-result
+unfolding ceiling
+cast-result c = omega (arith, ceiling-most (c .before .args .kw) (c .before .args .ramp) (omega arith))
+
+returns-2 : tie.Need-returns-2
+unfolding ceiling
+returns-2 c = refl
+
+pub ramp-minutes-spec : {M : Type 1} → statement M
+ramp-minutes-spec =
+    tie.close (tie.spec returns sub-raised cast-raised add-raised div-result cast-result returns-2)
