@@ -1,2 +1,5 @@
 pub mod Cuts
 pub mod Count
+pub mod Input
+pub mod Chain
+pub mod Terms

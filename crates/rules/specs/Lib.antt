@@ -1,6 +1,7 @@
 pub mod Command
 pub mod Ledger
 pub mod Refusal
+pub mod Input
 pub mod Reached
 pub mod Segment
 pub mod Statement
