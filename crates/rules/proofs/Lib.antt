@@ -1,2 +1,4 @@
 pub mod Cuts
 pub mod Count
+pub mod Opened
+pub mod Figures
