@@ -12,7 +12,7 @@ use borrow.Author.Tests.{le-leb, lt-leb}
 use mathlib.Core.Bool.{_&&_, and-false}
 use Rattle.rules.specs.Ledger.{Ledger}
 use Rattle.rules.specs.Refusal.{from-to, inRange, rampTooLong, badWindow, Condition, _when_, conditions, lowest, refusal}
-use Rattle.rules.specs.Input.{inputConditions, inputRefusal, orZero, offerFor, offerOf}
+use Rattle.rules.specs.Input.{inputRefusal, orZero, offerFor, offerOf}
 use Rattle.rules.specs.declared.contract.Contract.{Contract}
 use Rattle.rules.specs.declared.contract.Offer.the-variants.{Agreed, Refused}
 use Rattle.rules.specs.declared.entries.Command.{Command}
@@ -20,7 +20,7 @@ use Rattle.rules.specs.declared.entries.Command.the-variants.{Contract a
 
 -- the number, test by test
 pub input-cond : (c : Command) → inputRefusal c ≡ cond (not (inRange c)) 3 (cond (rampTooLong c) 4 (cond (badWindow c) 5 0))
-unfolding inputRefusal inputConditions lowest
+unfolding inputRefusal lowest
 input-cond c = go (not (inRange c)) (rampTooLong c) (badWindow c)
   where
     go : (p q r : Bool) → orZero (lowest ((3 when p) ∷ (4 when q) ∷ (5 when r) ∷ [])) ≡ cond p 3 (cond q 4 (cond r 5 0))
@@ -47,7 +47,7 @@ input-in c e = sym (input-cond c ∙ ap (λ b. cond (not b) 3 (cond (rampTooLong
 
 -- the offer, by the number
 pub offer-agreed : (k : Contract) → inputRefusal (contractᶜ k) ≡ 0 → Agreed k ≡ offerOf k
-unfolding inputRefusal inputConditions lowest offerOf
+unfolding inputRefusal lowest offerOf
 offer-agreed k = go (not (inRange (contractᶜ k))) (rampTooLong (contractᶜ k))
   where
     go : (p q : Bool) → orZero (lowest ((3 when p) ∷ (4 when q) ∷ (5 when false) ∷ [])) ≡ 0 → Agreed k ≡ offerFor k (lowest ((3 when p) ∷ (4 when q) ∷ (5 when false) ∷ []))
@@ -56,7 +56,7 @@ offer-agreed k = go (not (inRange (contractᶜ k))) (rampTooLong (contractᶜ k)
     go false false e = refl
 
 pub offer-refused : (k : Contract) → inputRefusal (contractᶜ k) ≢ 0 → Refused (inputRefusal (contractᶜ k)) ≡ offerOf k
-unfolding inputRefusal inputConditions lowest offerOf
+unfolding inputRefusal lowest offerOf
 offer-refused k = go (not (inRange (contractᶜ k))) (rampTooLong (contractᶜ k))
   where
     go : (p q : Bool) → orZero (lowest ((3 when p) ∷ (4 when q) ∷ (5 when false) ∷ [])) ≢ 0 → Refused (orZero (lowest ((3 when p) ∷ (4 when q) ∷ (5 when false) ∷ []))) ≡ offerFor k (lowest ((3 when p) ∷ (4 when q) ∷ (5 when false) ∷ []))
@@ -66,7 +66,7 @@ offer-refused k = go (not (inRange (contractᶜ k))) (rampTooLong (contractᶜ k
 
 -- a number from the input is the command's refusal, whatever the ledger
 pub input-refuses : (unleft : Bool) (size : ℕ) (g : Ledger) (c : Command) → inputRefusal c ≢ 0 → refusal unleft size g c ≡ some (inputRefusal c)
-unfolding inputRefusal inputConditions refusal conditions lowest
+unfolding inputRefusal refusal conditions lowest
 input-refuses unleft size g c = go (not (inRange c)) (rampTooLong c) (badWindow c) (drop 3 (conditions unleft size g c))
   where
     go : (p q r : Bool) (rest : List Condition) → orZero (lowest ((3 when p) ∷ (4 when q) ∷ (5 when r) ∷ [])) ≢ 0
@@ -79,7 +79,7 @@ input-refuses unleft size g c = go (not (inRange c)) (rampTooLong c) (badWindow 
 -- without one, the conditions on the state decide
 pub input-passes : (unleft : Bool) (size : ℕ) (g : Ledger) (c : Command) → inputRefusal c ≡ 0
     → refusal unleft size g c ≡ lowest (drop 3 (conditions unleft size g c))
-unfolding inputRefusal inputConditions refusal conditions lowest
+unfolding inputRefusal refusal conditions lowest
 input-passes unleft size g c = go (not (inRange c)) (rampTooLong c) (badWindow c) (drop 3 (conditions unleft size g c))
   where
     go : (p q r : Bool) (rest : List Condition) → orZero (lowest ((3 when p) ∷ (4 when q) ∷ (5 when r) ∷ [])) ≡ 0

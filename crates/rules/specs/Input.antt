@@ -1,22 +1,12 @@
 -- "From the input": what a command's own fields are turned down for, and what comes of a contract's operands.
-use mathlib.Core.Bool.{not}
-use mathlib.Core.List.{List, [], _∷_}
 use mathlib.Core.Option.{Option, none, some}
 use Prim.Native.Nat.{ℕ}
-use Rattle.rules.specs.Refusal.{inRange, rampTooLong, badWindow, Condition, _when_, lowest}
+use Rattle.rules.specs.Refusal.{inputConditions, lowest}
 use Rattle.rules.specs.declared.contract.Contract.{Contract}
 use Rattle.rules.specs.declared.contract.Offer.{Offer}
 use Rattle.rules.specs.declared.contract.Offer.the-variants.{Agreed, Refused}
 use Rattle.rules.specs.declared.entries.Command.{Command}
 use Rattle.rules.specs.declared.entries.Command.the-variants.{Contract as contractᶜ}
-
--- what a command meets whatever the book: the first three of `conditions`
-unfoldable pub inputConditions : Command → List Condition
-inputConditions c =
-    (3 when not (inRange c))
-    ∷ (4 when rampTooLong c)
-    ∷ (5 when badWindow c)
-    ∷ []
 
 -- a number, 0 where there is none
 abbrev pub orZero : Option ℕ → ℕ

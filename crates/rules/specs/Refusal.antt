@@ -128,13 +128,19 @@ abbrev pub _when_ : ℕ → Bool → Condition
 n when b = record { number = n; holds = b }
 
 infix 20 _when_
--- what a command meets. unleft: no list of commands leaves the book, which is never so of a book that one left; size: the length of meter memory
-unfoldable pub conditions : Bool → ℕ → Ledger → Command → List Condition
-conditions unleft size g c =
+-- what a command meets whatever the book
+abbrev pub inputConditions : Command → List Condition
+inputConditions c =
     (3 when not (inRange c))
     ∷ (4 when rampTooLong c)
     ∷ (5 when badWindow c)
-    ∷ (11 when unleft)
+    ∷ []
+
+-- what a command meets. unleft: no list of commands leaves the book, which is never so of a book that one left; size: the length of meter memory
+unfoldable pub conditions : Bool → ℕ → Ledger → Command → List Condition
+conditions unleft size g c =
+    inputConditions c
+    ++ (11 when unleft)
     ∷ (12 when g .closed)
     ∷ (13 when isEmpty (g .contracts) && not (isContract c))
     ∷ (14 when not (isEmpty (g .contracts)) && isContract c)
