@@ -1,13 +1,15 @@
 -- Rounding a signed quotient to the nearest whole number, a half to the larger: what bounds it.
 use mathlib.Core.Path.{_≡_, refl, sym, _∙_, ap, subst}
-use mathlib.Core.Logic.{_⊎_, ⊎-elim}
+use mathlib.Core.Logic.{_⊎_, inl, inr, ⊎-elim}
+use mathlib.Core.Bool.{Bool, true, false, cond}
 use Prim.Native.Nat.{ℕ, zero, suc, _+_, _*_, _-_, _/_, _%_, _≤_, _<_}
-use native.Mathlib.Nat.{mul-add, mul-comm, suc-mul, div-add-mod', div-lt-iff-lt-mul, mod-lt, div-eq-of-lt-le, mul-le-mul-left, le-of-lt, le-of-eq}
+use native.Mathlib.Nat.{mul-add, mul-comm, suc-mul, div-add-mod', div-lt-iff-lt-mul, mod-lt, div-eq-of-lt-le, mul-le-mul-left, lt-of-mul-lt-mul-left, le-of-lt, le-of-eq}
 use native.Mathlib.Omega.{arith}
 use lib.IntN.{ℤ, pos, negsuc, negℤ, natAbs, _+ℤ_, _-ℤ_, _*ℤ_}
-use lib.Signed.{mag, shrZ, _≤ℤ_, _<ℤ_}
-use Rattle.energy.specs.Number.{ceiling, nearest, up, down}
-use Rattle.energy.proofs.Integers.{exact, abs-parts, abs-le, order, from-parts, <-apart, add-parts, diff-parts, mul-parts, arithℤ}
+use lib.Signed.{shrZ, leZ, _≤ℤ_, _<ℤ_}
+use Rattle.energy.specs.Number.{ceiling, lesser, nearest, up, down, Within}
+use Rattle.energy.specs.Rounding.{Nearest, Rounding·theorem, distance}
+use Rattle.energy.proofs.Integers.{exact, abs-parts, abs-le, order, from-parts, <-apart, leZ-true, leZ-false, add-parts, diff-parts, mul-parts, arithℤ}
 
 -- ---- the floor of z / m: its bounds, and the only number within them
 pub record Floor (z : ℤ) (m : ℕ) (q : ℤ) : Type 0 where
@@ -59,18 +61,140 @@ raised-nearest n h K p b =
     let d>0 : 0 < 2 * h = omega arith in
     nearest-by n (2 * h) r (omega (arith, e, mul-add (2 * h) (up r) K, mul-add (2 * h) q (down r), div-add-mod' a (2 * h), mul-comm q (2 * h), mod-lt a d>0))
 
--- the same of a signed number raised in the code: what it is raised to has a magnitude, and its quotient is the nearest raised by K
-pub record Raised (n : ℤ) (h K : ℕ) : Type 0 where
-  pub low : down (n +ℤ pos (2 * h * K + h)) ≡ 0
-  pub size : natAbs (n +ℤ pos (2 * h * K + h)) + down n ≡ up n + (2 * h * K + h)
-  pub quotient : pos (natAbs (n +ℤ pos (2 * h * K + h)) / (2 * h)) -ℤ pos K ≡ nearest n (2 * h)
+-- ---- what is promised, at every divisor from 1
 
-pub raised : (n : ℤ) (h K : ℕ) → 0 < h → down n ≤ 2 * h * K → Raised n h K
-raised n h K p b =
-    let z : ℤ = n +ℤ pos (2 * h * K + h) in
-    let e = exact (add-parts n (pos (2 * h * K + h))) in
-    let value : natAbs z ≡ up n + (2 * h * K + h) - down n = omega (arith, abs-parts z) in
-    record { low = omega arith; size = omega arith; quotient = rw value (raised-nearest n h K p b) }
+module _ (n : ℤ) (d : ℕ) (d>0 : 1 ≤ d) (k : ℤ) where
+  -- how far off the nearest number and another are, before their sign is dropped
+  e : ℤ
+  e = n -ℤ pos d *ℤ nearest n d
+
+  e′ : ℤ
+  e′ = n -ℤ pos d *ℤ k
+
+  record Facts : Type 0 where
+    within : (2 * down e ≤ 2 * up e + d) × (2 * up e < 2 * down e + d)
+    other : up e′ + (down n + d * up k) ≡ up n + d * down k + down e′
+    near : up e + (down n + d * up (nearest n d)) ≡ up n + d * down (nearest n d) + down e
+    size : natAbs e′ ≡ up e′ + down e′
+
+  facts : Facts
+  unfolding e e′
+  facts =
+      let q = nearest n d in
+      let a = diff-parts n (pos d *ℤ q) in
+      let b = mul-parts (pos d) q in
+      record {
+        within = omega (arith, nearest-within n d d>0);
+        other = omega (arith, diff-parts n (pos d *ℤ k), mul-parts (pos d) k);
+        near = omega arith;
+        size = abs-parts (n -ℤ pos d *ℤ k);
+      }
+
+  -- a larger number is farther off
+  above : nearest n d <ℤ k → natAbs e < natAbs e′
+  above h =
+      let m = mul-le-mul-left d (<-apart h) in
+      let g : natAbs e ≤ natAbs e′ - 1 = abs-le e (natAbs e′ - 1) (omega (arith, facts)) (omega (arith, facts)) in
+      omega (arith, facts)
+
+  -- a smaller one is no nearer
+  below : k <ℤ nearest n d → natAbs e ≤ natAbs e′
+  below h = let m = mul-le-mul-left d (<-apart h) in abs-le e (natAbs e′) (omega (arith, facts)) (omega (arith, facts))
+
+nearest-is : (n : ℤ) (d : ℕ) → 1 ≤ d → Nearest n d (nearest n d)
+unfolding e e′
+nearest-is n d h = record { closest = closest; larger = larger }
+  where
+    q : ℤ
+    q = nearest n d
+
+    closest : (k : ℤ) → distance n d (nearest n d) ≤ distance n d k
+    closest k =
+        ⊎-elim
+        (λ a. le-of-lt (above n d h k a))
+        (λ b. ⊎-elim (λ a. below n d h k a) (λ a. le-of-eq (ap (distance n d) (from-parts (nearest n d) k (omega (arithℤ, a, b))))) (order k (nearest n d)))
+        (order (nearest n d) k)
+
+    larger : (k : ℤ) → distance n d k ≡ distance n d (nearest n d) → k ≤ℤ nearest n d
+    larger k e = ⊎-elim (λ a. absurd (omega (arith, above n d h k a))) (λ b. b) (order (nearest n d) k)
+
+nearest-only : (n : ℤ) (d : ℕ) (q : ℤ) → 1 ≤ d → Nearest n d q → q ≡ nearest n d
+nearest-only n d q h f =
+    let g = nearest-is n d h in
+    let same : distance n d q ≡ distance n d (nearest n d) = omega (arith, f .closest (nearest n d), g .closest q) in
+    omega (arithℤ, g .larger q same, f .larger (nearest n d) (sym same))
+
+pub nearest-error : (n : ℤ) (d : ℕ) → 1 ≤ d → 2 * distance n d (nearest n d) ≤ d
+nearest-error n d h =
+    let q = nearest n d in
+    let z = n -ℤ pos d *ℤ q in
+    omega (arith, nearest-within n d h, exact (diff-parts n (pos d *ℤ q)), diff-parts n (pos d *ℤ q), mul-parts (pos d) q, abs-parts z)
+
+pub nearest-mono : (a b : ℤ) (d : ℕ) → 1 ≤ d → a ≤ℤ b → nearest a d ≤ℤ nearest b d
+nearest-mono a b d p h =
+    ⊎-elim
+    (λ lt. absurd (omega (arithℤ, nearest-within a d p, nearest-within b d p, mul-le-mul-left d (<-apart lt))))
+    (λ le. le)
+    (order (nearest b d) (nearest a d))
+
+pub lesser-cases : (a b : ℤ) → ((lesser a b ≡ a) × (a ≤ℤ b)) ⊎ ((lesser a b ≡ b) × (b ≤ℤ a))
+unfolding lesser
+lesser-cases a b = go (leZ a b) refl
+  where
+    go : (t : Bool) → leZ a b ≡ t → ((cond t a b ≡ a) × (a ≤ℤ b)) ⊎ ((cond t a b ≡ b) × (b ≤ℤ a))
+    go true e = inl (refl, omega (arithℤ, leZ-true a b e))
+    go false e = inr (refl, omega (arithℤ, leZ-false a b e))
+
+pub lesser-nearest : (a b : ℤ) (d : ℕ) → 1 ≤ d → lesser (nearest a d) (nearest b d) ≡ nearest (lesser a b) d
+lesser-nearest a b d p =
+    let rounded = lesser-cases (nearest a d) (nearest b d) in
+    ⊎-elim
+    (λ x. ⊎-elim (λ y. y .0 ∙ rw (x .0) refl) (λ y. y .0 ∙ rw (x .0) (omega (arithℤ, y .1, nearest-mono a b d p (x .1)))) rounded)
+    (λ x. ⊎-elim (λ y. y .0 ∙ rw (x .0) (omega (arithℤ, y .1, nearest-mono b a d p (x .1)))) (λ y. y .0 ∙ rw (x .0) refl) rounded)
+    (lesser-cases a b)
+
+pub rounding : Rounding·theorem
+rounding = record { is = nearest-is; only = nearest-only; error = nearest-error; monotone = nearest-mono; least = lesser-nearest }
+
+-- ---- a natural rounded in one division: half of d is added, and the quotient rounds down
+pub half-up : (n d : ℕ) → 0 < d → pos ((n + d / 2) / d) ≡ nearest (pos n) d
+half-up n d p =
+    let a : ℕ = n + d / 2 in
+    nearest-by (pos n) d (pos (a / d)) (omega (arith, div-add-mod' a d, mul-comm (a / d) d, mod-lt a p))
+
+pub half-up-within : (n d r : ℕ) → 0 < d → pos r ≡ nearest (pos n) d → (2 * (d * r) ≤ 2 * n + d) × (2 * n + d < 2 * (d * r) + 2 * d)
+half-up-within n d r p e =
+    let w = subst (λ q. (2 * (d * up q) ≤ 2 * n + d + 2 * (d * down q)) × (2 * n + d + 2 * (d * down q) < 2 * (d * up q) + 2 * d)) (sym e) (omega (arith, nearest-within (pos n) d p)) in
+    omega arith
+
+-- so a signed number of at most K wholes: raised by them it is not negative, and what it then rounds to is K too many
+pub record Lowered (n : ℤ) (d K r : ℕ) : Type 0 where
+  pub most : r ≤ 2 * K
+  pub within : Within K (pos r -ℤ pos K)
+  pub value : pos r -ℤ pos K ≡ nearest n d
+
+pub record Raised (n : ℤ) (d K : ℕ) : Type 0 where
+  pub low : down (n +ℤ pos (d * K)) ≡ 0
+  pub size : natAbs (n +ℤ pos (d * K)) ≤ 2 * (d * K)
+  pub lowered : (r : ℕ) → pos r ≡ nearest (pos (natAbs (n +ℤ pos (d * K)))) d → Lowered n d K r
+
+pub raised : (n : ℤ) (d K : ℕ) → 0 < d → Within (d * K) n → Raised n d K
+raised n d K p b =
+    let sum = exact (add-parts n (pos (d * K))) in
+    let size : natAbs (n +ℤ pos (d * K)) ≡ up n + d * K - down n = omega (arith, abs-parts (n +ℤ pos (d * K))) in
+    record { low = omega arith; size = omega arith; lowered = lowered size }
+  where
+    lowered : natAbs (n +ℤ pos (d * K)) ≡ up n + d * K - down n → (r : ℕ) → pos r ≡ nearest (pos (natAbs (n +ℤ pos (d * K)))) d → Lowered n d K r
+    lowered size r e =
+        let x : ℤ = pos r -ℤ pos K in
+        let w = half-up-within (natAbs (n +ℤ pos (d * K))) d r p e in
+        let m : d * (up x + K) ≡ d * (r + down x) = ap (λ y. d * y) (omega (arith, diff-parts (pos r) (pos K))) in
+        let most : r ≤ 2 * K = omega (arith, lt-of-mul-lt-mul-left d {m = r} {n = 2 * K + 1} (omega (arith, mul-add d (2 * K) 1))) in
+        record {
+          most = most;
+          within = omega (arith, exact (diff-parts (pos r) (pos K)));
+          value = nearest-by n d x (omega (arith, mul-add d (up x) K, mul-add d r (down x)));
+        }
 
 -- ---- taken up to a whole number, a quotient is at most what is divided
 pub ceiling-most : (n d : ℕ) → 0 < d → ceiling n d ≤ n

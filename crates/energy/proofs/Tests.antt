@@ -49,6 +49,11 @@ pub off-or : (a b : Bool) → (a || b) ≡ false → (a ≡ false) × (b ≡ fal
 off-or true b e = absurd (true≢false e)
 off-or false b e = (refl, e)
 
+-- and one that does
+pub on-and : (a b : Bool) → (a && b) ≡ true → (a ≡ true) × (b ≡ true)
+on-and true b e = (refl, e)
+on-and false b e = absurd (false≢true e)
+
 pub off-leb : (a b : ℕ) → leb a b ≡ false → b < a
 off-leb a b e = nleb→lt a b (off-T (leb a b) e)
 

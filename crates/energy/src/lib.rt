@@ -2,4 +2,5 @@
 pub mod money;
 pub mod quarters;
 pub mod ramp;
+pub mod round;
 pub mod units;

@@ -2,17 +2,27 @@
 ghost use mathlib.Core.Path.{_≡_};
 ghost use Prim.Native.Nat.{_≤_};
 ghost use lib.IntN.{pos};
+ghost use Rattle.energy.specs.Answers.{paidFor, paidForPeriod};
 ghost use Rattle.energy.specs.Energy.{capped, kwh, payment, penceOfParts, periodParts};
 ghost use Rattle.energy.specs.Number.{Within, down};
+use crate::round::half_up;
+use crate::round::quotient;
+use crate::units::Kw;
 use crate::units::Kwh;
 use crate::units::Pence;
+
+// What paying answers: the pence, or a refusal's number.
+pub enum Paid {
+    Pays(Pence),
+    Refused(u8),
+}
 
 // The kWh expected of a segment.
 pub fn expected_kwh(q: u32) -> Kwh
     requires { ⌜ q ≤ 120000000 ⌝ }
     ensures { λ r. ⌜ (r .0 ≡ kwh (pos q)) × Within 500000 (r .0) ⌝ }
 {
-    let k = ((q + 120) / 240) as i64;
+    let k = half_up(q as u64, 240) as i64;
     Kwh(k)
 }
 
@@ -21,8 +31,8 @@ pub fn delivered_kwh(q: i32) -> Kwh
     requires { ⌜ Within 120000000 q ⌝ }
     ensures { λ r. ⌜ (r .0 ≡ kwh q) × Within 500000 (r .0) ⌝ }
 {
-    let raised = (q + 120000120) as u32;
-    let k = (raised / 240) as i64 - 500000;
+    let raised = (q + 120000000) as u64;
+    let k = half_up(raised, 240) as i64 - 500000;
     Kwh(k)
 }
 
@@ -45,8 +55,8 @@ pub fn payment_pence(k: Kwh, rate: u32) -> Pence
     requires { ⌜ rate ≤ 1000000 ⌝ }
     ensures { λ r. ⌜ (r .0 ≡ payment (k .0) rate) × Within 500000000 (r .0) ⌝ }
 {
-    let raised = (k.0 * rate as i64 + 500000000500) as u64;
-    let pence = (raised / 1000) as i64 - 500000000;
+    let raised = (k.0 * rate as i64 + 500000000000) as u64;
+    let pence = half_up(raised, 1000) as i64 - 500000000;
     Pence(pence)
 }
 
@@ -56,6 +66,36 @@ pub fn period_pence(kw: u32, rate: u32, p: u32) -> Pence
     ensures { λ r. ⌜ (r .0 ≡ penceOfParts (periodParts kw rate p)) × Within 250000000 (r .0) × (down (r .0) ≡ 0) ⌝ }
 {
     let parts = kw as u64 * rate as u64 * (100 - p) as u64;
-    let pence = ((parts + 100000) / 200000) as i64;
+    let pence = half_up(parts, 200000) as i64;
     Pence(pence)
+}
+
+// Quarter kW-minutes as kWh, for any number of them.
+pub fn kwh_of(quarters: i64) -> Kwh
+    ensures { λ r. ⌜ r .0 ≡ kwh quarters ⌝ }
+{
+    let k = quotient(quarters, 240);
+    Kwh(k)
+}
+
+// The pence for kWh at a rate, for any numbers: 3 outside -500,000 to 500,000 kWh or above a rate of 1,000,000.
+pub fn pay(capped: Kwh, rate: u32) -> Paid
+    ensures { λ r. ⌜ r ≡ paidFor (capped .0) rate ⌝ }
+{
+    let k = capped.0;
+    if (-500000 <= k) & (k <= 500000) & (rate <= 1000000) {
+        return Paid::Pays(payment_pence(capped, rate));
+    }
+    Paid::Refused(3)
+}
+
+// The pence of a period, for any numbers: 3 outside 0 to 500,000 kW, above a rate of 1,000,000, or above a P of 30.
+pub fn pay_period(kw: Kw, rate: u32, p: u32) -> Paid
+    ensures { λ r. ⌜ r ≡ paidForPeriod (kw .0) rate p ⌝ }
+{
+    let power = kw.0;
+    if (0 <= power) & (power <= 500000) & (rate <= 1000000) & (p <= 30) {
+        return Paid::Pays(period_pence(power as u32, rate, p));
+    }
+    Paid::Refused(3)
 }

@@ -1,26 +1,25 @@
 -- `energy::money::expected_kwh` meets its contract. Assumes nothing.
-use Prim.Native.Nat.{_+_, _-_, _/_}
+use mathlib.Core.Path.{_≡_, _∙_}
+use Prim.Native.Nat.{_≤_}
 use native.Mathlib.Omega.{arith}
-use lib.IntN.{pos}
 use borrow.Author.Needs.{needs}
 use mir.Syntax.{w64}
 use mir.ValLaws.{toZ-pos}
-use Rattle.energy.proofs.Integers.{arithℤ, diff-parts}
-use Rattle.energy.proofs.Rounding.{raised-nearest}
+use Rattle.energy.proofs.Rounding.{half-up-within}
 use Rattle.energy.proofs.money.expected_kwh.Statement.{statement}
 use Rattle.energy.proofs.money.expected_kwh.Tie as tie
 
-add-k : tie.Need-add-k
-add-k c = search needs
+half-up-requires : tie.Need-half-up-requires
+half-up-requires c κs = search needs
+
+most : (c : tie.After-half-up) → c .half-up .result ≤ 500000
+most c = omega (arith, half-up-within (c .before .args .q) 240 (c .half-up .result) (omega arith) (c .half-up .ensures))
 
 cast-k : tie.Need-cast-k
-cast-k c = search needs
+cast-k c = omega (arith, most c)
 
 returns : tie.Need-returns
-returns c =
-    let q = c .args .q in
-    let e = toZ-pos w64 ((q + 120) / 240) (omega arith) in
-    rw e (omega (arithℤ, raised-nearest (pos q) 120 0 (omega arith) (omega arith), diff-parts (pos ((q + 120 - 0) / 240)) (pos 0)), omega arith)
+returns c = rw (toZ-pos w64 (c .half-up .result) (omega (arith, most c))) (c .half-up .ensures, omega (arith, most c))
 
 pub expected-kwh-spec : {M : Type 1} → statement M
-expected-kwh-spec = tie.close (tie.spec add-k cast-k returns)
+expected-kwh-spec = tie.close (tie.spec half-up-requires cast-k returns)

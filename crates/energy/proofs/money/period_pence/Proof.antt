@@ -1,23 +1,21 @@
 -- `energy::money::period_pence` meets its contract. Assumes nothing.
 use mathlib.Core.Path.{refl}
-use Prim.Native.Nat.{ℕ, _+_, _-_, _*_, _/_, _≤_}
+use Prim.Native.Nat.{ℕ, _-_, _*_, _≤_}
 use native.Mathlib.Nat.{mul-le-mul}
 use native.Mathlib.Omega.{arith}
-use lib.IntN.{pos}
 use borrow.Author.Needs.{needs}
 use mir.Syntax.{w64}
 use mir.ValLaws.{toZ-pos}
-use Rattle.energy.proofs.Integers.{arithℤ, diff-parts, fits-parts}
-use Rattle.energy.proofs.Rounding.{raised-nearest}
+use Rattle.energy.proofs.Rounding.{half-up-within}
 use Rattle.energy.proofs.money.period_pence.Statement.{statement}
 use Rattle.energy.proofs.money.period_pence.Tie as tie
 
-abbrev x : tie.Start → ℕ
-x c = c .args .kw * c .args .rate * (100 - c .args .p)
+abbrev parts : tie.Start → ℕ
+parts c = c .args .kw * c .args .rate * (100 - c .args .p)
 
 record Most (c : tie.Start) : Type 0 where
   first : c .args .kw * c .args .rate ≤ 500000000000
-  all : x c ≤ 50000000000000
+  all : parts c ≤ 50000000000000
 
 most : (c : tie.Start) → Most c
 most c =
@@ -37,17 +35,19 @@ cast-parts c = search needs
 mul-parts-2 : tie.Need-mul-parts-2
 mul-parts-2 c = omega (arith, most c)
 
-add-pence : tie.Need-add-pence
-add-pence c = omega (arith, most c)
+half-up-requires : tie.Need-half-up-requires
+half-up-requires c κs = omega (arith, most c)
+
+pence : (c : tie.After-half-up) → c .half-up .result ≤ 250000000
+pence c = omega (arith, most (c .before), half-up-within (parts (c .before)) 200000 (c .half-up .result) (omega arith) (c .half-up .ensures))
 
 cast-pence : tie.Need-cast-pence
-cast-pence c = fits-parts w64 (pos ((x c + 100000) / 200000)) (omega (arith, most c))
+cast-pence c = omega (arith, pence c)
 
 returns : tie.Need-returns
-returns c =
-    let e = toZ-pos w64 ((x c + 100000) / 200000) (omega (arith, most c)) in
-    rw e (omega (arithℤ, raised-nearest (pos (x c)) 100000 0 (omega arith) (omega arith), diff-parts (pos ((x c + 100000 - 0) / 200000)) (pos 0)), omega (arith, most c), refl)
+returns c = rw (toZ-pos w64 (c .half-up .result) (omega (arith, pence c))) (c .half-up .ensures, omega (arith, pence c), refl)
 
 pub period-pence-spec : {M : Type 1} → statement M
 period-pence-spec =
-    tie.close (tie.spec mul-parts sub-parts cast-parts mul-parts-2 add-pence cast-pence returns)
+    tie.close
+    (tie.spec mul-parts sub-parts cast-parts mul-parts-2 half-up-requires cast-pence returns)

@@ -1,0 +1,16 @@
+-- `energy::money::kwh_of` meets its contract. Assumes nothing.
+use mathlib.Core.Path.{_∙_}
+use native.Mathlib.Omega.{arith}
+use borrow.Author.Needs.{needs}
+use mir.Facts.{toZ-ofZ}
+use Rattle.energy.proofs.money.kwh_of.Statement.{statement}
+use Rattle.energy.proofs.money.kwh_of.Tie as tie
+
+quotient-requires : tie.Need-quotient-requires
+quotient-requires c κs = search needs
+
+returns : tie.Need-returns
+returns c = let f = c .before .fits .quarters in toZ-ofZ (omega arith) ∙ simp toZ-ofZ at (c .quotient .ensures)
+
+pub kwh-of-spec : {M : Type 1} → statement M
+kwh-of-spec = tie.close (tie.spec quotient-requires returns)
