@@ -1,0 +1,78 @@
+//! Wrong turns on purpose: each switch changes one rule. A comparison that
+//! does not notice a switch would not notice the mistake either.
+
+#[derive(Clone, Copy, PartialEq, Eq, Debug)]
+pub enum Wrong {
+    /// The lesser is taken in each minute and not over the segment.
+    CapByMinute,
+    /// The base load is rounded to a whole kW.
+    BaseRounded,
+    /// A ramp minute expects as much as a steady one.
+    WholeRamp,
+    /// Delivery defaults count in P.
+    DeliveryInP,
+    /// Ramp up outside a window is paid at the optional rate wherever e is.
+    RampBeforeWindowOptional,
+    /// Ramp down outside a window is paid at the optional rate wherever cease is.
+    RampAfterWindowOptional,
+    /// The prices of utilisation and optional energy change places.
+    GlossaryRates,
+    /// Operands stand low byte first.
+    LowByteFirst,
+    /// A window that starts exactly at f is excluded too.
+    ExcludeAtF,
+    /// The pre-instruction time (the response) is forgotten when excluding.
+    RecoveryAlone,
+    /// P has no limit of 30.
+    PUnlimited,
+    /// P counts defaults, not windows.
+    PByDefault,
+    /// A window holds its end minute.
+    WindowEndInside,
+    /// A half is rounded to the smaller number.
+    HalfDown,
+    /// A half is rounded away from zero.
+    HalfAway,
+    /// Ramp minutes are taken down to a whole minute (but at least 1).
+    RampsDown,
+}
+
+/// The names by which the command line knows the switches.
+pub const SWITCHES: [(&str, Wrong); 16] = [
+    ("cap-by-minute", Wrong::CapByMinute),
+    ("base-rounded", Wrong::BaseRounded),
+    ("whole-ramp", Wrong::WholeRamp),
+    ("delivery-in-p", Wrong::DeliveryInP),
+    (
+        "ramp-before-window-optional",
+        Wrong::RampBeforeWindowOptional,
+    ),
+    ("ramp-after-window-optional", Wrong::RampAfterWindowOptional),
+    ("glossary-rates", Wrong::GlossaryRates),
+    ("low-byte-first", Wrong::LowByteFirst),
+    ("exclude-at-f", Wrong::ExcludeAtF),
+    ("recovery-alone", Wrong::RecoveryAlone),
+    ("p-unlimited", Wrong::PUnlimited),
+    ("p-by-default", Wrong::PByDefault),
+    ("window-end-inside", Wrong::WindowEndInside),
+    ("half-down", Wrong::HalfDown),
+    ("half-away", Wrong::HalfAway),
+    ("ramps-down", Wrong::RampsDown),
+];
+
+/// The rules to go by: the right ones, or all but one of them.
+#[derive(Clone, Copy, PartialEq, Eq, Debug)]
+pub struct Switch(pub Option<Wrong>);
+
+impl Switch {
+    pub const RIGHT: Switch = Switch(None);
+
+    pub fn named(name: &str) -> Option<Switch> {
+        let found = SWITCHES.iter().find(|(known, _)| *known == name)?;
+        Some(Switch(Some(found.1)))
+    }
+
+    pub fn is(self, wrong: Wrong) -> bool {
+        self.0 == Some(wrong)
+    }
+}
