@@ -3,3 +3,6 @@ pub mod Count
 pub mod Input
 pub mod Chain
 pub mod Terms
+pub mod Taken
+pub mod Tables
+pub mod Reached
