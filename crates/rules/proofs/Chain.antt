@@ -1,5 +1,6 @@
 -- A chain of tests `a && b && ..`, taken apart and put together.
-use mathlib.Core.Bool.{Bool, _&&_}
+use mathlib.Core.Path.{_≡_, refl}
+use mathlib.Core.Bool.{Bool, true, false, not, _&&_}
 use mathlib.Core.List.{List, [], _∷_}
 use lib.Dec.{T}
 use Rattle.energy.proofs.Tests.{Passes, T-and, and-T}
@@ -18,3 +19,7 @@ apart a (b ∷ bs) t =
 pub together : (a : Bool) (bs : List Bool) → T a → Passes bs → T (chain a bs)
 together a [] t h = t
 together a (b ∷ bs) t h = together (a && b) bs (and-T a b t (h .0)) (h .1)
+
+pub not-on : (b : Bool) → T (not b) → b ≡ false
+not-on true t = absurd t
+not-on false t = refl

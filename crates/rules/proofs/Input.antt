@@ -1,15 +1,15 @@
 -- Laws of the refusals from the input: how they come out as one number, and where they stand among all conditions.
 use mathlib.Core.Path.{_≡_, refl, sym, ap, _∙_}
 use mathlib.Core.Logic.{_≢_}
-use mathlib.Core.Bool.{Bool, true, false, not, cond, true≢false}
+use mathlib.Core.Bool.{Bool, true, false, not, cond}
 use mathlib.Core.List.{List, [], _∷_}
-use mathlib.Core.Option.{Option, none, some}
-use Prim.Native.Nat.{ℕ, suc, _≤_, _<_}
+use mathlib.Core.Option.{some}
+use Prim.Native.Nat.{ℕ, _≤_, _<_}
 use native.Mathlib.Omega.{arith}
 use lib.Dec.{leb}
 use lib.ListN.{drop}
 use borrow.Author.Tests.{le-leb, lt-leb}
-use mathlib.Core.Bool.{_&&_, and-false}
+use mathlib.Core.Bool.{and-false}
 use Rattle.rules.specs.Ledger.{Ledger}
 use Rattle.rules.specs.Refusal.{from-to, inRange, rampTooLong, badWindow, Condition, _when_, conditions, lowest, refusal}
 use Rattle.rules.specs.Input.{inputRefusal, orZero, offerFor, offerOf}

@@ -6,3 +6,6 @@ pub mod Terms
 pub mod Opened
 pub mod Figures
 pub mod Refused
+pub mod Taken
+pub mod Tables
+pub mod Reached

@@ -1,7 +1,6 @@
 -- What the ranges and ramps of a contract come to as numbers.
 use mathlib.Core.Path.{_≡_, refl, sym, subst}
-use mathlib.Core.Bool.{true}
-use mathlib.Core.List.{List, [], _∷_}
+use mathlib.Core.List.{[], _∷_}
 use Prim.Native.Nat.{ℕ, _≤_}
 use lib.Dec.{T, leb, leb→le}
 use lib.Signed.{nonNeg}
@@ -9,13 +8,12 @@ use mir.Syntax.{w32}
 use mir.Val.{Fits}
 use native.Mathlib.Omega.{arith}
 use lib.IntN.{ℤ, pos, negsuc, natAbs}
-use Rattle.energy.proofs.Tests.{T-and, to-T}
+use Rattle.energy.proofs.Tests.{T-and}
 use Rattle.rules.specs.Ledger.{kwOf}
 use Rattle.rules.specs.Refusal.{from-to, from-toℤ, inRange}
 use Rattle.rules.specs.declared.contract.Contract.{Contract}
-use Rattle.rules.specs.declared.entries.Command.{Command}
 use Rattle.rules.specs.declared.entries.Command.the-variants.{Contract as contractᶜ}
-use Rattle.rules.proofs.Chain.{chain, apart}
+use Rattle.rules.proofs.Chain.{apart}
 
 -- the operands of a contract in their ranges
 pub record Ranges (k : Contract) : Type 0 where

@@ -1,11 +1,15 @@
--- The tables that commands leave: what the windows, instructions and defaults taken under a contract always are, as a test that 11 asks of a book.
+-- The ledgers that commands leave: what the contract, windows, instructions and defaults taken always are, as a test that 11 asks of a book too.
+use mathlib.Core.Path.{_≡_}
 use mathlib.Core.Bool.{Bool, true, false, not, _&&_}
 use mathlib.Core.List.{List, [], _∷_}
-use Prim.Native.Nat.{ℕ, _+_}
-use lib.Dec.{eqb, leb, ltb}
-use Rattle.energy.specs.Lists.{all, any}
-use Rattle.rules.specs.Ledger.{spanOf, expiry, endOf, within}
-use Rattle.rules.specs.Refusal.{inRange, rampTooLong, badWindow}
+use mathlib.Core.Option.{none, some}
+use Prim.Native.Nat.{ℕ, _+_, _≤_, _<_}
+use lib.IntN.{ℤ}
+use lib.Dec.{T, eqb, leb, ltb}
+use lib.ListN.{length}
+use Rattle.energy.specs.Lists.{all, any, pass}
+use Rattle.rules.specs.Ledger.{Ledger, ledgerOf, contractOf, spanOf, expiry, endOf, within}
+use Rattle.rules.specs.Refusal.{inRange, rampTooLong, badWindow, isReading, taken}
 use Rattle.rules.specs.declared.contract.Contract.{Contract}
 use Rattle.rules.specs.declared.entries.Window.{Window}
 use Rattle.rules.specs.declared.entries.Instruction.{Instruction}
@@ -41,3 +45,33 @@ agreedTests k ws is ds =
     ∷ instructionsSound k 0 is
     ∷ all (defaultSound k ws) ds
     ∷ []
+
+-- ---- what commands leave
+
+-- nothing has been entered
+pub record Untouched (g : Ledger) : Type 0 where
+  pub contracts : g .contracts ≡ []
+  pub windows : g .windows ≡ []
+  pub instructions : g .instructions ≡ []
+  pub defaults : g .defaults ≡ []
+  pub notClosed : g .closed ≡ false
+  pub readings : (m : ℕ) → g .reading m ≡ none
+
+-- one contract, entries that could be taken under it and fit their tables, and meter memory of this size that holds the span
+pub record Agreed (size : ℕ) (g : Ledger) : Type 0 where
+  pub contract : g .contracts ≡ contractOf g ∷ []
+  pub tests : T (pass (agreedTests (contractOf g) (g .windows) (g .instructions) (g .defaults)))
+  pub windows : length (g .windows) ≤ 128
+  pub instructions : length (g .instructions) ≤ 64
+  pub defaults : length (g .defaults) ≤ 128
+  pub span : spanOf (contractOf g) ≤ size
+  pub readings : (m : ℕ) (kw : ℤ) → g .reading m ≡ some kw → (m < spanOf (contractOf g)) × T (isReading kw)
+
+-- a ledger of one of these two kinds
+pub data Reached (size : ℕ) (g : Ledger) : Type 0 where
+  untouched : Untouched g → Reached size g
+  agreed : Agreed size g → Reached size g
+
+-- commands of any number and kind leave no other, whatever the size of meter memory
+unfoldable pub Reached·theorem : Type 0
+Reached·theorem = (size : ℕ) (cs : List Command) → Reached size (ledgerOf (taken size cs))

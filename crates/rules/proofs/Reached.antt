@@ -1,0 +1,258 @@
+-- A ledger that commands leave is untouched, or has one contract and entries that could be taken under it: by induction over the commands.
+use mathlib.Core.Path.{_≡_, refl, sym, ap, _∙_, subst}
+use mathlib.Core.Bool.{Bool, true, false, cond, not, _&&_, true≢false}
+use mathlib.Core.List.{List, [], _∷_, _++_, append-nil}
+use mathlib.Core.Option.{Option, none, some, Option·none-ne-some, Option·some-injective}
+use Prim.Native.Nat.{ℕ, _+_, _≤_, _<_}
+use native.Mathlib.Omega.{arith}
+use lib.IntN.{ℤ}
+use lib.Dec.{T, eqb, leb, ltb, lt→ltb, eqb→eq}
+use lib.ListN.{length, length-append}
+use Rattle.energy.specs.Lists.{all, any, concatMap, first, isEmpty, later, pass}
+use Rattle.energy.proofs.Tests.{T-and, and-T, to-T, off-T, off-not, off-leb, off-ltb, passes, passed, all-snoc}
+use Rattle.rules.specs.Ledger.{Ledger, ledgerOf, contractOf, noContract, contractIn, windowIn, instructionIn, defaultIn, readingIn, readingOf, isContract, spanOf, within}
+use Rattle.rules.specs.Refusal.{from-to, inRange, rampTooLong, isReading, refusal, joined, takenAfter, taken}
+use Rattle.rules.specs.Reached.{windowsSound, instructionsSound, defaultSound, agreedTests, Untouched, Agreed, Reached, Reached·theorem}
+use Rattle.rules.specs.Reached.Reached.{untouched, agreed}
+use Rattle.rules.specs.declared.contract.Contract.{Contract}
+use Rattle.rules.specs.declared.entries.Window.{Window}
+use Rattle.rules.specs.declared.entries.Instruction.{Instruction}
+use Rattle.rules.specs.declared.entries.Default.{Default}
+use Rattle.rules.specs.declared.entries.Reading.{Reading}
+use Rattle.rules.specs.declared.entries.Command.{Command}
+use Rattle.rules.specs.declared.entries.Command.the-variants.{Contract as contractᶜ, Window as windowᶜ, Instruction as instructionᶜ, Default as defaultᶜ, Reading as readingᶜ, Close as closeᶜ}
+use Rattle.rules.proofs.Taken.{grown, ledgerOf-snoc, Allowed, allowed}
+use Rattle.rules.proofs.Tables.{lastEnd, last-end, one-window, windows-snoc, ready, ready-recovered, one-instruction, instructions-snoc, defaults-more}
+
+-- ---- the parts of a ledger under a contract
+
+-- the tests of a contract k and its tables, by name
+pub record Parts (k : Contract) (ws : List Window) (is : List Instruction) (ds : List Default) : Type 0 where
+  pub operands : T (inRange (contractᶜ k))
+  pub ramps : T (not (rampTooLong (contractᶜ k)))
+  pub windows : T (windowsSound k 0 ws)
+  pub instructions : T (instructionsSound k 0 is)
+  pub defaults : T (all (defaultSound k ws) ds)
+
+pub parts : (k : Contract) (ws : List Window) (is : List Instruction) (ds : List Default) → T (pass (agreedTests k ws is ds)) → Parts k ws is ds
+unfolding agreedTests
+parts k ws is ds t =
+    let p = passes (agreedTests k ws is ds) t in
+    record { operands = p .0; ramps = p .1 .0; windows = p .1 .1 .0; instructions = p .1 .1 .1 .0; defaults = p .1 .1 .1 .1 .0 }
+
+pub tested : {k : Contract} {ws : List Window} {is : List Instruction} {ds : List Default} → Parts k ws is ds → T (pass (agreedTests k ws is ds))
+unfolding agreedTests
+tested {k} {ws} {is} {ds} p =
+    passed (agreedTests k ws is ds) (p .operands, (p .ramps, (p .windows, (p .instructions, (p .defaults, tt)))))
+
+pub parts-of : {size : ℕ} {g : Ledger} → Agreed size g → Parts (contractOf g) (g .windows) (g .instructions) (g .defaults)
+parts-of {g = g} a = parts (contractOf g) (g .windows) (g .instructions) (g .defaults) (a .tests)
+
+-- readings of a contract's span
+abbrev Readings : Contract → Ledger → Type 0
+Readings k g = (m : ℕ) (kw : ℤ) → g .reading m ≡ some kw → (m < spanOf k) × T (isReading kw)
+
+-- tables with room for what they hold
+record Fits (ws : List Window) (is : List Instruction) (ds : List Default) : Type 0 where
+  windows : length ws ≤ 128
+  instructions : length is ≤ 64
+  defaults : length ds ≤ 128
+
+-- a ledger whose one contract is k
+under : (size : ℕ) (k : Contract) (g : Ledger) → g .contracts ≡ k ∷ [] → Parts k (g .windows) (g .instructions) (g .defaults)
+    → Fits (g .windows) (g .instructions) (g .defaults) → spanOf k ≤ size → Readings k g → Agreed size g
+unfolding contractOf first
+under size k g e p f s r =
+    let same : k ≡ contractOf g = sym (ap (first noContract) e) in
+    record {
+      contract = e ∙ ap (λ x. x ∷ []) same;
+      tests = subst (λ x. T (pass (agreedTests x (g .windows) (g .instructions) (g .defaults)))) same (tested p);
+      windows = f .windows;
+      instructions = f .instructions;
+      defaults = f .defaults;
+      span = subst (λ x. spanOf x ≤ size) same s;
+      readings = subst (λ x. Readings x g) same r;
+    }
+
+-- ---- which of the two kinds a command meets
+
+-- a command that is no contract needs one
+needs-contract : {size : ℕ} {g : Ledger} (c : Command) → isContract c ≡ false → Reached size g → Allowed size g c → Agreed size g
+unfolding isEmpty
+needs-contract c n (agreed a) h = a
+needs-contract c n (untouched u) h =
+    absurd (true≢false (sym (ap (λ l. isEmpty l && not (isContract c)) (u .contracts) ∙ ap not n) ∙ h .agreed))
+
+-- a contract is the only one
+first-contract : {size : ℕ} {g : Ledger} (k : Contract) → Reached size g → Allowed size g (contractᶜ k) → Untouched g
+unfolding isEmpty
+first-contract k (untouched u) h = u
+first-contract k (agreed a) h = absurd (true≢false (sym (ap (λ l. not (isEmpty l) && true) (a .contract)) ∙ h .only))
+
+-- ---- an entry under a contract
+
+-- what a table without a new entry keeps
+kept : {A : Type 0} (P : List A → Type 0) (l : List A) → P l → P (l ++ [])
+kept P l p = subst P (sym (append-nil l)) p
+
+-- one entry more fits a table that has room
+fits : {A : Type 0} (n : ℕ) (l : List A) (a : A) → leb n (length l) ≡ false → length (l ++ (a ∷ [])) ≤ n
+fits n l a e = omega (arith, length-append l (a ∷ []), off-leb n (length l) e)
+
+module _ {size : ℕ} {g : Ledger} (a : Agreed size g) where
+  abbrev k : Contract
+  k = contractOf g
+
+  abbrev p : Parts k (g .windows) (g .instructions) (g .defaults)
+  p = parts-of a
+
+  -- no contract: the contract stays
+  keep : (c : Command) → contractIn c ≡ [] → Parts k (g .windows ++ windowIn c) (g .instructions ++ instructionIn c) (g .defaults ++ defaultIn c)
+      → Fits (g .windows ++ windowIn c) (g .instructions ++ instructionIn c) (g .defaults ++ defaultIn c) → Readings k (grown g c) → Agreed size (grown g c)
+  keep c e q f r = under size k (grown g c) (ap (λ l. g .contracts ++ l) e ∙ append-nil (g .contracts) ∙ a .contract) q f (a .span) r
+
+  -- no reading: the readings stay
+  read : (c : Command) → ((m : ℕ) → readingIn c m ≡ none) → Readings k (grown g c)
+  unfolding later
+  read c n m kw q = a .readings m kw (ap (λ o. later (g .reading m) o) (sym (n m)) ∙ q)
+
+  -- no new entry: the tables stay
+  still : Parts k (g .windows ++ []) (g .instructions ++ []) (g .defaults ++ [])
+  still =
+      record {
+        operands = p .operands;
+        ramps = p .ramps;
+        windows = kept (λ l. T (windowsSound k 0 l)) (g .windows) (p .windows);
+        instructions = kept (λ l. T (instructionsSound k 0 l)) (g .instructions) (p .instructions);
+        defaults = kept (λ ds. T (all (defaultSound k (g .windows ++ [])) ds)) (g .defaults) (kept (λ ws. T (all (defaultSound k ws) (g .defaults))) (g .windows) (p .defaults));
+      }
+
+  few : Fits (g .windows ++ []) (g .instructions ++ []) (g .defaults ++ [])
+  few =
+      record {
+        windows = kept (λ l. length l ≤ 128) (g .windows) (a .windows);
+        instructions = kept (λ l. length l ≤ 64) (g .instructions) (a .instructions);
+        defaults = kept (λ l. length l ≤ 128) (g .defaults) (a .defaults);
+      }
+
+  with-window : (w : Window) → Allowed size g (windowᶜ w) → Agreed size (grown g (windowᶜ w))
+  with-window w h =
+      let one : T (windowsSound k (lastEnd 0 (g .windows)) (w ∷ [])) =
+      one-window k (lastEnd 0 (g .windows)) w (h .operands) (h .shape) (h .inside) (h .verdict)
+      (subst (λ x. ltb (w .start .0) x ≡ false) (last-end (record { start = record { 0 = 0 }; end = record { 0 = 0 }; verdict = 0 }) (g .windows)) (h .after)) in
+      keep (windowᶜ w) refl
+      (record {
+        operands = still .operands;
+        ramps = still .ramps;
+        windows = windows-snoc k 0 (g .windows) w (p .windows) one;
+        instructions = still .instructions;
+        defaults = kept (λ l. T (all (defaultSound k (g .windows ++ (w ∷ []))) l)) (g .defaults) (defaults-more k (g .windows) w (g .defaults) (p .defaults));
+      })
+      (record { windows = fits 128 (g .windows) w (h .room); instructions = few .instructions; defaults = few .defaults })
+      (read (windowᶜ w) (λ m. refl))
+
+  with-instruction : (i : Instruction) → Allowed size g (instructionᶜ i) → Agreed size (grown g (instructionᶜ i))
+  with-instruction i h =
+      let one : T (instructionsSound k (ready k 0 (g .instructions)) (i ∷ [])) =
+      one-instruction k (ready k 0 (g .instructions)) i (h .operands) (h .inside) (h .ceased)
+      (subst (λ x. ltb (i .issue .0) x ≡ false) (sym (ready-recovered k (g .instructions))) (h .recovered)) in
+      keep (instructionᶜ i) refl
+      (record {
+        operands = still .operands;
+        ramps = still .ramps;
+        windows = still .windows;
+        instructions = instructions-snoc k 0 (g .instructions) i (p .instructions) one;
+        defaults = still .defaults;
+      })
+      (record { windows = few .windows; instructions = fits 64 (g .instructions) i (h .room); defaults = few .defaults })
+      (read (instructionᶜ i) (λ m. refl))
+
+  with-default : (d : Default) → Allowed size g (defaultᶜ d) → Agreed size (grown g (defaultᶜ d))
+  with-default d h =
+      let ok : Bool = inRange (defaultᶜ d) in
+      let below : Bool = ltb (d .minute .0) (spanOf k) in
+      let windowed : Bool = any (λ w. within w (d .minute .0)) (g .windows) in
+      let one : T (defaultSound k (g .windows) d) =
+      and-T (ok && below) windowed
+      (and-T ok below (h .operands) (lt→ltb (d .minute .0) (spanOf k) (off-leb (spanOf k) (d .minute .0) (h .inside))))
+      (off-not windowed (h .windowed)) in
+      keep (defaultᶜ d) refl
+      (record {
+        operands = still .operands;
+        ramps = still .ramps;
+        windows = still .windows;
+        instructions = still .instructions;
+        defaults =
+            kept (λ ws. T (all (defaultSound k ws) (g .defaults ++ (d ∷ [])))) (g .windows)
+            (all-snoc (defaultSound k (g .windows)) (g .defaults) d (p .defaults) one);
+      })
+      (record { windows = few .windows; instructions = few .instructions; defaults = fits 128 (g .defaults) d (h .room) })
+      (read (defaultᶜ d) (λ m. refl))
+
+  with-reading : (r : Reading) → Allowed size g (readingᶜ r) → Agreed size (grown g (readingᶜ r))
+  unfolding later
+  with-reading r h =
+      keep (readingᶜ r) refl still few
+      (λ m kw q. go (eqb (r .minute .0) m) refl kw q)
+    where
+      go : {m : ℕ} (b : Bool) → eqb (r .minute .0) m ≡ b → (kw : ℤ) → later (g .reading m) (cond b (some (r .kw .0)) none) ≡ some kw
+          → (m < spanOf k) × T (isReading kw)
+      go {m} true e kw q =
+          let same : r .minute .0 ≡ m = eqb→eq (r .minute .0) m (to-T e) in
+          let range = T-and (from-to 0 44640 (r .minute .0)) (isReading (r .kw .0)) (h .operands) in (
+            subst (λ x. x < spanOf k) same (off-leb (spanOf k) (r .minute .0) (h .inside)),
+            subst (λ x. T (isReading x)) (Option·some-injective (r .kw .0) kw q) (range .1),
+          )
+      go {m} false e kw q = a .readings m kw q
+
+  with-close : Agreed size (grown g closeᶜ)
+  with-close =
+      keep closeᶜ refl still few (read closeᶜ (λ m. refl))
+
+-- ---- the contract
+
+with-contract : {size : ℕ} {g : Ledger} (k : Contract) → Untouched g → Allowed size g (contractᶜ k) → Agreed size (grown g (contractᶜ k))
+unfolding windowsSound instructionsSound all later
+with-contract {size} {g} k u h =
+    let ws : g .windows ++ [] ≡ [] = append-nil (g .windows) ∙ u .windows in
+    let is : g .instructions ++ [] ≡ [] = append-nil (g .instructions) ∙ u .instructions in
+    let ds : g .defaults ++ [] ≡ [] = append-nil (g .defaults) ∙ u .defaults in
+    under size k (grown g (contractᶜ k)) (ap (λ l. l ++ (k ∷ [])) (u .contracts))
+    (rw (ws, is, ds) (record { operands = h .operands; ramps = off-T (rampTooLong (contractᶜ k)) (h .ramps); windows = tt; instructions = tt; defaults = tt }))
+    (record { windows = omega (arith, ap length ws); instructions = omega (arith, ap length is); defaults = omega (arith, ap length ds) })
+    (off-ltb size (spanOf k) (h .memory))
+    (λ m kw q. absurd (Option·none-ne-some kw (sym (u .readings m) ∙ q)))
+
+-- ---- any command
+
+-- a command that no condition turns down leaves a ledger of the two kinds
+pub step : (size : ℕ) (g : Ledger) (c : Command) → Reached size g → refusal false size g c ≡ none → Reached size (grown g c)
+step size g c r e = go c (allowed size g c e)
+  where
+    go : (c : Command) → Allowed size g c → Reached size (grown g c)
+    go (contractᶜ k) h = agreed (with-contract k (first-contract k r h) h)
+    go (windowᶜ w) h = agreed (with-window (needs-contract (windowᶜ w) refl r h) w h)
+    go (instructionᶜ i) h = agreed (with-instruction (needs-contract (instructionᶜ i) refl r h) i h)
+    go (defaultᶜ d) h = agreed (with-default (needs-contract (defaultᶜ d) refl r h) d h)
+    go (readingᶜ x) h = agreed (with-reading (needs-contract (readingᶜ x) refl r h) x h)
+    go closeᶜ h = agreed (with-close (needs-contract closeᶜ refl r h))
+
+-- ---- any list
+
+-- before the first command
+pub start : (size : ℕ) → Reached size (ledgerOf [])
+unfolding ledgerOf concatMap any readingOf
+start size = untouched (record { contracts = refl; windows = refl; instructions = refl; defaults = refl; notClosed = refl; readings = λ m. refl })
+
+pub reach-after : (size : ℕ) (t cs : List Command) → Reached size (ledgerOf t) → Reached size (ledgerOf (takenAfter size t cs))
+unfolding takenAfter
+reach-after size t [] r = r
+reach-after size t (c ∷ cs) r = reach-after size (joined (refusal false size (ledgerOf t) c) t c) cs (go (refusal false size (ledgerOf t) c) refl)
+  where
+    go : (o : Option ℕ) → refusal false size (ledgerOf t) c ≡ o → Reached size (ledgerOf (joined o t c))
+    go none e = subst (Reached size) (sym (ledgerOf-snoc t c)) (step size (ledgerOf t) c r e)
+    go (some n) e = r
+
+pub reached : Reached·theorem
+unfolding Reached·theorem taken
+reached size cs = reach-after size [] cs (start size)

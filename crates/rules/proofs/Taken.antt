@@ -1,0 +1,122 @@
+-- What one command more adds to a ledger, and what is known of a command that no condition turns down.
+use mathlib.Core.Path.{_≡_, refl, sym, ap, _∙_}
+use mathlib.Core.Bool.{Bool, true, false, not, _&&_, _||_, or-false, or-assoc}
+use mathlib.Core.List.{List, [], _∷_, _++_, append-nil, append-assoc}
+use mathlib.Core.Option.{Option, none, some, Option·none-ne-some}
+use Prim.Native.Nat.{ℕ}
+use lib.Dec.{T, ltb}
+use Rattle.energy.specs.Lists.{any, concatMap, isEmpty, later}
+use Rattle.energy.proofs.Tests.{off-not}
+use Rattle.rules.specs.Ledger.{Ledger, ledgerOf, contractIn, windowIn, instructionIn, defaultIn, isClose, isContract, readingIn, readingOf}
+use Rattle.rules.specs.Refusal.{Condition, conditions, lowest, refusal, inRange, rampTooLong, badWindow, spanFor, beyondSpan, rejectedCommitted, windowOverlaps, ceaseEarly, issueEarly, outsideWindows, hasReading, tableFull}
+use Rattle.rules.specs.declared.entries.Command.{Command}
+
+-- ---- the ledger of one command more
+
+-- what a taken command adds to a ledger
+abbrev pub grown : Ledger → Command → Ledger
+grown g c =
+    record {
+      contracts = g .contracts ++ contractIn c;
+      windows = g .windows ++ windowIn c;
+      instructions = g .instructions ++ instructionIn c;
+      defaults = g .defaults ++ defaultIn c;
+      closed = g .closed || isClose c;
+      reading = λ m. later (g .reading m) (readingIn c m);
+    }
+
+pub concatMap-append : {A B : Type 0} (f : A → List B) (s t : List A) → concatMap f (s ++ t) ≡ concatMap f s ++ concatMap f t
+unfolding concatMap
+concatMap-append f [] t = refl
+concatMap-append f (x ∷ s) t = ap (λ r. f x ++ r) (concatMap-append f s t) ∙ sym (append-assoc (f x) (concatMap f s) (concatMap f t))
+
+concatMap-snoc : {B : Type 0} (f : Command → List B) (t : List Command) (c : Command) → concatMap f (t ++ (c ∷ [])) ≡ concatMap f t ++ f c
+unfolding concatMap
+concatMap-snoc f t c = concatMap-append f t (c ∷ []) ∙ ap (λ r. concatMap f t ++ r) (append-nil (f c))
+
+any-last : {A : Type 0} (f : A → Bool) (s : List A) (a : A) → any f (s ++ (a ∷ [])) ≡ (any f s || f a)
+unfolding any
+any-last f [] a = or-false (f a)
+any-last f (x ∷ s) a = ap (λ b. f x || b) (any-last f s a) ∙ sym (or-assoc (f x) (any f s) (f a))
+
+pub later-assoc : {A : Type 0} (a b c : Option A) → later (later a b) c ≡ later a (later b c)
+unfolding later
+later-assoc a b none = refl
+later-assoc a b (some z) = refl
+
+pub later-none : {A : Type 0} (b : Option A) → later none b ≡ b
+unfolding later
+later-none none = refl
+later-none (some z) = refl
+
+readingOf-snoc : (t : List Command) (c : Command) (m : ℕ) → readingOf (t ++ (c ∷ [])) m ≡ later (readingOf t m) (readingIn c m)
+unfolding readingOf later
+readingOf-snoc [] c m = sym (later-none (readingIn c m))
+readingOf-snoc (x ∷ t) c m = ap (λ o. later (readingIn x m) o) (readingOf-snoc t c m) ∙ sym (later-assoc (readingIn x m) (readingOf t m) (readingIn c m))
+
+pub ledgerOf-snoc : (t : List Command) (c : Command) → ledgerOf (t ++ (c ∷ [])) ≡ grown (ledgerOf t) c
+unfolding ledgerOf
+ledgerOf-snoc t c i =
+    record {
+      contracts = concatMap-snoc contractIn t c i;
+      windows = concatMap-snoc windowIn t c i;
+      instructions = concatMap-snoc instructionIn t c i;
+      defaults = concatMap-snoc defaultIn t c i;
+      closed = any-last isClose t c i;
+      reading = λ m. readingOf-snoc t c m i;
+    }
+
+-- ---- no condition holds
+
+abbrev pub Clear : List Condition → Type 0
+Clear [] = Unit {0}
+Clear (c ∷ cs) = (c .holds ≡ false) × Clear cs
+
+pub clear : (cs : List Condition) → lowest cs ≡ none → Clear cs
+unfolding lowest
+clear [] e = tt
+clear (c ∷ cs) e = go (λ h. clear cs h) (c .holds) refl
+  where
+    go : (lowest cs ≡ none → Clear cs) → (b : Bool) → c .holds ≡ b → (c .holds ≡ false) × Clear cs
+    go rest true h = absurd (Option·none-ne-some (c .number) (sym e ∙ ap (λ b. elim b as (λ x. Option ℕ) [ true ↦ some (c .number) | false ↦ lowest cs ]) h))
+    go rest false h = (h, rest (ap (λ b. elim b as (λ x. Option ℕ) [ true ↦ some (c .number) | false ↦ lowest cs ]) (sym h) ∙ e))
+
+-- each condition, by name, of a command that is taken
+pub record Allowed (size : ℕ) (g : Ledger) (c : Command) : Type 0 where
+  pub operands : T (inRange c)
+  pub ramps : rampTooLong c ≡ false
+  pub shape : badWindow c ≡ false
+  pub notClosed : g .closed ≡ false
+  pub agreed : (isEmpty (g .contracts) && not (isContract c)) ≡ false
+  pub only : (not (isEmpty (g .contracts)) && isContract c) ≡ false
+  pub memory : ltb size (spanFor g c) ≡ false
+  pub inside : beyondSpan g c ≡ false
+  pub verdict : rejectedCommitted g c ≡ false
+  pub after : windowOverlaps g c ≡ false
+  pub ceased : ceaseEarly g c ≡ false
+  pub recovered : issueEarly g c ≡ false
+  pub windowed : outsideWindows g c ≡ false
+  pub unread : hasReading g c ≡ false
+  pub room : tableFull g c ≡ false
+
+pub allowed : (size : ℕ) (g : Ledger) (c : Command) → refusal false size g c ≡ none → Allowed size g c
+unfolding refusal conditions
+allowed size g c e =
+    let h = clear (conditions false size g c) e in
+    record {
+      operands = off-not (inRange c) (h .0);
+      ramps = h .1 .0;
+      shape = h .1 .1 .0;
+      notClosed = h .1 .1 .1 .1 .0;
+      agreed = h .1 .1 .1 .1 .1 .0;
+      only = h .1 .1 .1 .1 .1 .1 .0;
+      memory = h .1 .1 .1 .1 .1 .1 .1 .0;
+      inside = h .1 .1 .1 .1 .1 .1 .1 .1 .0;
+      verdict = h .1 .1 .1 .1 .1 .1 .1 .1 .1 .0;
+      after = h .1 .1 .1 .1 .1 .1 .1 .1 .1 .1 .0;
+      ceased = h .1 .1 .1 .1 .1 .1 .1 .1 .1 .1 .1 .0;
+      recovered = h .1 .1 .1 .1 .1 .1 .1 .1 .1 .1 .1 .1 .0;
+      windowed = h .1 .1 .1 .1 .1 .1 .1 .1 .1 .1 .1 .1 .1 .0;
+      unread = h .1 .1 .1 .1 .1 .1 .1 .1 .1 .1 .1 .1 .1 .1 .0;
+      room = h .1 .1 .1 .1 .1 .1 .1 .1 .1 .1 .1 .1 .1 .1 .1 .0;
+    }
