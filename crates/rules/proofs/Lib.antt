@@ -3,3 +3,5 @@ pub mod Count
 pub mod Input
 pub mod Chain
 pub mod Terms
+pub mod Opened
+pub mod Figures

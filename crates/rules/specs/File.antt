@@ -1,5 +1,5 @@
--- "The unit file": the table of command bytes and operand widths, what reading at a position gives, what a command and a book are written as,
--- and the commands that a file's bytes fix.
+-- "The unit file": the table of command bytes, operand widths and whole lengths, what reading at a position gives, what a command and a book are
+-- written as, and the commands that a file's bytes fix.
 use mathlib.Core.Bool.{Bool, true, false, cond}
 use mathlib.Core.List.{List, [], _∷_, _++_, map}
 use mathlib.Core.Option.{Option, none, some}
@@ -43,6 +43,10 @@ widthsOf b (r ∷ rs) = cond (eqb (r .byte) b) (some (r .widths)) (widthsOf b rs
 unfoldable pub total : List ℕ → ℕ
 total [] = 0
 total (w ∷ ws) = w + total ws
+
+-- the whole length of a command: one for its byte, and its operands
+abbrev pub whole : Layout → ℕ
+whole r = 1 + total (r .widths)
 
 -- the number that bytes say after n, high byte first
 unfoldable pub wordFrom : ℕ → List ℕ → ℕ
@@ -100,8 +104,9 @@ commandOf b v =
 abbrev readBody : Option (List ℕ) → List ℕ → ℕ → Read
 readBody none s at = Refused 1
 readBody (some ws) s at =
-    cond (ltb (length s - at) (1 + total ws)) (Refused 2)
-    (Got (commandOf (getD s at 0) (operands ws (drop (at + 1) s))) (at + (1 + total ws)))
+    let r : Layout = row (getD s at 0) ws in
+    cond (ltb (length s - at) (whole r)) (Refused 2)
+    (Got (commandOf (r .byte) (operands (r .widths) (drop (at + 1) s))) (at + whole r))
 
 -- what a reader finds at a position: a command and the position after it, 1, 2, or the end
 unfoldable pub readAt : List ℕ → ℕ → Read

@@ -6,3 +6,5 @@ pub mod Reached
 pub mod Segment
 pub mod Statement
 pub mod File
+pub mod Examples
+pub mod Figures
