@@ -5,3 +5,4 @@ pub mod Chain
 pub mod Terms
 pub mod Opened
 pub mod Figures
+pub mod Refused

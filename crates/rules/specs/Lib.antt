@@ -8,3 +8,4 @@ pub mod Statement
 pub mod File
 pub mod Examples
 pub mod Figures
+pub mod Refused

@@ -1,0 +1,451 @@
+-- "When a command or call is turned down", by example: for each number but 11 what gets it, beside it the nearest that is taken, and for conditions that
+-- hold at once, that the lowest number is given. 11 is a book's, so its examples stand with the book; here is where it stands among the others.
+use mathlib.Core.Path.{_≡_}
+use mathlib.Core.Bool.{Bool, true, false, not}
+use mathlib.Core.List.{List, [], _∷_, _++_, map}
+use mathlib.Core.Option.{none, some}
+use Prim.Native.Nat.{ℕ, min}
+use lib.IntN.{ℤ, pos}
+use lib.Dec.{eqb}
+use lib.ListN.{set, take, replicate}
+use Rattle.energy.specs.Lists.{filter, concatMap, isSome, between}
+use Rattle.rules.specs.Ledger.{ledgerOf, readingIn}
+use Rattle.rules.specs.Refusal.{refusal, answerOf, taken}
+use Rattle.rules.specs.Statement.{settleRefusal}
+use Rattle.rules.specs.File.{readAt, write}
+use Rattle.rules.specs.Examples.{minus, agree, guide, days, kind, service, contracted, rampup, rampdown, response, recovery, availability, utilisation, optional, flexible, accepted, rejected, offer, call, fault, metered, readings, periods, calls, appendix2, sample, sampleBytes}
+use Rattle.rules.specs.declared.entries.Command.{Command}
+use Rattle.rules.specs.declared.entries.Command.the-variants.{Contract as contractᶜ, Close as closeᶜ}
+use Rattle.rules.specs.declared.answer.Answer.{Answer}
+use Rattle.rules.specs.declared.answer.Answer.the-variants.{Taken, Refused}
+use Rattle.rules.specs.declared.file.Read.{Read}
+use Rattle.rules.specs.declared.file.Read.the-variants.{Got, End, Refused as Stopped}
+
+-- ---- what is asked, and the answer
+
+-- commands entered into the empty book, all taken, with meter memory of some size; what follows is lent meter memory of the size now
+pub record Setting : Type 0 where
+  pub size : ℕ
+  pub commands : List Command
+  pub now : ℕ
+
+-- a command, and the answer to it
+pub record Case : Type 0 where
+  pub setting : Setting
+  pub command : Command
+  pub answer : Answer
+
+-- a settlement with line memory for so many lines, and the answer to it
+pub record Settling : Type 0 where
+  pub setting : Setting
+  pub room : ℕ
+  pub answer : Answer
+
+-- a position in some bytes, and what a reader finds there
+pub record Finding : Type 0 where
+  pub bytes : List ℕ
+  pub position : ℕ
+  pub found : Read
+
+-- a setting enters a command
+abbrev pub _enters_ : Setting → Command → Answer → Case
+s enters c = λ a. record { setting = s; command = c; answer = a }
+
+-- a setting settles into line memory for n lines
+abbrev pub _settles-into_ : Setting → ℕ → Answer → Settling
+s settles-into n = λ a. record { setting = s; room = n; answer = a }
+
+-- bytes are read at a position
+abbrev pub _at_ : List ℕ → ℕ → Read → Finding
+bs at p = λ r. record { bytes = bs; position = p; found = r }
+
+module _ {A B : Type 0} where
+  infix 70 _gets_
+  -- and gets an answer
+  abbrev pub _gets_ : (A → B) → A → B
+  f gets a = f a
+
+infix 71 _enters_
+infix 71 _settles-into_
+infix 71 _at_
+-- ---- settings
+
+-- with meter memory of a day
+abbrev pub day : List Command → Setting
+day cs = record { size = 1440; commands = cs; now = 1440 }
+
+-- over some days
+abbrev pub over : ℕ → ℕ → List Command → Setting
+over n size cs = record { size = size; commands = agree (set guide days n) ∷ cs; now = size }
+
+-- the same, and then meter memory of another size
+abbrev pub lent : ℕ → Setting → Setting
+lent n s = record { size = s .size; commands = s .commands; now = n }
+
+-- the same, closed
+abbrev pub shut : Setting → Setting
+shut s = record { size = s .size; commands = s .commands ++ (closeᶜ ∷ []); now = s .now }
+
+abbrev pub empty : Setting
+empty = day []
+
+-- Appendix 2's contract and window
+abbrev pub begun : Setting
+begun = day (agree guide ∷ offer 0 180 accepted ∷ [])
+
+-- Appendix 2's contract with a recovery of 60, and its instruction, which ends at 91
+abbrev pub resting : Setting
+resting = day (agree (set guide recovery 60) ∷ offer 150 180 accepted ∷ call 5 85 ∷ [])
+
+-- n windows in 3 days
+abbrev pub windows : ℕ → Setting
+windows n = over 3 4320 (periods n 0)
+
+-- 64 instructions in 2 days, the last one ending with the span
+abbrev pub called : Setting
+called = over 2 2880 (calls 63 3 ++ (call 1641 2874 ∷ []))
+
+-- n defaults in Appendix 2's window
+abbrev pub faulty : ℕ → Setting
+faulty n = day (agree guide ∷ offer 0 180 accepted ∷ replicate n (fault 0 1 1))
+
+-- a reading in minute 7
+abbrev pub read : Setting
+read = day (agree guide ∷ metered 7 (pos 0) ∷ [])
+
+-- Appendix 2's contract with a negative kW, which no unit file can say
+abbrev pub negative : Command
+negative =
+    contractᶜ
+    (record {
+      days = 1;
+      kind = 0;
+      service = 0;
+      contracted = record { 0 = minus 12000 };
+      rampup = 2000;
+      rampdown = 2000;
+      response = record { 0 = 20 };
+      recovery = record { 0 = 0 };
+      availability = 900;
+      utilisation = 30000;
+      optional = 55000;
+    })
+
+-- ---- from the input
+
+-- 3: each operand outside its range, on either side, and on its edges. What gets another number than 3 is in its range
+abbrev pub operandCases : List Case
+operandCases =
+    empty enters agree (set guide days 0) gets Refused 3
+    ∷ empty enters agree (set guide days 32) gets Refused 3
+    ∷ empty enters agree (set guide kind 2) gets Refused 3
+    ∷ empty enters agree (set guide service 2) gets Refused 3
+    ∷ empty enters agree (set guide contracted 2999) gets Refused 3
+    ∷ empty enters agree (set guide contracted 500001) gets Refused 3
+    ∷ empty enters negative gets Refused 3
+    ∷ empty enters agree (set guide rampup 0) gets Refused 3
+    ∷ empty enters agree (set guide rampup 1) gets Refused 4
+    ∷ empty enters agree (set guide rampup 500000) gets Taken
+    ∷ empty enters agree (set guide rampup 500001) gets Refused 3
+    ∷ empty enters agree (set guide rampdown 0) gets Refused 3
+    ∷ empty enters agree (set guide rampdown 1) gets Refused 4
+    ∷ empty enters agree (set guide rampdown 500000) gets Taken
+    ∷ empty enters agree (set guide rampdown 500001) gets Refused 3
+    ∷ empty enters agree (set guide response 0) gets Refused 3
+    ∷ empty enters agree (set guide response 241) gets Refused 3
+    ∷ empty enters agree (set guide recovery 1201) gets Refused 3
+    ∷ empty enters agree (set guide availability 1000001) gets Refused 3
+    ∷ empty enters agree (set guide utilisation 1000001) gets Refused 3
+    ∷ empty enters agree (set guide optional 1000001) gets Refused 3
+    ∷ empty enters agree (1 ∷ 0 ∷ 0 ∷ 3000 ∷ 3000 ∷ 3000 ∷ 1 ∷ 0 ∷ 0 ∷ 0 ∷ 0 ∷ []) gets Taken
+    ∷ lent 44640 empty enters agree (31 ∷ 1 ∷ 1 ∷ 500000 ∷ 500000 ∷ 500000 ∷ 240 ∷ 1200 ∷ 1000000 ∷ 1000000 ∷ 1000000 ∷ []) gets Taken
+    ∷ begun enters offer 44641 210 accepted gets Refused 3
+    ∷ begun enters offer 44640 210 accepted gets Refused 5
+    ∷ begun enters offer 180 44641 accepted gets Refused 3
+    ∷ over 31 44640 [] enters offer 0 44640 accepted gets Taken
+    ∷ begun enters offer 180 210 2 gets Refused 3
+    ∷ begun enters call 2 85 gets Refused 3
+    ∷ begun enters call 3 85 gets Taken
+    ∷ begun enters call 44640 85 gets Refused 19
+    ∷ begun enters call 44641 85 gets Refused 3
+    ∷ begun enters call 5 0 gets Refused 19
+    ∷ begun enters call 5 44640 gets Refused 16
+    ∷ begun enters call 5 44641 gets Refused 3
+    ∷ begun enters fault 44640 1 1 gets Refused 16
+    ∷ begun enters fault 44641 1 1 gets Refused 3
+    ∷ begun enters fault 0 0 1 gets Refused 3
+    ∷ begun enters fault 0 1 0 gets Refused 3
+    ∷ begun enters fault 0 1 1 gets Taken
+    ∷ begun enters fault 0 2 2 gets Taken
+    ∷ begun enters fault 0 3 3 gets Taken
+    ∷ begun enters fault 0 4 1 gets Taken
+    ∷ begun enters fault 0 5 1 gets Refused 3
+    ∷ begun enters fault 0 1 4 gets Refused 3
+    ∷ begun enters metered 44640 (pos 0) gets Refused 16
+    ∷ begun enters metered 44641 (pos 0) gets Refused 3
+    ∷ begun enters metered 0 (minus 500001) gets Refused 3
+    ∷ begun enters metered 0 (minus 500000) gets Taken
+    ∷ begun enters metered 0 (pos 500000) gets Taken
+    ∷ begun enters metered 0 (pos 500001) gets Refused 3
+    ∷ []
+
+-- 4: U is 21 and 20 with a response of 20; V is 245 and 240. 5: start and end, and multiples of 30
+abbrev pub inputCases : List Case
+inputCases =
+    empty enters agree (set guide rampup 599) gets Refused 4
+    ∷ empty enters agree (set guide rampup 600) gets Taken
+    ∷ empty enters agree (set guide rampdown 49) gets Refused 4
+    ∷ empty enters agree (set guide rampdown 50) gets Taken
+    ∷ begun enters offer 210 180 accepted gets Refused 5
+    ∷ begun enters offer 180 180 accepted gets Refused 5
+    ∷ begun enters offer 180 210 accepted gets Taken
+    ∷ begun enters offer 181 210 accepted gets Refused 5
+    ∷ begun enters offer 180 209 accepted gets Refused 5
+    ∷ []
+
+-- ---- from the state
+
+-- 12, 13, 14: every command to a closed book and without a contract, and a second contract
+abbrev pub bookCases : List Case
+bookCases =
+    shut begun enters agree guide gets Refused 12
+    ∷ shut begun enters offer 180 210 accepted gets Refused 12
+    ∷ shut begun enters call 5 85 gets Refused 12
+    ∷ shut begun enters fault 0 1 1 gets Refused 12
+    ∷ shut begun enters metered 0 (pos 0) gets Refused 12
+    ∷ shut begun enters closeᶜ gets Refused 12
+    ∷ empty enters offer 0 180 accepted gets Refused 13
+    ∷ empty enters call 5 85 gets Refused 13
+    ∷ empty enters fault 0 1 1 gets Refused 13
+    ∷ empty enters metered 0 (pos 0) gets Refused 13
+    ∷ empty enters closeᶜ gets Refused 13
+    ∷ empty enters agree guide gets Taken
+    ∷ begun enters agree guide gets Refused 14
+    ∷ begun enters closeᶜ gets Taken
+    ∷ []
+
+-- 15: a contract goes by its own span, every other command by the book's. 16: the end f of an instruction counts
+abbrev pub spanCases : List Case
+spanCases =
+    lent 1439 empty enters agree guide gets Refused 15
+    ∷ lent 1440 empty enters agree guide gets Taken
+    ∷ lent 4319 empty enters agree (set guide days 3) gets Refused 15
+    ∷ lent 1439 begun enters offer 180 210 accepted gets Refused 15
+    ∷ lent 1439 begun enters call 5 85 gets Refused 15
+    ∷ lent 1439 begun enters fault 0 1 1 gets Refused 15
+    ∷ lent 1439 begun enters metered 0 (pos 0) gets Refused 15
+    ∷ lent 1439 begun enters closeᶜ gets Refused 15
+    ∷ begun enters offer 1410 1470 accepted gets Refused 16
+    ∷ begun enters offer 1410 1440 accepted gets Taken
+    ∷ begun enters call 5 1435 gets Refused 16
+    ∷ begun enters call 5 1434 gets Taken
+    ∷ day (agree guide ∷ offer 1410 1440 accepted ∷ []) enters fault 1440 1 1 gets Refused 16
+    ∷ day (agree guide ∷ offer 1410 1440 accepted ∷ []) enters fault 1439 1 1 gets Taken
+    ∷ begun enters metered 1440 (pos 0) gets Refused 16
+    ∷ begun enters metered 1439 (pos 0) gets Taken
+    ∷ []
+
+-- 17 and 18: touching is allowed. 19 and 20: so is it here, and 20 asks nothing of the first instruction
+abbrev pub orderCases : List Case
+orderCases =
+    begun enters offer 180 210 rejected gets Refused 17
+    ∷ day (agree (set guide service flexible) ∷ []) enters offer 180 210 rejected gets Taken
+    ∷ begun enters offer 150 210 accepted gets Refused 18
+    ∷ begun enters offer 180 210 accepted gets Taken
+    ∷ begun enters call 5 24 gets Refused 19
+    ∷ begun enters call 5 25 gets Taken
+    ∷ resting enters call 150 170 gets Refused 20
+    ∷ resting enters call 151 171 gets Taken
+    ∷ day (agree (set guide recovery 60) ∷ []) enters call 3 85 gets Taken
+    ∷ []
+
+-- 21: a window's end is not in it, and a rejected or an excluded window counts. 22: a minute's second reading. 23: each table
+abbrev pub tableCases : List Case
+tableCases =
+    begun enters fault 180 1 1 gets Refused 21
+    ∷ begun enters fault 179 1 1 gets Taken
+    ∷ resting enters fault 149 1 1 gets Refused 21
+    ∷ resting enters fault 150 1 1 gets Taken
+    ∷ day (agree (set guide service flexible) ∷ offer 0 180 rejected ∷ []) enters fault 0 1 1 gets Taken
+    ∷ read enters metered 7 (pos 1) gets Refused 22
+    ∷ read enters metered 8 (pos 1) gets Taken
+    ∷ windows 128 enters offer 3840 3870 accepted gets Refused 23
+    ∷ windows 127 enters offer 3810 3840 accepted gets Taken
+    ∷ over 2 2880 (calls 64 3) enters call 1667 1687 gets Refused 23
+    ∷ over 2 2880 (calls 63 3) enters call 1641 1661 gets Taken
+    ∷ faulty 128 enters fault 0 1 1 gets Refused 23
+    ∷ faulty 127 enters fault 0 1 1 gets Taken
+    ∷ []
+
+-- ---- the lowest number is given: beside the number that each of these gets, the later ones of its group hold too
+
+abbrev pub lowestCases : List Case
+lowestCases =
+    -- a contract: 3 4 12 14 15
+    lent 1439 (shut begun) enters agree (set (set guide contracted 500001) rampup 1) gets Refused 3
+    ∷ lent 1439 (shut begun) enters agree (set guide rampup 1) gets Refused 4
+    ∷ lent 1439 (shut begun) enters agree guide gets Refused 12
+    ∷ lent 1439 begun enters agree guide gets Refused 14
+    ∷ begun enters agree (set guide days 2) gets Refused 14
+    ∷ lent 1439 empty enters agree (set guide rampup 1) gets Refused 4
+    -- a window: 3 5 12 15 16 17 18 23
+    ∷ lent 4319 (shut (windows 128)) enters offer 31 44641 rejected gets Refused 3
+    ∷ lent 4319 (shut (windows 128)) enters offer 31 44640 rejected gets Refused 5
+    ∷ lent 4319 (shut (windows 128)) enters offer 30 44640 rejected gets Refused 12
+    ∷ lent 4319 (windows 128) enters offer 30 44640 rejected gets Refused 15
+    ∷ windows 128 enters offer 30 44640 rejected gets Refused 16
+    ∷ windows 128 enters offer 30 60 rejected gets Refused 17
+    ∷ windows 128 enters offer 30 60 accepted gets Refused 18
+    -- without a contract: 3 5 13, and 16 with a span of 0
+    ∷ empty enters offer 31 44641 rejected gets Refused 3
+    ∷ empty enters offer 31 60 rejected gets Refused 5
+    ∷ empty enters offer 30 60 rejected gets Refused 13
+    -- an instruction: 3 12 15 16 19 20 23, but 3 holds with 16 only where 20 does not
+    ∷ lent 2879 (shut called) enters call 2 10 gets Refused 3
+    ∷ called enters call 44641 44640 gets Refused 3
+    ∷ lent 2879 (shut called) enters call 2870 2875 gets Refused 12
+    ∷ lent 2879 called enters call 2870 2875 gets Refused 15
+    ∷ called enters call 2870 2875 gets Refused 16
+    ∷ called enters call 2870 2874 gets Refused 19
+    ∷ called enters call 2850 2874 gets Refused 20
+    ∷ empty enters call 2 10 gets Refused 3
+    -- a default: 3 12 15 16 21 23
+    ∷ lent 1439 (shut (faulty 128)) enters fault 44641 1 1 gets Refused 3
+    ∷ lent 1439 (shut (faulty 128)) enters fault 1440 1 1 gets Refused 12
+    ∷ lent 1439 (faulty 128) enters fault 1440 1 1 gets Refused 15
+    ∷ faulty 128 enters fault 1440 1 1 gets Refused 16
+    ∷ faulty 128 enters fault 180 1 1 gets Refused 21
+    ∷ empty enters fault 0 0 1 gets Refused 3
+    -- a reading: 3 12 15 22, and 16 in a minute past the span
+    ∷ lent 1439 (shut read) enters metered 7 (pos 500001) gets Refused 3
+    ∷ lent 1439 (shut read) enters metered 7 (pos 0) gets Refused 12
+    ∷ lent 1439 read enters metered 7 (pos 0) gets Refused 15
+    ∷ lent 1439 (shut read) enters metered 1440 (pos 500001) gets Refused 3
+    ∷ lent 1439 (shut read) enters metered 1440 (pos 0) gets Refused 12
+    ∷ lent 1439 read enters metered 1440 (pos 0) gets Refused 15
+    ∷ empty enters metered 7 (pos 500001) gets Refused 3
+    -- a close: 12 15
+    ∷ lent 1439 (shut begun) enters closeᶜ gets Refused 12
+    ∷ []
+
+-- 11 comes after 5 and before 12: the answer in a book that no list of commands leaves
+abbrev pub orEleven : Answer → Answer
+orEleven Taken = Refused 11
+orEleven (Refused n) = Refused (min n 11)
+
+-- ---- settling
+
+-- commands without the reading of minute m
+abbrev pub without : ℕ → List Command → List Command
+without m cs = filter (λ c. not (isSome (readingIn c m))) cs
+
+-- two instructions, the second one's base minutes 29 to 32 right after the first one's end, and readings of 0 kW in all needed minutes
+abbrev pub twice : List Command
+twice =
+    agree guide ∷ call 3 23 ∷ call 32 52
+    ∷ (readings 0 (replicate 4 (pos 0)) ++ readings 17 (replicate 16 (pos 0)) ++ readings 46 (replicate 12 (pos 0)) ++ (closeᶜ ∷ []))
+
+-- 24: an open book, the empty one too. 25: base, ramp up, steady and ramp down minutes, and none but these. 26: a line too many
+abbrev pub settlings : List Settling
+settlings =
+    empty settles-into 6 gets Refused 24
+    ∷ begun settles-into 6 gets Refused 24
+    ∷ shut begun settles-into 0 gets Taken
+    ∷ day appendix2 settles-into 7 gets Taken
+    ∷ day appendix2 settles-into 6 gets Taken
+    ∷ day appendix2 settles-into 5 gets Refused 26
+    ∷ day (without 2 appendix2) settles-into 6 gets Refused 25
+    ∷ day (without 3 appendix2) settles-into 6 gets Refused 25
+    ∷ day (without 4 appendix2) settles-into 6 gets Refused 25
+    ∷ day (without 5 appendix2) settles-into 6 gets Refused 25
+    ∷ day (without 19 appendix2) settles-into 6 gets Refused 25
+    ∷ day (without 24 appendix2) settles-into 6 gets Refused 25
+    ∷ day (without 25 appendix2) settles-into 6 gets Refused 25
+    ∷ day (without 84 appendix2) settles-into 6 gets Refused 25
+    ∷ day (without 85 appendix2) settles-into 6 gets Refused 25
+    ∷ day (without 90 appendix2) settles-into 6 gets Refused 25
+    ∷ day (without 1 (without 6 (without 18 (without 91 appendix2)))) settles-into 6 gets Taken
+    ∷ day twice settles-into 6 gets Taken
+    ∷ day (without 0 twice) settles-into 6 gets Refused 25
+    ∷ day (without 28 twice) settles-into 6 gets Refused 25
+    ∷ day (without 29 twice) settles-into 6 gets Refused 25
+    ∷ day (without 46 twice) settles-into 6 gets Refused 25
+    -- 15 24 25 26, each with the later ones
+    ∷ lent 1439 (day (agree guide ∷ call 5 85 ∷ [])) settles-into 0 gets Refused 15
+    ∷ day (agree guide ∷ call 5 85 ∷ []) settles-into 0 gets Refused 24
+    ∷ shut (day (agree guide ∷ call 5 85 ∷ [])) settles-into 0 gets Refused 25
+    ∷ lent 1439 (day appendix2) settles-into 6 gets Refused 15
+    ∷ []
+
+-- ---- reading
+
+-- each command whole; 2 with a byte less, or its own byte alone; 1 at another byte; the end, and past it
+abbrev pub findings : List Finding
+findings =
+    sampleBytes at 0 gets Got (agree guide) 32
+    ∷ sampleBytes at 32 gets Got (offer 0 180 accepted) 38
+    ∷ sampleBytes at 38 gets Got (call 5 85) 43
+    ∷ sampleBytes at 43 gets Got (fault 31 4 1) 48
+    ∷ sampleBytes at 48 gets Got (metered 7 (minus 1)) 55
+    ∷ sampleBytes at 55 gets Got closeᶜ 56
+    ∷ sampleBytes at 56 gets End
+    ∷ sampleBytes at 57 gets End
+    ∷ [] at 0 gets End
+    ∷ take 31 sampleBytes at 0 gets Stopped 2
+    ∷ take 32 sampleBytes at 0 gets Got (agree guide) 32
+    ∷ take 32 sampleBytes at 32 gets End
+    ∷ take 33 sampleBytes at 32 gets Stopped 2
+    ∷ take 37 sampleBytes at 32 gets Stopped 2
+    ∷ take 42 sampleBytes at 38 gets Stopped 2
+    ∷ take 47 sampleBytes at 43 gets Stopped 2
+    ∷ take 54 sampleBytes at 48 gets Stopped 2
+    ∷ sampleBytes at 1 gets Stopped 1
+    ∷ (0x4D ∷ 0xAE ∷ 0x61 ∷ 0x7F ∷ 0xFF ∷ 0xFF ∷ 0xFF ∷ []) at 0 gets Got (metered 44641 (pos 2147483647)) 7
+    ∷ (0x4D ∷ 0x00 ∷ 0x00 ∷ 0x80 ∷ 0x00 ∷ 0x00 ∷ 0x00 ∷ []) at 0 gets Got (metered 0 (minus 2147483648)) 7
+    ∷ []
+
+-- a reader stops with 1
+abbrev pub isUnknown : Read → Bool
+isUnknown (Got c next) = false
+isUnknown (Stopped n) = eqb n 1
+isUnknown End = false
+
+-- ---- the promise
+
+-- of a list of commands
+pub record Entered (cases : List Case) : Type 0 where
+  -- those of each setting are taken
+  pub settings : map (λ c. taken (c .setting .size) (c .setting .commands)) cases ≡ map (λ c. c .setting .commands) cases
+  -- and after them the command gets its answer
+  pub answers :
+      map (λ c. answerOf (refusal false (c .setting .now) (ledgerOf (c .setting .commands)) (c .command))) cases ≡ map (λ c. c .answer) cases
+  -- or 11, unless a lower number holds, in a book that no list of commands leaves
+  pub unleft :
+      map (λ c. answerOf (refusal true (c .setting .now) (ledgerOf (c .setting .commands)) (c .command))) cases
+      ≡ map (λ c. orEleven (c .answer)) cases
+
+-- the same of a list of settlements
+pub record Settled (cases : List Settling) : Type 0 where
+  pub settings : map (λ s. taken (s .setting .size) (s .setting .commands)) cases ≡ map (λ s. s .setting .commands) cases
+  pub answers :
+      map (λ s. answerOf (settleRefusal false (s .setting .now) (s .room) (ledgerOf (s .setting .commands)))) cases ≡ map (λ s. s .answer) cases
+  pub unleft :
+      map (λ s. answerOf (settleRefusal true (s .setting .now) (s .room) (ledgerOf (s .setting .commands)))) cases
+      ≡ map (λ s. orEleven (s .answer)) cases
+
+-- every example above
+pub record Refusals : Type 0 where
+  pub operands : Entered operandCases
+  pub inputs : Entered inputCases
+  pub books : Entered bookCases
+  pub spans : Entered spanCases
+  pub orders : Entered orderCases
+  pub tables : Entered tableCases
+  pub lowest : Entered lowestCases
+  pub settling : Settled settlings
+  -- what is found at each position
+  pub reading : map (λ f. readAt (f .bytes) (f .position)) findings ≡ map (λ f. f .found) findings
+  -- the only bytes that do not get 1
+  pub known : filter (λ b. not (isUnknown (readAt (b ∷ []) 0))) (between 0 256) ≡ 0x43 ∷ 0x44 ∷ 0x49 ∷ 0x4D ∷ 0x57 ∷ 0x5A ∷ []
+  -- a command of each kind is written as it is read
+  pub writing : concatMap write sample ≡ sampleBytes
