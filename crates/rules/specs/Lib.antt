@@ -9,3 +9,5 @@ pub mod File
 pub mod Examples
 pub mod Figures
 pub mod Refused
+pub mod Bounds
+pub mod Reread
