@@ -1,10 +1,8 @@
 -- Laws of tests, which are Bools: a test that holds, `T b` or `b ≡ true`, one that does not, and tests of whole lists.
-use mathlib.Core.Path.{_≡_, refl, sym, ap, _∙_, subst}
-use mathlib.Core.Logic.{_≢_}
+use mathlib.Core.Path.{_≡_, refl, sym, subst}
 use mathlib.Core.Bool.{Bool, true, false, not, _&&_, _||_, true≢false, false≢true}
 use mathlib.Core.List.{List, [], _∷_, _++_}
-use Prim.Native.Nat.{ℕ, suc, _≤_, _<_}
-use lib.Dec.{T, leb, ltb, eqb, leb→le, le→leb, ltb→lt, lt→ltb, nleb→lt, nltb→le, eqb→eq, eqb-refl}
+use lib.Dec.{T}
 use Rattle.energy.specs.Lists.{pass, all, any}
 pub use borrow.Author.Tests.{eq-eqb as eq-true, ne-eqb as eq-false, leb-false as off-leb, ltb-false as off-ltb}
 

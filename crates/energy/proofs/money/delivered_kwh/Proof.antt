@@ -1,10 +1,8 @@
 -- `energy::money::delivered_kwh` meets its contract. Raised by 500,000 kWh the quarters are no longer negative. Assumes nothing.
-use mathlib.Core.Path.{_≡_, _∙_}
-use Prim.Native.Nat.{ℕ, _≤_}
 use native.Mathlib.Omega.{arith}
-use lib.IntN.{ℤ, pos, natAbs, _+ℤ_, _-ℤ_}
+use lib.IntN.{ℤ, pos, _+ℤ_, _-ℤ_}
 use mir.Syntax.{w32, w64}
-use mir.Val.{SFits, toZ}
+use mir.Val.{SFits}
 use mir.Facts.{toZ-ofZ}
 use mir.ValLaws.{toZ-pos}
 use Rattle.energy.proofs.Integers.{add-parts, fits-parts, nonNeg-parts}

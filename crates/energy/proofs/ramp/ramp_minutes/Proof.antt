@@ -1,6 +1,6 @@
 -- `energy::ramp::ramp_minutes` meets its contract. The sum fits 64 bits, and the quotient is at most kw + 1. Assumes nothing.
 use mathlib.Core.Path.{_≡_, refl, sym}
-use Prim.Native.Nat.{_+_, _-_, _/_}
+use Prim.Native.Nat.{_+_, _-_}
 use native.Mathlib.Nat.{div-zero, lt-of-le-of-lt}
 use native.Mathlib.Omega.{arith}
 use borrow.Author.Needs.{needs}
