@@ -56,6 +56,6 @@ corners =
       reach3 = refl;
       delivery = refl;
       once = refl;
-      month = refl;
+      wholeMonth = refl;
       notLive = refl;
     }

@@ -16,5 +16,5 @@ pub mod Opened
 pub mod Figures
 pub mod Refused
 pub mod Bounds
-pub mod Bytes
+pub mod Operands
 pub mod Reread

@@ -15,7 +15,7 @@ use Rattle.rules.specs.Refusal.{refusal, taken}
 use Rattle.rules.specs.Segment.{live}
 use Rattle.rules.specs.Statement.{lines, statementOf, windowsPaid, penalty, periodPence, nothing, settleRefusal}
 use Rattle.rules.specs.File.{table, whole, bytesOf, wordFrom}
-use Rattle.rules.specs.Examples.{minus, agree, guide, service, recovery, response, rampup, rampdown, flexible, accepted, rejected, offer, call, fault, readings, periods, faults, generated, month, appendix2, appendix3, ledger}
+use Rattle.rules.specs.Examples.{minus, agree, guide, service, recovery, response, rampup, rampdown, flexible, accepted, rejected, offer, call, fault, readings, periods, faults, generated, opening, month, appendix2, appendix3, ledger}
 use Rattle.rules.specs.declared.entries.Command.{Command}
 use Rattle.rules.specs.declared.statement.Stage.{Stage}
 use Rattle.rules.specs.declared.statement.Stage.the-variants.{Up, Steady, Down}
@@ -45,10 +45,6 @@ pays n p = record { periods = n; pence = record { 0 = pos p } }
 -- Appendix 2's contract with another recovery, two windows after its instruction, and the instruction
 abbrev pub afterwards : ℕ → List Command
 afterwards r = agree (set guide recovery r) ∷ offer 150 180 accepted ∷ offer 180 210 accepted ∷ call 5 85 ∷ []
-
--- Appendix 2 until its instruction
-abbrev pub begun : List Command
-begun = agree guide ∷ offer 0 180 accepted ∷ []
 
 -- the twelve figures
 pub record Figures : Type 0 where
@@ -92,8 +88,8 @@ pub record Figures : Type 0 where
   -- F7: with none, neither is
   pub F7-live : map (live (ledger (afterwards 0))) (ledger (afterwards 0) .windows) ≡ true ∷ true ∷ []
   -- F8: P 1, and P 30 for 31 faulted windows, of 32
-  pub F8-one : penalty (ledger (begun ++ (fault 0 1 1 ∷ []))) ≡ 1
-  pub F8-pence : periodPence (ledger (begun ++ (fault 0 1 1 ∷ []))) ≡ pos 5346
+  pub F8-one : penalty (ledger (opening ++ (fault 0 1 1 ∷ []))) ≡ 1
+  pub F8-pence : periodPence (ledger (opening ++ (fault 0 1 1 ∷ []))) ≡ pos 5346
   pub F8-many : windowsPaid (ledger (agree guide ∷ (periods 32 0 ++ faults 31 0))) ≡ replicate 31 (pays 0 0) ++ (pays 1 3780 ∷ [])
   -- F9: high byte first
   pub F9-write : bytesOf 4 15000 ≡ 0x00 ∷ 0x00 ∷ 0x3A ∷ 0x98 ∷ []
@@ -102,9 +98,9 @@ pub record Figures : Type 0 where
   pub F10-plus : payment (pos 50) 30 ≡ pos 2
   pub F10-minus : payment (minus 50) 30 ≡ minus 1
   -- F11: cease at the response's expiry is taken and gives three lines, a minute earlier gets 19
-  pub F11-25 : refusal false 1440 (ledger begun) (call 5 25) ≡ none
-  pub F11-lines : length (lines (ledger (begun ++ (call 5 25 ∷ [])))) ≡ 3
-  pub F11-24 : refusal false 1440 (ledger begun) (call 5 24) ≡ some 19
+  pub F11-25 : refusal false 1440 (ledger opening) (call 5 25) ≡ none
+  pub F11-lines : length (lines (ledger (opening ++ (call 5 25 ∷ [])))) ≡ 3
+  pub F11-24 : refusal false 1440 (ledger opening) (call 5 24) ≡ some 19
   -- F12: F1 under a flexible contract, with its window rejected
   pub F12 :
       first (row 0 0 Up Optional (pos 0) (pos 0) (pos 0) (pos 0)) (lines (ledger (month (set guide service flexible) rejected generated)))
@@ -161,14 +157,14 @@ pub record Corners : Type 0 where
   pub inRecovery : paying (recovering 65 150) ≡ pays 0 0 ∷ []
   pub afterRecovery : paying (recovering 64 150) ≡ pays 1 5400 ∷ []
   -- reaches 1, 2 and 3, in the second of six periods
-  pub reach1 : paying (begun ++ (fault 31 2 1 ∷ [])) ≡ pays 5 26730 ∷ []
-  pub reach2 : paying (begun ++ (fault 31 2 2 ∷ [])) ≡ pays 0 0 ∷ []
-  pub reach3 : paying (begun ++ (fault 59 3 3 ∷ [])) ≡ pays 1 5346 ∷ []
+  pub reach1 : paying (opening ++ (fault 31 2 1 ∷ [])) ≡ pays 5 26730 ∷ []
+  pub reach2 : paying (opening ++ (fault 31 2 2 ∷ [])) ≡ pays 0 0 ∷ []
+  pub reach3 : paying (opening ++ (fault 59 3 3 ∷ [])) ≡ pays 1 5346 ∷ []
   -- a delivery default leaves its periods unpaid and is not in P
-  pub delivery : paying (begun ++ (fault 31 4 1 ∷ [])) ≡ pays 5 27000 ∷ []
+  pub delivery : paying (opening ++ (fault 31 4 1 ∷ [])) ≡ pays 5 27000 ∷ []
   -- two defaults in one window are 1 in P
-  pub once : paying (begun ++ (fault 0 1 1 ∷ fault 30 1 1 ∷ [])) ≡ pays 4 21384 ∷ []
+  pub once : paying (opening ++ (fault 0 1 1 ∷ fault 30 1 1 ∷ [])) ≡ pays 4 21384 ∷ []
   -- P is for the whole month, and a window that is not live counts for nothing
-  pub month : paying (agree guide ∷ (periods 2 0 ++ (fault 0 1 1 ∷ []))) ≡ pays 0 0 ∷ pays 1 5346 ∷ []
+  pub wholeMonth : paying (agree guide ∷ (periods 2 0 ++ (fault 0 1 1 ∷ []))) ≡ pays 0 0 ∷ pays 1 5346 ∷ []
   pub notLive :
       paying (agree (set guide service flexible) ∷ offer 0 30 rejected ∷ offer 30 60 accepted ∷ fault 0 1 1 ∷ []) ≡ pays 0 0 ∷ pays 1 5400 ∷ []
