@@ -1,7 +1,7 @@
--- F1 to F12 and the corners, by computation.
+-- F1 to F12 and the examples beside them, by computation.
 use mathlib.Core.Path.{refl}
 use Rattle.rules.specs.Examples.{ledger}
-use Rattle.rules.specs.Figures.{Figures, Corners}
+use Rattle.rules.specs.Figures.{Figures, Corners, Wholes}
 use Rattle.rules.proofs.Opened.{opened}
 
 pub figures : Figures
@@ -44,13 +44,17 @@ corners =
       base = refl;
       most = refl;
       ramps = refl;
+      rampsIn = refl;
+      rampsOut = refl;
       rampsOutside = refl;
-      rampsAfter = refl;
       rampsExcluded = refl;
+      numbers = refl;
       atEnd = refl;
       afterEnd = refl;
       inRecovery = refl;
       afterRecovery = refl;
+      someRecovery = refl;
+      noRecovery = refl;
       reach1 = refl;
       reach2 = refl;
       reach3 = refl;
@@ -58,4 +62,18 @@ corners =
       once = refl;
       wholeMonth = refl;
       notLive = refl;
+    }
+
+pub wholes : Wholes
+unfolding opened ledger
+wholes =
+    record {
+      pence = refl;
+      total = refl;
+      energy = refl;
+      amount = refl;
+      allowed = refl;
+      ordered = refl;
+      closed = refl;
+      noBytes = refl;
     }
