@@ -1,7 +1,7 @@
--- F1 to F12 and the examples beside them, by computation.
+-- F1 to F12, by computation.
 use mathlib.Core.Path.{refl}
 use Rattle.rules.specs.Examples.{ledger}
-use Rattle.rules.specs.Figures.{Figures, Corners, Wholes}
+use Rattle.rules.specs.Figures.{Figures}
 use Rattle.rules.proofs.Opened.{opened}
 
 pub figures : Figures
@@ -35,45 +35,4 @@ figures =
       F11-24 = refl;
       F12 = refl;
       lengths = refl;
-    }
-
-pub corners : Corners
-unfolding opened ledger
-corners =
-    record {
-      base = refl;
-      most = refl;
-      ramps = refl;
-      rampsIn = refl;
-      rampsOut = refl;
-      rampsOutside = refl;
-      rampsExcluded = refl;
-      numbers = refl;
-      atEnd = refl;
-      afterEnd = refl;
-      inRecovery = refl;
-      afterRecovery = refl;
-      someRecovery = refl;
-      noRecovery = refl;
-      reach1 = refl;
-      reach2 = refl;
-      reach3 = refl;
-      delivery = refl;
-      once = refl;
-      wholeMonth = refl;
-      notLive = refl;
-    }
-
-pub wholes : Wholes
-unfolding opened ledger
-wholes =
-    record {
-      pence = refl;
-      total = refl;
-      energy = refl;
-      amount = refl;
-      allowed = refl;
-      ordered = refl;
-      closed = refl;
-      noBytes = refl;
     }
