@@ -14,6 +14,7 @@ pub mod LineBound
 pub mod Busiest
 pub mod Opened
 pub mod Figures
+pub mod Corners
 pub mod Refused
 pub mod Bounds
 pub mod Operands
