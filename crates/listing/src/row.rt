@@ -1,10 +1,10 @@
 // A row by value: its bytes, and how many there are. Appending hands back the longer row.
-ghost use mathlib.Core.List.{[], _∷_};
+ghost use mathlib.Core.List.{[]};
 ghost use mathlib.Core.Path.{_≡_};
 ghost use Rattle.listing.specs.Row.{putAll, putByte, rowOf};
 ghost use Rattle.listing.specs.Rows.{digits, signedDigits};
 
-// The longest row has 112 bytes.
+// The longest row has 112 bytes: an L row with counts of ten digits and amounts of 20 bytes. Bytes past the length are zeros.
 pub struct Row {
     pub bytes: [u8; 128],
     pub len: usize,
