@@ -5,6 +5,7 @@ pub mod Terms
 pub mod Taken
 pub mod Tables
 pub mod Reached
+pub mod Replay
 pub mod Cuts
 pub mod Count
 pub mod Partition
@@ -20,3 +21,4 @@ pub mod Bounds
 pub mod Operands
 pub mod Reread
 pub mod FileLength
+pub mod Rewritten
