@@ -32,6 +32,7 @@ unfoldable pub Accepted : ℕ → Ledger → List Command → Type 0
 Accepted size g [] = Unit {0}
 Accepted size g (c ∷ cs) = (refusal false size g c ≡ none) × Accepted size (grown g c) cs
 
+-- taken after t, whose ledger that is, they all join it
 pub all-taken : (size : ℕ) (t cs : List Command) → Accepted size (ledgerOf t) cs → takenAfter size t cs ≡ t ++ cs
 unfolding Accepted takenAfter
 all-taken size t [] h = sym (append-nil t)
@@ -43,6 +44,7 @@ unfoldable pub grownAll : Ledger → List Command → Ledger
 grownAll g [] = g
 grownAll g (c ∷ cs) = grownAll (grown g c) cs
 
+-- it is the ledger of t and them
 pub ledger-grown : (t cs : List Command) → ledgerOf (t ++ cs) ≡ grownAll (ledgerOf t) cs
 unfolding grownAll
 ledger-grown t [] = ap ledgerOf (append-nil t)
@@ -96,6 +98,7 @@ held k ws is ds z f = record { contracts = k ∷ []; windows = ws; instructions 
 abbrev pub unread : ℕ → Option ℤ
 unread m = none
 
+-- the end of the last window, and when the next instruction may be issued, with one entry more
 last-added : (e : ℕ) (ws : List Window) (w : Window) → lastEnd e (ws ++ (w ∷ [])) ≡ w .end .0
 unfolding lastEnd
 last-added e [] w = refl
@@ -111,12 +114,13 @@ module _ (size : ℕ) (k : Contract) (fit : spanOf k ≤ size) where
   unfolding refusal conditions lowest isEmpty ledgerOf concatMap any
   contract-taken t s = rw (of-T (inRange (contractᶜ k)) t, not-on (rampTooLong (contractᶜ k)) s, le-ltb size (spanOf k) fit)
 
-  -- the contract
+  -- the contract of an untouched ledger
   pub contract-replay : T (inRange (contractᶜ k)) → T (not (rampTooLong (contractᶜ k)))
       → Replays size (ledgerOf []) (contractᶜ k ∷ []) (held k [] [] [] false unread)
   unfolding ledgerOf concatMap any readingOf later
   contract-replay t s = replay-cons (contract-taken t s) refl (replay-none refl)
 
+  -- a window that could be taken next is taken, and leaves the rest so
   window-taken : (ws : List Window) (w : Window) (rest : List Window) → T (windowsSound k (lastEnd 0 ws) (w ∷ rest)) → length ws < 128
       → (refusal false size (held k ws [] [] false unread) (windowᶜ w) ≡ none) × T (windowsSound k (lastEnd 0 (ws ++ (w ∷ []))) rest)
   unfolding refusal conditions lowest contractOf first isEmpty windowsSound
@@ -143,7 +147,7 @@ module _ (size : ℕ) (k : Contract) (fit : spanOf k ≤ size) where
         subst (λ e. T (windowsSound k e rest)) (sym (last-added 0 ws w)) (p .1 .1 .1 .1 .1 .0),
       )
 
-  -- the windows
+  -- all windows
   pub windows-replay : (ws : List Window) → T (windowsSound k 0 ws) → length ws ≤ 128
       → Replays size (held k [] [] [] false unread) (map windowᶜ ws) (held k ws [] [] false unread)
   unfolding lastEnd later
@@ -151,6 +155,7 @@ module _ (size : ℕ) (k : Contract) (fit : spanOf k ≤ size) where
       table-replay size 128 windowᶜ (λ ws. held k ws [] [] false unread) (λ ws rest. T (windowsSound k (lastEnd 0 ws) rest)) (λ ws w. refl) window-taken
       [] ws t (omega arith)
 
+  -- an instruction
   instruction-taken : (ws : List Window) (is : List Instruction) (i : Instruction) (rest : List Instruction)
       → T (instructionsSound k (ready k 0 is) (i ∷ rest)) → length is < 64
       → (refusal false size (held k ws is [] false unread) (instructionᶜ i) ≡ none) × T (instructionsSound k (ready k 0 (is ++ (i ∷ []))) rest)
@@ -175,7 +180,7 @@ module _ (size : ℕ) (k : Contract) (fit : spanOf k ≤ size) where
         subst (λ e. T (instructionsSound k e rest)) (sym (ready-added k 0 is i)) (p .1 .1 .1 .1 .0),
       )
 
-  -- the instructions
+  -- all instructions
   pub instructions-replay : (ws : List Window) (is : List Instruction) → T (instructionsSound k 0 is) → length is ≤ 64
       → Replays size (held k ws [] [] false unread) (map instructionᶜ is) (held k ws is [] false unread)
   unfolding ready later
@@ -184,6 +189,7 @@ module _ (size : ℕ) (k : Contract) (fit : spanOf k ≤ size) where
       (λ is i j. held k (append-nil ws j) (is ++ (i ∷ [])) [] false unread) (instruction-taken ws)
       [] is t (omega arith)
 
+  -- a default
   default-taken : (ws : List Window) (is : List Instruction) (ds : List Default) (d : Default) (rest : List Default)
       → T (all (defaultSound k ws) (d ∷ rest)) → length ds < 128
       → (refusal false size (held k ws is ds false unread) (defaultᶜ d) ≡ none) × T (all (defaultSound k ws) rest)
@@ -202,7 +208,7 @@ module _ (size : ℕ) (k : Contract) (fit : spanOf k ≤ size) where
         q .1,
       )
 
-  -- the defaults
+  -- all defaults
   pub defaults-replay : (ws : List Window) (is : List Instruction) (ds : List Default) → T (all (defaultSound k ws) ds) → length ds ≤ 128
       → Replays size (held k ws is [] false unread) (map defaultᶜ ds) (held k ws is ds false unread)
   unfolding later
