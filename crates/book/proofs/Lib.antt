@@ -2,3 +2,10 @@ pub mod Holds
 pub mod Follow
 pub mod Determined
 pub mod Left
+pub mod Tables
+pub mod Search
+pub mod Cells
+pub mod Numbers
+pub mod Walks
+pub mod Tested
+pub mod Entered
