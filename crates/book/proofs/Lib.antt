@@ -9,3 +9,4 @@ pub mod Numbers
 pub mod Walks
 pub mod Tested
 pub mod Entered
+pub mod Kept
