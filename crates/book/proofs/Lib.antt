@@ -1,7 +1,11 @@
 pub mod Tables
+pub mod Tested
 pub mod Search
 pub mod Cells
 pub mod Numbers
 pub mod Walks
-pub mod Tested
 pub mod Entered
+pub mod Holds
+pub mod Follow
+pub mod Determined
+pub mod Left

@@ -1,4 +1,5 @@
--- A segment's two sums, as the code has them: the sum of its readings, and a multiple of its length.
+-- Sums and tests over the minutes a to b - 1: a minute more, two parts, the same minute by minute, bounds; and what a segment delivers, by the sum of its
+-- readings and its length.
 use mathlib.Core.Path.{_≡_, refl, sym, ap, ap₂, _∙_}
 use mathlib.Core.Bool.{Bool, true, false, cond, _&&_}
 use mathlib.Core.List.{List, [], _∷_, _++_}

@@ -1,14 +1,13 @@
 -- Laws of appending: what a row holds after it, as long as there is room.
 use mathlib.Core.Path.{_≡_, refl, sym, _∙_, ap, subst}
-use mathlib.Core.Bool.{cond}
 use mathlib.Core.List.{List, [], _∷_, _++_, append-nil, append-assoc}
-use Prim.Native.Nat.{ℕ, zero, suc, _+_, _-_, _/_, _%_, _≤_, _<_}
+use Prim.Native.Nat.{ℕ, suc, _+_, _-_, _/_, _%_, _≤_, _<_}
 use native.Mathlib.Omega.{arith}
 use lib.ListN.{length, set, replicate, length-append}
 use lib.Seq.{append-snoc, set-append-seam, take-append-seam}
 use borrow.Author.Tests.{lt-ltb}
 use Rattle.listing.specs.Row.{Counted, rowOf, putByte, putAll}
-use Rattle.listing.specs.Rows.{digit, digits, fieldsOf, row}
+use Rattle.listing.specs.Rows.{digit, digits, fieldsOf, lineFeed, row, space}
 use Rattle.listing.specs.declared.row.Row.{Row}
 use Rattle.listing.proofs.Digits.{digits-one, digits-more}
 
@@ -23,6 +22,7 @@ put-one bs b h =
     set-append-seam bs 0 (replicate k 0) b ∙ sym (append-snoc bs b (replicate k 0)) in
     simp (lt-ltb (length bs) 128 h) cc
 
+-- bytes put behind others, as long as there is room
 put-all : (bs cs : List ℕ) → length bs + length cs ≤ 128 → putAll (rowOf bs) cs ≡ rowOf (bs ++ cs)
 put-all bs [] h = ap rowOf (sym (append-nil bs))
 put-all bs (c ∷ cs) h =
@@ -30,6 +30,7 @@ put-all bs (c ∷ cs) h =
     ∙ put-all (bs ++ (c ∷ [])) cs (rw length-append (omega arith))
     ∙ ap rowOf (append-snoc bs c cs)
 
+-- bytes put in two parts
 pub put-append : (r : Row) (xs ys : List ℕ) → putAll r (xs ++ ys) ≡ putAll (putAll r xs) ys
 put-append r [] ys = refl
 put-append r (x ∷ xs) ys = put-append (putByte r x) xs ys
@@ -49,16 +50,17 @@ put-digits r n h = sym (put-append r (digits (n / 10)) (digit (n % 10) ∷ [])) 
 -- a row with these fields more
 abbrev pub putFields : Row → List (List ℕ) → Row
 putFields r [] = r
-putFields r (f ∷ fs) = putFields (putAll r (32 ∷ f)) fs
+putFields r (f ∷ fs) = putFields (putAll r (space ∷ f)) fs
 
-fields-on : (bs : List ℕ) (fs : List (List ℕ)) → length bs + length (fieldsOf fs) ≤ 128 → putByte (putFields (rowOf bs) fs) 10 ≡ rowOf (bs ++ fieldsOf fs)
+-- fields and a line feed put behind other bytes
+fields-on : (bs : List ℕ) (fs : List (List ℕ)) → length bs + length (fieldsOf fs) ≤ 128 → putByte (putFields (rowOf bs) fs) lineFeed ≡ rowOf (bs ++ fieldsOf fs)
 unfolding fieldsOf
-fields-on bs [] h = put-one bs 10 (omega arith)
+fields-on bs [] h = put-one bs lineFeed (omega arith)
 fields-on bs (f ∷ fs) h =
-    let size : length ((32 ∷ f) ++ fieldsOf fs) ≡ suc (length f) + length (fieldsOf fs) = length-append (32 ∷ f) (fieldsOf fs) in
-    ap (λ r. putByte (putFields r fs) 10) (put-all bs (32 ∷ f) (omega arith))
-    ∙ fields-on (bs ++ (32 ∷ f)) fs (rw length-append (omega arith))
-    ∙ ap rowOf (append-assoc bs (32 ∷ f) (fieldsOf fs))
+    let size : length ((space ∷ f) ++ fieldsOf fs) ≡ suc (length f) + length (fieldsOf fs) = length-append (space ∷ f) (fieldsOf fs) in
+    ap (λ r. putByte (putFields r fs) lineFeed) (put-all bs (space ∷ f) (omega arith))
+    ∙ fields-on (bs ++ (space ∷ f)) fs (rw length-append (omega arith))
+    ∙ ap rowOf (append-assoc bs (space ∷ f) (fieldsOf fs))
 
 -- the bytes of fields and of what stands around them
 abbrev pub fieldsLength : List (List ℕ) → ℕ
@@ -68,15 +70,15 @@ fieldsLength (f ∷ fs) = suc (length f) + fieldsLength fs
 fields-length : (fs : List (List ℕ)) → length (fieldsOf fs) ≡ fieldsLength fs
 unfolding fieldsOf
 fields-length [] = refl
-fields-length (f ∷ fs) = length-append (32 ∷ f) (fieldsOf fs) ∙ ap (λ n. suc (length f) + n) (fields-length fs)
+fields-length (f ∷ fs) = length-append (space ∷ f) (fieldsOf fs) ∙ ap (λ n. suc (length f) + n) (fields-length fs)
 
 -- a letter, its fields and a line feed are the row of that letter and these fields
 pub row-put :
     (letter : ℕ) (fs : List (List ℕ)) → suc (fieldsLength fs) ≤ 128
-    → putByte (putFields (putByte (rowOf []) letter) fs) 10 ≡ rowOf (row letter fs)
+    → putByte (putFields (putByte (rowOf []) letter) fs) lineFeed ≡ rowOf (row letter fs)
 unfolding row
 row-put letter fs h =
-    ap (λ r. putByte (putFields r fs) 10) (put-one [] letter (omega arith))
+    ap (λ r. putByte (putFields r fs) lineFeed) (put-one [] letter (omega arith))
     ∙ fields-on (letter ∷ []) fs (omega (arith, fields-length fs))
 
 row-counted : (bs : List ℕ) → Counted (rowOf bs)
@@ -85,5 +87,6 @@ row-counted bs =
     let zeros : List ℕ = replicate (128 - length bs) 0 in
     (rw length-append (omega arith), ap length (sym (take-append-seam bs zeros)))
 
+-- a row's equation, with what follows from it for whoever lends its bytes
 pub counted : {r : Row} (bs : List ℕ) → r ≡ rowOf bs → (r ≡ rowOf bs) × Counted r
 counted bs e = (e, subst Counted (sym e) (row-counted bs))

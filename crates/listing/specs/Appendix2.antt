@@ -4,15 +4,13 @@ use mathlib.Core.List.{List, [], _∷_, _++_}
 use Prim.Native.Nat.{ℕ}
 use Prim.Native.Char.{code}
 use Prim.Native.String.{String, [] as end, _∷_ as _then_}
-use lib.IntN.{ℤ, pos}
+use lib.IntN.{pos}
 use lib.ListN.{replicate}
 use Rattle.rules.specs.Statement.{nothing}
 use Rattle.rules.specs.declared.statement.Stage.{Stage}
 use Rattle.rules.specs.declared.statement.Stage.the-variants.{Up, Steady, Down}
-use Rattle.rules.specs.declared.statement.Rate.{Rate}
 use Rattle.rules.specs.declared.statement.Rate.the-variants.{Utilisation}
 use Rattle.rules.specs.declared.statement.Line.{Line}
-use Rattle.rules.specs.declared.statement.Available.{Available}
 use Rattle.rules.specs.declared.statement.Statement.{Statement}
 use Rattle.listing.specs.Rows.{listing}
 

@@ -1,5 +1,5 @@
 -- "The lister": its rows as bytes. Fields stand one space apart, and a line feed ends each row.
-use mathlib.Core.Bool.{Bool, true, false}
+use mathlib.Core.Bool.{true, false}
 use mathlib.Core.List.{List, [], _∷_, _++_}
 use Prim.Native.Nat.{ℕ, zero, suc, _+_, _/_, _%_}
 use Prim.Native.Char.{code}
@@ -41,9 +41,13 @@ signedDigits (negsuc n) = code "-" ∷ digits (suc n)
 abbrev pub space : ℕ
 space = code " "
 
+-- what ends a row
+abbrev pub lineFeed : ℕ
+lineFeed = code "\n"
+
 -- the fields after a row's letter, a space before each, and a line feed
 unfoldable pub fieldsOf : List (List ℕ) → List ℕ
-fieldsOf [] = code "\n" ∷ []
+fieldsOf [] = lineFeed ∷ []
 fieldsOf (f ∷ fs) = (space ∷ f) ++ fieldsOf fs
 
 -- a row: its letter and its fields

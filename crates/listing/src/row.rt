@@ -1,10 +1,10 @@
 // A row by value: its bytes, and how many there are. Appending hands back the longer row.
-ghost use mathlib.Core.List.{[], _∷_};
+ghost use mathlib.Core.List.{[]};
 ghost use mathlib.Core.Path.{_≡_};
 ghost use Rattle.listing.specs.Row.{putAll, putByte, rowOf};
 ghost use Rattle.listing.specs.Rows.{digits, signedDigits};
 
-// The longest row has 112 bytes.
+// The longest row has 112 bytes: an L row with counts of ten digits and amounts of 20 bytes. Bytes past the length are zeros.
 pub struct Row {
     pub bytes: [u8; 128],
     pub len: usize,
@@ -43,7 +43,7 @@ impl Row {
         self.number(n / 10).put(b'0' + (n % 10) as u8)
     }
 
-    // A number with a sign. The least one has no opposite in its type, so 1 is taken off before the turn and added after it.
+    // A number with a sign. The least one has no opposite in its type, so n + 1 is turned round, and the 1 that lacks comes after.
     pub fn signed(self, n: i64) -> Row
         ensures { λ r. ⌜ r ≡ putAll self (signedDigits n) ⌝ }
     {

@@ -5,6 +5,7 @@ pub mod Terms
 pub mod Taken
 pub mod Tables
 pub mod Reached
+pub mod Replay
 pub mod Cuts
 pub mod Count
 pub mod Partition
@@ -14,7 +15,10 @@ pub mod LineBound
 pub mod Busiest
 pub mod Opened
 pub mod Figures
+pub mod Corners
 pub mod Refused
 pub mod Bounds
 pub mod Operands
 pub mod Reread
+pub mod FileLength
+pub mod Rewritten

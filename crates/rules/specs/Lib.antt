@@ -9,6 +9,9 @@ pub mod Lines
 pub mod File
 pub mod Examples
 pub mod Figures
+pub mod Corners
 pub mod Refused
 pub mod Bounds
 pub mod Reread
+pub mod FileLength
+pub mod Rewritten

@@ -161,6 +161,7 @@ operandCases =
     ∷ lent 44640 empty enters agree (31 ∷ 1 ∷ 1 ∷ 500000 ∷ 500000 ∷ 500000 ∷ 240 ∷ 1200 ∷ 1000000 ∷ 1000000 ∷ 1000000 ∷ []) gets Taken
     ∷ begun enters offer 44641 210 accepted gets Refused 3
     ∷ begun enters offer 44640 210 accepted gets Refused 5
+    ∷ begun enters offer 180 0 accepted gets Refused 5
     ∷ begun enters offer 180 44641 accepted gets Refused 3
     ∷ over 31 [] enters offer 0 44640 accepted gets Taken
     ∷ begun enters offer 180 210 2 gets Refused 3
@@ -189,18 +190,18 @@ operandCases =
     ∷ begun enters metered 0 (pos 500001) gets Refused 3
     ∷ []
 
--- 4: U is 21 and 20 with a response of 20; V is 245 and 240. 5: start and end, and multiples of 30
+-- 4: U is 21 and 20 with a response of 20; V is 241 and 240. 5: start and end, and multiples of 30
 abbrev pub inputCases : List Case
 inputCases =
     empty enters agree (set guide rampup 599) gets Refused 4
     ∷ empty enters agree (set guide rampup 600) gets Taken
-    ∷ empty enters agree (set guide rampdown 49) gets Refused 4
+    ∷ empty enters agree (set (set guide contracted 12050) rampdown 50) gets Refused 4
     ∷ empty enters agree (set guide rampdown 50) gets Taken
     ∷ begun enters offer 210 180 accepted gets Refused 5
     ∷ begun enters offer 180 180 accepted gets Refused 5
     ∷ begun enters offer 180 210 accepted gets Taken
-    ∷ begun enters offer 181 210 accepted gets Refused 5
-    ∷ begun enters offer 180 209 accepted gets Refused 5
+    ∷ begun enters offer 195 210 accepted gets Refused 5
+    ∷ begun enters offer 180 225 accepted gets Refused 5
     ∷ []
 
 -- ---- from the state

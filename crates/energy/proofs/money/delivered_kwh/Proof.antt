@@ -5,7 +5,7 @@ use mir.Syntax.{w32, w64}
 use mir.Val.{SFits}
 use mir.Facts.{toZ-ofZ}
 use mir.ValLaws.{toZ-pos}
-use Rattle.energy.proofs.Integers.{add-parts, fits-parts, nonNeg-parts}
+use Rattle.energy.proofs.Integers.{fits-parts, fits-sum, nonNeg-parts}
 use Rattle.energy.proofs.Rounding.{Raised, Lowered, raised}
 use Rattle.energy.proofs.money.delivered_kwh.Statement.{statement}
 use Rattle.energy.proofs.money.delivered_kwh.Tie as tie
@@ -21,7 +21,7 @@ record Fit (c : tie.Start) : Type 0 where
 fit : (c : tie.Start) → Fit c
 fit c = record {
   fq = c .fits .q;
-  fz = fits-parts w32 (z c) (omega (arith, add-parts (c .args .q) (pos 120000000)));
+  fz = fits-sum w32 (c .args .q) (pos 120000000) (omega arith);
   by = raised (c .args .q) 240 500000 (omega arith) (omega arith);
 }
 

@@ -1,4 +1,4 @@
--- `listing::rows::line_row` meets its contract. Assumes nothing.
+-- `listing::rows::line_row` meets its contract. Each call puts a field behind the last, and a line of these types has at most 112 bytes. Assumes nothing.
 use Prim.Native.Nat.{_<_, _^_}
 use native.Mathlib.Omega.{arith}
 use borrow.Author.Needs.{needs}
@@ -12,6 +12,7 @@ use Rattle.listing.proofs.Appending.{counted, row-put}
 use Rattle.listing.proofs.rows.line_row.Statement.{statement}
 use Rattle.listing.proofs.rows.line_row.Tie as tie
 
+-- every number fits its type
 record Fit (l : Line) : Type 0 where
   instruction : l .instruction < 2 ^ 32
   period : l .period < 2 ^ 32
@@ -42,10 +43,10 @@ returns c =
     let f = fit (c7 .before) in
     counted (lineRow l) (rw (
       c .put2 .ensures,
-      simp (toZ-ofZ, f .pence) at (c10 .amount4 .ensures),
-      simp (toZ-ofZ, f .capped) at (c9 .amount3 .ensures),
-      simp (toZ-ofZ, f .delivered) at (c8 .amount2 .ensures),
-      simp (toZ-ofZ, f .expected) at (c7 .amount .ensures),
+      c10 .amount4 .ensures,
+      c9 .amount3 .ensures,
+      c8 .amount2 .ensures,
+      c7 .amount .ensures,
       c6 .letter2 .ensures,
       c5 .letter .ensures,
       c4 .count2 .ensures,
@@ -55,6 +56,7 @@ returns c =
       r .rate-letter .ensures,
       s .stage-letter .ensures,
     )
+    (simp (toZ-ofZ, f .expected, f .delivered, f .capped, f .pence)
     (row-put _ _
     (omega (
       arith,
@@ -64,7 +66,7 @@ returns c =
       signed-length (l .delivered .0) (f .delivered),
       signed-length (l .capped .0) (f .capped),
       signed-length (l .pence .0) (f .pence),
-    ))))
+    )))))
 
 pub line-row-spec : {M : Type 1} → statement M
 line-row-spec =

@@ -1,4 +1,4 @@
--- `listing::rows::refusal_row` meets its contract. Assumes nothing.
+-- `listing::rows::refusal_row` meets its contract. Each call puts a field behind the last, and there is room for all of them. Assumes nothing.
 use native.Mathlib.Omega.{arith}
 use Rattle.listing.specs.Rows.{refusalRow}
 use Rattle.listing.proofs.Digits.{digits-length}

@@ -1,4 +1,4 @@
--- `listing::rows::totals_row` meets its contract. Assumes nothing.
+-- `listing::rows::totals_row` meets its contract. Each call puts a field behind the last, and there is room for all of them. Assumes nothing.
 use native.Mathlib.Omega.{arith}
 use mir.Syntax.{w64}
 use mir.Val.{SFits}
@@ -10,6 +10,7 @@ use Rattle.listing.proofs.Appending.{counted, row-put}
 use Rattle.listing.proofs.rows.totals_row.Statement.{statement}
 use Rattle.listing.proofs.rows.totals_row.Tie as tie
 
+-- every number fits its type
 record Fit (s : Statement) : Type 0 where
   capped : SFits w64 (s .capped .0)
   utilisation : SFits w64 (s .utilisation .0)
@@ -32,13 +33,14 @@ returns c =
     let f = fit (c3 .before) in
     counted (totalsRow s) (rw (
       c .put2 .ensures,
-      simp (toZ-ofZ, f .total) at (c6 .amount4 .ensures),
-      simp (toZ-ofZ, f .availability) at (c5 .amount3 .ensures),
-      simp (toZ-ofZ, f .utilisation) at (c4 .amount2 .ensures),
-      simp (toZ-ofZ, f .capped) at (c3 .amount .ensures),
+      c6 .amount4 .ensures,
+      c5 .amount3 .ensures,
+      c4 .amount2 .ensures,
+      c3 .amount .ensures,
       c2 .put .ensures,
       c1 .empty .ensures,
     )
+    (simp (toZ-ofZ, f .capped, f .utilisation, f .availability, f .total)
     (row-put _ _
     (omega (
       arith,
@@ -46,7 +48,7 @@ returns c =
       signed-length (s .utilisation .0) (f .utilisation),
       signed-length (s .availability .0) (f .availability),
       signed-length (s .total .0) (f .total),
-    ))))
+    )))))
 
 pub totals-row-spec : {M : Type 1} → statement M
 totals-row-spec =

@@ -1,4 +1,4 @@
--- `listing::rows::window_row` meets its contract. Assumes nothing.
+-- `listing::rows::window_row` meets its contract. Each call puts a field behind the last, and there is room for all of them. Assumes nothing.
 use Prim.Native.Nat.{ℕ, _<_, _^_}
 use native.Mathlib.Omega.{arith}
 use borrow.Author.Needs.{needs}
@@ -12,6 +12,7 @@ use Rattle.listing.proofs.Appending.{counted, row-put}
 use Rattle.listing.proofs.rows.window_row.Statement.{statement}
 use Rattle.listing.proofs.rows.window_row.Tie as tie
 
+-- every number fits its type
 record Fit (n : ℕ) (a : Available) : Type 0 where
   number : n < 2 ^ 32
   periods : a .periods < 2 ^ 32
@@ -30,8 +31,9 @@ returns c =
     let c1 = c2 .before in
     let a = c1 .before .args in
     let f = fit (c5 .before) in
-    counted (windowRow (a .n) (a .a)) (rw (c .put2 .ensures, simp (toZ-ofZ, f .pence) at (c5 .amount .ensures), c4 .count2 .ensures, c3 .count .ensures, c2 .put .ensures, c1 .empty .ensures)
-    (row-put _ _ (omega (arith, digits-length (a .n) 9 (omega (arith, f .number)), digits-length (a .a .periods) 9 (omega (arith, f .periods)), signed-length (a .a .pence .0) (f .pence)))))
+    counted (windowRow (a .n) (a .a)) (rw (c .put2 .ensures, c5 .amount .ensures, c4 .count2 .ensures, c3 .count .ensures, c2 .put .ensures, c1 .empty .ensures)
+    (simp (toZ-ofZ, f .pence)
+    (row-put _ _ (omega (arith, digits-length (a .n) 9 (omega (arith, f .number)), digits-length (a .a .periods) 9 (omega (arith, f .periods)), signed-length (a .a .pence .0) (f .pence))))))
 
 pub window-row-spec : {M : Type 1} → statement M
 window-row-spec =

@@ -34,7 +34,7 @@ module _ (t : ℕ) where
   number-returns : number-lts.Need-returns (put-reads.Asked, put-reads.Learnt, number-below t, number.Post) (number-at t) number.Post
   number-returns c =
       let a = c .before .before .args in
-      c .put .ensures ∙ put-digit (a .self) (a .n) (c .before .if1 .taken)
+      c .put .ensures ∙ put-digit (a .self) (a .n) (omega arith)
 
   number-number-requires : number-lts.Need-number-requires (put-reads.Asked, put-reads.Learnt, number-below t, number.Post) (number-at t) number.Post
   number-number-requires c κs = (omega (arith, c .before .pre .0), tt)
@@ -50,7 +50,7 @@ module _ (t : ℕ) where
       let a = c .before .before .before .args in
       c .put2 .ensures
       ∙ ap (λ r. putByte r (digit (a .n % 10))) (c .before .number .ensures)
-      ∙ put-digits (a .self) (a .n) (c .before .before .if1 .left)
+      ∙ put-digits (a .self) (a .n) (omega arith)
 
 pub +number-spec : {M : Type 1} → statement M
 +number-spec =

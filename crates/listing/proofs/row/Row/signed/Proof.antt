@@ -1,8 +1,8 @@
--- `listing::row::Row::signed` meets its contract. Assumes nothing.
+-- `listing::row::Row::signed` meets its contract. A number below 0, with 1 added, has an opposite in its type; 1 more is its size. Assumes nothing.
 use mathlib.Core.Path.{_≡_, refl, sym, _∙_, ap}
 use mathlib.Core.Bool.{true, false}
 use mathlib.Core.List.{_∷_}
-use Prim.Native.Nat.{ℕ, suc, _+_, _≤_, _^_}
+use Prim.Native.Nat.{_+_, _≤_, _^_}
 use native.Mathlib.Omega.{arith}
 use lib.Dec.{T}
 use lib.IntN.{ℤ, pos, negsuc, natAbs, _+ℤ_, _-ℤ_}
@@ -10,9 +10,9 @@ use lib.Signed.{ltZ, nonNeg}
 use mir.Syntax.{w64}
 use mir.Val.{SFits}
 use mir.Facts.{toZ-ofZ}
-use Rattle.energy.specs.Number.{up, down}
+use Rattle.energy.specs.Number.{down}
 use Rattle.energy.proofs.Integers.{exact, add-parts, diff-parts, fits-parts, parts-fit, abs-parts, nonNeg-parts, ltZ-true, ltZ-false}
-use Rattle.listing.specs.Row.{putAll, putByte}
+use Rattle.listing.specs.Row.{putAll}
 use Rattle.listing.specs.Rows.{digits, signedDigits}
 use Rattle.listing.proofs.row.Row.signed.Statement.{statement}
 use Rattle.listing.proofs.row.Row.signed.Tie as tie
