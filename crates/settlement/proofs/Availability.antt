@@ -22,7 +22,7 @@ use Rattle.rules.specs.declared.entries.Window.{Window}
 use Rattle.rules.specs.declared.statement.Available.{Available}
 use Rattle.book.specs.Book.{noDefault, noWindow}
 use Rattle.settlement.specs.Live.{covers}
-use Rattle.settlement.specs.Paid.{numberOf, windowOf, reachFrom, reachTo, loses, strikes, lostTo, struckTo, penaltyBy, paidBy, entryBy, entriesTo, periodsTo}
+use Rattle.settlement.specs.Paid.{numberOf, windowOf, reachFrom, reachTo, loses, strikes, lostTo, struckTo, penaltyBy, paidBy, entryOf, entryBy, entriesTo, periodsTo}
 use Rattle.settlement.proofs.Folds.{any-all, count-snoc, sum-snoc, count-filter, map-snoc, count-none, count-shift}
 use Rattle.settlement.proofs.Lights.{covers-is}
 
@@ -249,7 +249,7 @@ module _ (g : Ledger) (table : List ℕ) (ws : List Window) (n : ℕ) (ds : List
     entry i = entryBy table (lostTo table ws ds d) each (getD ws i noWindow) i
 
     entry-is : (i : ℕ) → i < n → entry i ≡ availableOf g (windowAt i)
-    unfolding entryBy availableOf
+    unfolding entryOf availableOf
     entry-is i h = ap (λ (w : Window). entryBy table (lostTo table ws ds d) each w i) (P .window i h) ∙ made (paidBy table (lostTo table ws ds d) (windowAt i) i) (length (paidPeriods g (windowAt i))) (paid-is i h)
       where
         made : (k m : ℕ) → k ≡ m → _≡_ {A = Available} (record { periods = k; pence = record { 0 = pos (k * each) } }) (record { periods = m; pence = record { 0 = pos m *ℤ periodPence g } })
@@ -279,19 +279,19 @@ module _ (g : Ledger) (table : List ℕ) (ws : List Window) (n : ℕ) (ds : List
     abbrev penceOf : Available → ℤ
     penceOf v = v .pence .0
 
-    entry-pence : (i : ℕ) → pos (entry i .periods * each) ≡ entry i .pence .0
-    unfolding entryBy
+    entry-pence : (i : ℕ) → pos (paidBy table (lostTo table ws ds d) (getD ws i noWindow) i * each) ≡ entry i .pence .0
+    unfolding entryOf
     entry-pence i = refl
 
-    pence-go : (i : ℕ) → i ≤ n → pos (periodsTo table (lostTo table ws ds d) each ws i * each) ≡ sum penceOf (map (availableOf g) (take i (g .windows)))
+    pence-go : (i : ℕ) → i ≤ n → pos (periodsTo table (lostTo table ws ds d) ws i * each) ≡ sum penceOf (map (availableOf g) (take i (g .windows)))
     unfolding sum
     pence-go zero h = ap pos (zero-mul each)
     pence-go (suc i) h =
         let f : Window → Available = availableOf g in
-        ap pos (add-mul (periodsTo table (lostTo table ws ds d) each ws i) (entry i .periods) each)
+        ap pos (add-mul (periodsTo table (lostTo table ws ds d) ws i) (paidBy table (lostTo table ws ds d) (getD ws i noWindow) i) each)
         ∙ ap₂ _+ℤ_ (pence-go i (omega arith)) (entry-pence i ∙ ap penceOf (entry-is i h))
         ∙ sym (ap (λ l. sum penceOf (map f l)) (taken i h) ∙ ap (sum penceOf) (map-snoc f (take i (g .windows)) (windowAt i)) ∙ sum-snoc penceOf (map f (take i (g .windows))) (f (windowAt i)))
 
-    pub pence-is : pos (periodsTo table (lostTo table ws ds d) each ws n * each) ≡ sum penceOf (windowsPaid g)
+    pub pence-is : pos (periodsTo table (lostTo table ws ds d) ws n * each) ≡ sum penceOf (windowsPaid g)
     unfolding windowsPaid
     pence-is = pence-go n (le-refl n) ∙ ap (λ l. sum penceOf (map (availableOf g) l)) all-taken

@@ -3,11 +3,11 @@ use mathlib.Core.Path.{_≡_, refl, sym, _∙_, ap, ap₂, subst, fun-ext}
 use mathlib.Core.Bool.{Bool, true, false, cond, not, _&&_, _||_}
 use mathlib.Core.List.{List}
 use Prim.Native.Nat.{ℕ, zero, suc, _+_, _-_, _/_, _≤_, _<_}
-use native.Mathlib.Decide.{ℕ-discrete}
+use native.Mathlib.Decide.{ℕ-discrete, decLt}
 use native.Mathlib.Numerals.{add-one}
 use native.Mathlib.Omega.{arith}
 use lib.Dec.{eqb, leb, ltb}
-use lib.ListN.{length, getD, set, length-set}
+use lib.ListN.{length, getD, set, replicate, length-set, length-replicate, getD-replicate, List·getD-eq-default}
 use lib.Seq.{getD-set-same, getD-set-other}
 use borrow.Author.Tests.{le-leb, lt-leb}
 use Rattle.energy.proofs.Tests.{eq-true, eq-false}
@@ -16,6 +16,14 @@ use Rattle.rules.specs.declared.entries.Window.{Window}
 use Rattle.book.specs.Book.{noDefault}
 use Rattle.settlement.specs.Live.{Marked, Dark}
 use Rattle.settlement.specs.Paid.{numberOf, windowOf, reachFrom, reachTo, loses, strikes, lostTo, struckTo, Marks, Struck, marked}
+
+-- a table of zeros has no mark
+pub dark-zeros : (n : ℕ) → Dark (replicate n 0)
+dark-zeros n = record { none = λ p. go p (decLt p n) }
+  where
+    go : (p : ℕ) → Dec (p < n) → _≡_ {A = ℕ} (getD (replicate n 0) p 0) 0
+    go p (yes h) = getD-replicate n p 0 0 h
+    go p (no h) = List·getD-eq-default (replicate n 0) 0 (omega (arith, h, length-replicate {A = ℕ} n 0))
 
 module _ (live : List ℕ) (ws : List Window) where
   -- a default in no live window marks nothing

@@ -82,17 +82,22 @@ marked xs p = eqb (getD xs p 0) 1
 abbrev pub penaltyBy : (ℕ → Bool) → ℕ → ℕ
 penaltyBy struck n = min 30 (count struck (between 0 n))
 
--- the paid periods of window i, from whether a place is lost: none unless the window is live
+-- the places from a to b − 1 that are not lost
+abbrev pub paidIn : (ℕ → Bool) → ℕ → ℕ → ℕ
+paidIn lost a b = count (λ p. not (lost p)) (between a b)
+
+-- the paid periods of window i: none unless it is live, which its number at its first place shows
 abbrev pub paidBy : List ℕ → (ℕ → Bool) → Window → ℕ → ℕ
 paidBy live lost w i =
-    cond (eqb (getD live (w .start .0 / 30) 0) (suc i))
-    (count (λ p. not (lost p)) (between (w .start .0 / 30) (w .end .0 / 30)))
-    0
+    cond (eqb (getD live (w .start .0 / 30) 0) (suc i)) (paidIn lost (w .start .0 / 30) (w .end .0 / 30)) 0
 
--- the entry of window i, each paid period at each pence
-unfoldable pub entryBy : List ℕ → (ℕ → Bool) → ℕ → Window → ℕ → Available
-entryBy live lost each w i =
-    record { periods = paidBy live lost w i; pence = record { 0 = pos (paidBy live lost w i * each) } }
+-- the entry of n paid periods, at so many pence each
+unfoldable pub entryOf : ℕ → ℕ → Available
+entryOf n each = record { periods = n; pence = record { 0 = pos (n * each) } }
+
+-- the entry of window i
+abbrev pub entryBy : List ℕ → (ℕ → Bool) → ℕ → Window → ℕ → Available
+entryBy live lost each w i = entryOf (paidBy live lost w i) each
 
 -- the entries of the first n windows, and nothing in the places after them
 abbrev pub entriesTo : List ℕ → (ℕ → Bool) → ℕ → List Window → ℕ → List Available
@@ -101,15 +106,14 @@ entriesTo live lost each ws (suc n) =
     set (entriesTo live lost each ws n) n (entryBy live lost each (getD ws n noWindow) n)
 
 -- the paid periods of the first n windows
-abbrev pub periodsTo : List ℕ → (ℕ → Bool) → ℕ → List Window → ℕ → ℕ
-periodsTo live lost each ws zero = 0
-periodsTo live lost each ws (suc n) =
-    periodsTo live lost each ws n + entryBy live lost each (getD ws n noWindow) n .periods
+abbrev pub periodsTo : List ℕ → (ℕ → Bool) → List Window → ℕ → ℕ
+periodsTo live lost ws zero = 0
+periodsTo live lost ws (suc n) = periodsTo live lost ws n + paidBy live lost (getD ws n noWindow) n
 
 -- the entries, and the pence of all their periods
 unfoldable pub entriesBy : List ℕ → (ℕ → Bool) → ℕ → List Window → ℕ → Entries
 entriesBy live lost each ws n =
-    record { windows = entriesTo live lost each ws n; pence = pos (periodsTo live lost each ws n * each) }
+    record { windows = entriesTo live lost each ws n; pence = pos (periodsTo live lost ws n * each) }
 
 -- the pence of a paid period at n windows and d defaults
 unfoldable pub eachBy : List ℕ → ℕ → List Default → ℕ → ℕ → ℕ → ℕ

@@ -28,6 +28,13 @@ pub fn wide(x: u16) -> usize
     x as usize
 }
 
+// A byte as an index.
+pub fn wide_byte(x: u8) -> usize
+    ensures { λ r. ⌜ r ≡ x ⌝ }
+{
+    x as usize
+}
+
 // The terms of a contract with so many instructions.
 pub fn terms_of(k: Contract, calls: usize) -> Terms
     requires { ⌜ (k .contracted .0 ≡ pos (kwOf k)) × (kwOf k ≤ 500000) ⌝ }
