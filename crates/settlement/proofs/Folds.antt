@@ -6,7 +6,7 @@ use Prim.Native.Nat.{ℕ, zero, suc, _+_, _-_, _≤_, _<_}
 use native.Mathlib.Nat.{le-refl}
 use native.Mathlib.Omega.{arith}
 use lib.IntN.{ℤ, _+ℤ_, +ℤ-idr}
-use lib.ListN.{length, getD, take}
+use lib.ListN.{length, getD, take, length-map}
 use lib.Seq.{take-suc, take-length}
 use Rattle.energy.specs.Lists.{any, count, filter, sum, run, between}
 use Rattle.energy.proofs.Sums.{between-snoc, sum-append}
@@ -73,6 +73,10 @@ module _ {A B : Type 0} where
   pub map-snoc : (f : A → B) (xs : List A) (x : A) → map f (xs ++ (x ∷ [])) ≡ map f xs ++ (f x ∷ [])
   map-snoc f [] x = refl
   map-snoc f (y ∷ xs) x = ap (λ l. f y ∷ l) (map-snoc f xs x)
+
+  -- an array that is held as a list of another type is as long
+  pub length-mapped : (f : A → B) (l : List A) (n : ℕ) → length (map f l) ≡ n → length l ≡ n
+  length-mapped f l n e = sym (length-map l f) ∙ e
 
 -- ---- numbers in a row
 pub count-none : (f : ℕ → Bool) (a : ℕ) → count f (between a a) ≡ 0
