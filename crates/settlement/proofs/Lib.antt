@@ -12,3 +12,5 @@ pub mod Sound
 pub mod Ground
 pub mod Refused
 pub mod Stated
+pub mod Walk
+pub mod Whole

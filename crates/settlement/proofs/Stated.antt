@@ -32,7 +32,7 @@ use Rattle.settlement.specs.Terms.{termsOf}
 use Rattle.settlement.specs.Live.{isLive, Lit}
 use Rattle.settlement.specs.Paid.{struckTo, penaltyBy, entriesBy, eachBy, availabilityBy}
 use Rattle.settlement.specs.Cursor.{startOf, enterOf, stepOf, cursorAt, steppedLine, stored, either}
-use Rattle.settlement.specs.Settle.{settledBy, settleBook}
+use Rattle.settlement.specs.Settle.{Settled, settledBy, settleBook}
 use Rattle.settlement.specs.Prepared.{unsummed, summed, LaidOut, lastCursor, settledWith, Prepares}
 use Rattle.settlement.proofs.Bounds.{bounded}
 use Rattle.settlement.proofs.Tied.{Tied}
@@ -145,3 +145,13 @@ module _ (b : Book) (times : List ℕ) (meter : List ℤ) (G : Grounds b times m
             ap₂ (λ (s : Settlement) (m : List Line). record { settlement = s; memory = m }) sums-settle (stored-is memory l)
             ∙ ap (λ z. settledBy z ledger memory) (sym (ap (λ m. settleRefusal (not (sound b)) (length meter) m ledger) l ∙ open′));
       }
+
+-- what `settle` promises, from what is prepared
+module _ (b : Book) (meter : List ℤ) (memory : List Line) (p : Prepared) (P : Prepares b meter (length memory) p) where
+  pub settled-answer : summed (p .settlement) (lastCursor p meter) ≡ settleBook b meter memory .settlement
+  unfolding settledWith
+  settled-answer = ap (λ (s : Settled). s .settlement) (P .settles memory refl)
+
+  pub settled-memory : stored (steppedLine (p .terms) (p .times) (p .live) meter) (p .lines) memory ≡ settleBook b meter memory .memory
+  unfolding settledWith
+  settled-memory = ap (λ (s : Settled). s .memory) (P .settles memory refl)

@@ -6,10 +6,14 @@ ghost use lib.ListN.{length};
 ghost use Rattle.energy.specs.Number.{Within};
 ghost use Rattle.rules.specs.Ledger.{spanOf};
 ghost use Rattle.book.specs.Sound.{sound};
+ghost use Rattle.settlement.specs.Cursor.{Plan, Ready, cursorAt, steppedLine, stored};
+ghost use Rattle.settlement.specs.Settle.{settleBook};
 ghost use Rattle.settlement.specs.Prepared.{LaidOut, Prepares, refusalOf, summed, unsummed};
 ghost use Rattle.settlement.specs.Terms.{Timed, termsOf};
 use crate::Settlement;
 use crate::cursor::Cursor;
+use crate::cursor::first;
+use crate::cursor::step;
 use crate::live::show_live;
 use crate::paid::Entries;
 use crate::paid::availability;
@@ -23,6 +27,7 @@ use energy::units::Kwh;
 use energy::units::Pence;
 use rules::answer::Answer;
 use rules::statement::Available;
+use rules::statement::Line;
 use rules::statement::Statement;
 
 // What settling has before the first record is written: the answer without the lines' sums, the number of lines, and what they are calculated from.
@@ -167,6 +172,30 @@ fn check_book(b: Book, left: bool, meter: &[i32], room: usize) -> Prepared
     check_lines(b, meter, room)
 }
 
+// 25 and 26 are decided here, before a record is written.
+fn prepare(b: Book, meter: &[i32], room: usize) -> Prepared
+    requires { ⌜ sound b ≡ true ⌝ }
+    ensures { λ r. ⌜ Prepares b (now (meter .entry)) room r ⌝ }
+{
+    check_book(b, true, meter, room)
+}
+
+// The lines, in order, into the first n records; and the cursor after them, with their sums.
+fn fill<'a, 'b, 'c>(lines: &'a mut [Line], t: Terms, times: &'b [u16], live: &'b [u8], meter: &'c [i32], n: usize) -> Cursor
+    requires { ⌜ (n ≤ length (now lines)) × Plan t (now times) (now live) (now meter) × ((k : ℕ) → k < n → Ready t (now times) (now live) (now meter) (cursorAt t (now times) (now live) (now meter) k)) ⌝ }
+    ensures { λ r. ⌜ (r ≡ cursorAt t (now (times .entry)) (now (live .entry)) (now (meter .entry)) n) × (now (lines .exit) ≡ stored (steppedLine t (now (times .entry)) (now (live .entry)) (now (meter .entry))) n (now (lines .entry))) ⌝ }
+{
+    let mut c = first(t, times, live, meter);
+    let mut k: usize = 0;
+    while k < n {
+        let s = step(t, times, live, meter, c);
+        lines[k] = s.line;
+        c = s.next;
+        k += 1;
+    }
+    c
+}
+
 // The answer with the sums of the lines.
 fn sum_up(s: Settlement, c: Cursor) -> Settlement
     requires { ⌜ Within 100000000000000 (c .pence) × Within 100000000000000 (s .statement .availability .0) ⌝ }
@@ -189,4 +218,16 @@ fn sum_up(s: Settlement, c: Cursor) -> Settlement
         answer: answer,
         statement: statement,
     }
+}
+
+// Settles a book over meter memory: the answer, and the statement's lines in the first of the records lent. A refusal alters no record.
+pub fn settle(b: Book, meter: &[i32], lines: &mut [Line]) -> Settlement
+    requires { ⌜ sound b ≡ true ⌝ }
+    ensures { λ r. ⌜ (r ≡ settleBook b (now (meter .entry)) (now (lines .entry)) .settlement) × (now (lines .exit) ≡ settleBook b (now (meter .entry)) (now (lines .entry)) .memory) ⌝ }
+{
+    let p = prepare(b, meter, lines.len());
+    let times = p.times;
+    let live = p.live;
+    let sums = fill(lines, p.terms, &times, &live, meter, p.lines);
+    sum_up(p.settlement, sums)
 }
