@@ -174,14 +174,21 @@ fn check_book(b: Book, left: bool, meter: &[i32], room: usize) -> Prepared
 
 // 25 and 26 are decided here, before a record is written.
 fn prepare(b: Book, meter: &[i32], room: usize) -> Prepared
-    requires { ⌜ sound b ≡ true ⌝ }
     ensures { λ r. ⌜ Prepares b (now (meter .entry)) room r ⌝ }
 {
-    check_book(b, true, meter, room)
+    let left = b.sound();
+    check_book(b, left, meter, room)
 }
 
 // The lines, in order, into the first n records; and the cursor after them, with their sums.
-fn fill<'a, 'b, 'c>(lines: &'a mut [Line], t: Terms, times: &'b [u16], live: &'b [u8], meter: &'c [i32], n: usize) -> Cursor
+fn fill<'a, 'b, 'c>(
+    lines: &'a mut [Line],
+    t: Terms,
+    times: &'b [u16],
+    live: &'b [u8],
+    meter: &'c [i32],
+    n: usize,
+) -> Cursor
     requires { ⌜ (n ≤ length (now lines)) × Plan t (now times) (now live) (now meter) × ((k : ℕ) → k < n → Ready t (now times) (now live) (now meter) (cursorAt t (now times) (now live) (now meter) k)) ⌝ }
     ensures { λ r. ⌜ (r ≡ cursorAt t (now (times .entry)) (now (live .entry)) (now (meter .entry)) n) × (now (lines .exit) ≡ stored (steppedLine t (now (times .entry)) (now (live .entry)) (now (meter .entry))) n (now (lines .entry))) ⌝ }
 {
@@ -222,7 +229,6 @@ fn sum_up(s: Settlement, c: Cursor) -> Settlement
 
 // Settles a book over meter memory: the answer, and the statement's lines in the first of the records lent. A refusal alters no record.
 pub fn settle(b: Book, meter: &[i32], lines: &mut [Line]) -> Settlement
-    requires { ⌜ sound b ≡ true ⌝ }
     ensures { λ r. ⌜ (r ≡ settleBook b (now (meter .entry)) (now (lines .entry)) .settlement) × (now (lines .exit) ≡ settleBook b (now (meter .entry)) (now (lines .entry)) .memory) ⌝ }
 {
     let p = prepare(b, meter, lines.len());

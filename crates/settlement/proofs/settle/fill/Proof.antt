@@ -321,9 +321,9 @@ module _ {M : Type 1} (𝓤 : URA M) (H : Heap 𝓤) (A : Atoms 𝓤) (W : Given
           keep ! (7 ∷ 8 ∷ 9 ∷ 10 ∷ 5 ∷ 3 ∷ 2 ∷ 0 ∷ 12 ∷ 13 ∷ 14 ∷ 15 ∷ 16 ∷ 17 ∷ 18 ∷ 19 ∷ 20 ∷ 21 ∷ 22 ∷ 23 ∷ 24 ∷ 25 ∷ 26 ∷ 27 ∷ 28 ∷ 29 ∷ 30 ∷ 31 ∷ 32 ∷ 33 ∷ 34 ∷ 35 ∷ 36 ∷ 37 ∷ []) $
           -- the first state
           move ! (5 ∷ []) $ use1 W (‵ TimesOwn ⊛ ‵ TimesOwn) (shr-slice-copy 𝓤 H A W (named 1) κ′ u16 .twice ts (times ∷ [])) $ split ! $
-            move ! (7 ∷ []) $ use1 W (‵ LiveOwn ⊛ ‵ LiveOwn) (shr-slice-copy 𝓤 H A W (named 1) κ′ u8 .twice vs (live ∷ [])) $ split ! $
-            move ! (9 ∷ []) $ use1 W (‵ MeterOwn ⊛ ‵ MeterOwn) (shr-slice-copy 𝓤 H A W (named 2) κ″ i32 .twice ms (meter ∷ [])) $ split ! $
-            move ! (10 ∷ 4 ∷ 2 ∷ 0 ∷ []) $ join ! $
+          move ! (7 ∷ []) $ use1 W (‵ LiveOwn ⊛ ‵ LiveOwn) (shr-slice-copy 𝓤 H A W (named 1) κ′ u8 .twice vs (live ∷ [])) $ split ! $
+          move ! (9 ∷ []) $ use1 W (‵ MeterOwn ⊛ ‵ MeterOwn) (shr-slice-copy 𝓤 H A W (named 2) κ″ i32 .twice ms (meter ∷ [])) $ split ! $
+          move ! (10 ∷ 4 ∷ 2 ∷ 0 ∷ []) $ join ! $
           use3 W (raw (FirstC 𝓤 H A at-mem run .pre to-first)) (goes-first plan) $
           calls-at ! (fmOf 𝓤 H (W .laws) 𝓣) (FirstC 𝓤 H A at-mem run) known-first to-first (and-then ! (load ! (from ! (stop !)) (look ! 28 refl)) (and-then ! (load ! (from ! (stop !)) (look ! 26 refl)) (and-then ! (load ! (from ! (stop !)) (look ! 24 refl)) (and-then ! (load ! (from ! (stop !)) (look ! 22 refl)) (no-more !))))) (λ w.
           use1 W (later (some (λ (r : Cursor). ((‵ (flft κ′ q′) ⊛ (‵ (flft κ″ q″) ⊛ ‵ ftrue)) ⊛ ‵ (K.the-row .own r (w ∷ []))) ⊛ raw (ensured 𝓤 H A first′.ended (first′.clauses 𝓤 H A at-mem run) (κ′, (κ″, tt)) (bk, (ts, (vs, (ms, tt)))) tt r)))) (id⊢ 𝓤 _) $ await ! tt $ pick ! (λ r.
