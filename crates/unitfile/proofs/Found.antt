@@ -15,7 +15,7 @@ pub data Found (s : List ℕ) (at : ℕ) : Read → Type 0 where
   ended : length s ≤ at → Found s at End
   unknown : at < length s → widthsOf (getD s at 0) table ≡ none → Found s at (Refused 1)
   short : {ws : List ℕ} → at < length s → widthsOf (getD s at 0) table ≡ some ws → length s - at < 1 + total ws → Found s at (Refused 2)
-  whole : {ws : List ℕ} → at < length s → widthsOf (getD s at 0) table ≡ some ws → 1 + total ws ≤ length s - at
+  entire : {ws : List ℕ} → at < length s → widthsOf (getD s at 0) table ≡ some ws → 1 + total ws ≤ length s - at
       → Found s at (Got (commandOf (getD s at 0) (operands ws (drop (at + 1) s))) (at + (1 + total ws)))
 
 -- what is found is what the rules read
@@ -24,7 +24,7 @@ unfolding readAt
 found-reads (ended h) = rw (le-leb _ _ h)
 found-reads (unknown h e) = rw (lt-leb _ _ h, e)
 found-reads (short h e k) = rw (lt-leb _ _ h, e, lt-ltb _ _ k)
-found-reads (whole h e k) = rw (lt-leb _ _ h, e, le-ltb _ _ k)
+found-reads (entire h e k) = rw (lt-leb _ _ h, e, le-ltb _ _ k)
 
 -- at every position something is found
 record Finds (s : List ℕ) (at : ℕ) : Type 0 where
@@ -36,7 +36,7 @@ finds s at = outside (leb (length s) at) refl
   where
     room : (ws : List ℕ) (t : Bool) → at < length s → widthsOf (getD s at 0) table ≡ some ws → ltb (length s - at) (1 + total ws) ≡ t → Finds s at
     room ws true h e k = record { read = _; is = short h e (ltb-true _ _ k) }
-    room ws false h e k = record { read = _; is = whole h e (ltb-false _ _ k) }
+    room ws false h e k = record { read = _; is = entire h e (ltb-false _ _ k) }
 
     inside : (o : Option (List ℕ)) → at < length s → widthsOf (getD s at 0) table ≡ o → Finds s at
     inside none h e = record { read = _; is = unknown h e }

@@ -12,7 +12,7 @@ use Rattle.rules.specs.declared.entries.Command.{Command}
 use Rattle.rules.specs.declared.file.Read.{Read}
 use Rattle.rules.specs.declared.file.Read.the-variants.{Got, Refused, End}
 use Rattle.unitfile.proofs.Rows.{widths-most}
-use Rattle.unitfile.proofs.Found.{Found, ended, unknown, short, whole, found, found-reads, found-at}
+use Rattle.unitfile.proofs.Found.{Found, ended, unknown, short, entire, found, found-reads, found-at}
 
 -- ---- a piece, and bytes after it
 
@@ -33,14 +33,14 @@ module _ (p q : List ℕ) (at : ℕ) where
   same-byte h = List·getD-append p q 0 at h
 
   kept-got : {c : Command} {next : ℕ} → Found p at (Got c next) → Found (p ++ q) at (Got c next)
-  kept-got (whole {ws} h e k) =
+  kept-got (entire {ws} h e k) =
       let first : at + 1 ≤ length p = omega arith in
       let rest : total ws ≤ length (drop (at + 1) p) = rw length-drop (omega arith) in
       let there : widthsOf (getD (p ++ q) at 0) table ≡ some ws = rw (same-byte h) e in
       let long = length-append p q in
       let inside : at < length (p ++ q) = omega arith in
       let room : 1 + total ws ≤ length (p ++ q) - at = omega arith in
-      let f : Found (p ++ q) at (Got (commandOf (getD (p ++ q) at 0) (operands ws (drop (at + 1) (p ++ q)))) (at + (1 + total ws))) = whole inside there room in
+      let f : Found (p ++ q) at (Got (commandOf (getD (p ++ q) at 0) (operands ws (drop (at + 1) (p ++ q)))) (at + (1 + total ws))) = entire inside there room in
       rw (same-byte h, drop-append-le (at + 1) p q first, operands-append ws (drop (at + 1) p) q rest) at f
 
   kept-unknown : Found p at (Refused 1) → Found (p ++ q) at (Refused 1)
@@ -58,7 +58,7 @@ module _ (p q : List ℕ) (at : ℕ) where
   more (short h e k) (ended i) = absurd (omega (arith, length-append p q))
   more (short h e k) (unknown i f) = let z : _≡_ {A = ℕ} 0 1 = cc (same-byte h) in absurd (omega arith)
   more (short h e k) (short i f l) = short-still
-  more (short {ws} h e k) (whole {ws = vs} i f l) = let same : ws ≡ vs = cc (same-byte h) in ends-later {next = at + (1 + total vs)} (omega (arith, ap total same))
+  more (short {ws} h e k) (entire {ws = vs} i f l) = let same : ws ≡ vs = cc (same-byte h) in ends-later {next = at + (1 + total vs)} (omega (arith, ap total same))
 
   pub piece-short : readAt p at ≡ Refused 2 → More (length p) (readAt (p ++ q) at)
   piece-short e = more (found-at e) (found (p ++ q) at)
@@ -78,7 +78,7 @@ module _ (p q : List ℕ) (at : ℕ) where
       go (ended i) = absurd (omega arith)
       go (unknown i e) = found-reads (kept-unknown (unknown i e))
       go (short {ws} i e k) = absurd (omega (arith, widths-most (getD p at 0) ws e))
-      go (whole i e k) = found-reads (kept-got (whole i e k))
+      go (entire i e k) = found-reads (kept-got (entire i e k))
 
 -- ---- a file from a position on
 
@@ -96,10 +96,10 @@ read-drop s k at = go (found (drop k s) at)
     go (ended h) = found-reads (ended (omega (arith, length-drop k s)))
     go (unknown h e) = found-reads (unknown (omega (arith, length-drop k s)) (rw getD-drop at e))
     go (short {ws} h e l) = found-reads (short {ws = ws} (omega (arith, length-drop k s)) (rw getD-drop at e) (omega (arith, length-drop k s)))
-    go (whole {ws} h e l) =
+    go (entire {ws} h e l) =
         let there : widthsOf (getD s (k + at) 0) table ≡ some ws = rw getD-drop at e in
         rw (getD-drop, drop-drop, ← add-assoc k at 1, ← add-assoc k at (1 + total ws))
-        (found-reads (whole (omega (arith, length-drop k s)) there (omega (arith, length-drop k s))))
+        (found-reads (entire (omega (arith, length-drop k s)) there (omega (arith, length-drop k s))))
 
 -- ---- a part of a file: at most n bytes from k on, as a buffer holds them
 module _ (s : List ℕ) (k n at : ℕ) where

@@ -14,7 +14,7 @@ use lib.Seq.{drop-cons, take-append-seam}
 use Rattle.energy.specs.Lists.{all, else}
 use Rattle.energy.proofs.Tests.{T-and}
 use Rattle.rules.specs.File.{Layout, table, widthsOf, total}
-use Rattle.unitfile.specs.Table.{padded, rowOf, layoutAt, rowIn, rowFor, widthsFor}
+use Rattle.unitfile.specs.Table.{padded, rowOf, layoutAt, rowIn, rowFor, byteWidths}
 use Rattle.unitfile.specs.Operands.{Narrow}
 use Rattle.unitfile.proofs.Operands.{getD-padded}
 
@@ -45,8 +45,8 @@ module _ (b k : ℕ) (searched : widthsOf b table ≡ widthsOf b (drop k table))
 
 -- ---- what a row says
 
-pub row-widths : (b : ℕ) → take (rowFor b .count) (rowFor b .widths) ≡ widthsFor b
-unfolding else padded rowOf rowIn rowFor widthsFor
+pub row-widths : (b : ℕ) → take (rowFor b .count) (rowFor b .widths) ≡ byteWidths b
+unfolding else padded rowOf rowIn rowFor byteWidths
 row-widths b = go (widthsOf b table)
   where
     go : (o : Option (List ℕ)) → take (rowIn b o .count) (rowIn b o .widths) ≡ else o []
@@ -64,16 +64,16 @@ row-none b e = go (widthsOf b table) e
 
 -- any other is as long as its widths and the byte
 module _ (b : ℕ) (h : rowFor b .length ≡ 0 → ⊥) where
-  pub row-some : widthsOf b table ≡ some (widthsFor b)
-  unfolding else rowIn rowFor widthsFor
+  pub row-some : widthsOf b table ≡ some (byteWidths b)
+  unfolding else rowIn rowFor byteWidths
   row-some = go (widthsOf b table) h
     where
       go : (o : Option (List ℕ)) → (rowIn b o .length ≡ 0 → ⊥) → o ≡ some (else o [])
       go none h = absurd (h refl)
       go (some ws) h = refl
 
-  pub row-length : rowFor b .length ≡ 1 + total (widthsFor b)
-  unfolding else rowOf rowIn rowFor widthsFor
+  pub row-length : rowFor b .length ≡ 1 + total (byteWidths b)
+  unfolding else rowOf rowIn rowFor byteWidths
   row-length = go (widthsOf b table) h
     where
       go : (o : Option (List ℕ)) → (rowIn b o .length ≡ 0 → ⊥) → rowIn b o .length ≡ 1 + total (else o [])

@@ -1,20 +1,20 @@
 -- Laws of a reader's steps, for those who read a file from its first byte to its last.
-use mathlib.Core.Path.{_≡_, refl, sym, ap}
+use mathlib.Core.Path.{_≡_, refl}
 use mathlib.Core.Logic.{_⊎_, inl, inr}
 use mathlib.Core.List.{List, [], _∷_}
-use Prim.Native.Nat.{ℕ, zero, suc, _+_, _-_, _≤_, _<_}
+use Prim.Native.Nat.{ℕ, zero, suc, _≤_, _<_}
 use native.Mathlib.Omega.{arith}
 use lib.ListN.{length}
-use Rattle.rules.specs.File.{readAt, readOn, commandsFrom}
+use Rattle.rules.specs.File.{readAt, commandsFrom}
 use Rattle.rules.specs.declared.entries.Command.{Command}
 use Rattle.rules.specs.declared.file.Read.{Read}
 use Rattle.rules.specs.declared.file.Read.the-variants.{Got, Refused, End}
 use Rattle.unitfile.specs.Reader.{after, stepAt}
-use Rattle.unitfile.proofs.Found.{Found, ended, unknown, short, whole, found-reads, found-at}
+use Rattle.unitfile.proofs.Found.{Found, unknown, short, entire, found-at}
 
 -- a command that is read ends after where it begins, and within the bytes
 got-inside : {s : List ℕ} {at next : ℕ} {c : Command} → Found s at (Got c next) → (at < next) × (next ≤ length s)
-got-inside (whole h e k) = omega arith
+got-inside (entire h e k) = omega arith
 
 pub got-within : (s : List ℕ) (at : ℕ) {c : Command} {next : ℕ} → readAt s at ≡ Got c next → (at < next) × (next ≤ length s)
 got-within s at e = got-inside (found-at e)
@@ -46,33 +46,10 @@ step-stops s at (Got c next) e h = absurd h
 
 -- ---- the commands of a file, from a position on
 
--- past the last byte there are none
-commands-past : (f : ℕ) (s : List ℕ) (at : ℕ) → length s ≤ at → commandsFrom f s at ≡ []
+-- a command that is read, and those after it
+pub commands-got : (s : List ℕ) (at f : ℕ) {c : Command} {next : ℕ} → readAt s at ≡ Got c next → commandsFrom (suc f) s at ≡ c ∷ commandsFrom f s next
 unfolding commandsFrom
-commands-past zero s at h = refl
-commands-past (suc f) s at h = rw (found-reads {s = s} {at = at} (ended h))
-
--- how many may be read does not matter where they are as many as the bytes that are left
-pub commands-any : (f g : ℕ) (s : List ℕ) (at : ℕ) → length s ≤ at + f → length s ≤ at + g → commandsFrom f s at ≡ commandsFrom g s at
-unfolding commandsFrom
-commands-any zero g s at h k = sym (commands-past g s at (omega arith))
-commands-any (suc f) zero s at h k = commands-past (suc f) s at (omega arith)
-commands-any (suc f) (suc g) s at h k = go (readAt s at) refl (λ next l. commands-any f g s next (omega arith) (omega arith))
-  where
-    go : (r : Read) → readAt s at ≡ r → ((next : ℕ) → at < next → commandsFrom f s next ≡ commandsFrom g s next)
-        → readOn (λ next. commandsFrom f s next) r ≡ readOn (λ next. commandsFrom g s next) r
-    go (Got c next) e same = ap (λ cs. c ∷ cs) (same next (got-within s at e .0))
-    go (Refused n) e same = refl
-    go End e same = refl
-
--- the commands from a position on, step by step
-pub commands-got : (s : List ℕ) (at : ℕ) {c : Command} {next : ℕ} → readAt s at ≡ Got c next
-    → commandsFrom (length s - at) s at ≡ c ∷ commandsFrom (length s - next) s next
-unfolding commandsFrom
-commands-got s at {c} {next} e =
-    let within = got-within s at e in
-    let one : length s - at ≡ suc (length s - suc at) = omega arith in
-    rw (one, e) (ap (λ cs. c ∷ cs) (commands-any (length s - suc at) (length s - next) s next (omega arith) (omega arith)))
+commands-got s at f e = rw e
 
 -- and none where the reader stops
 pub commands-none : (s : List ℕ) (at f : ℕ) (r : Read) → readAt s at ≡ r → Stops r → commandsFrom f s at ≡ []

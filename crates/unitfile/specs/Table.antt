@@ -1,10 +1,10 @@
 -- The rules' table as the code keeps it: rows of one shape, found by their command byte.
 use mathlib.Core.List.{List, [], _++_}
 use mathlib.Core.Option.{Option, none, some}
-use Prim.Native.Nat.{ℕ, _+_, _-_}
+use Prim.Native.Nat.{ℕ, _-_}
 use lib.ListN.{length, getD, replicate}
 use Rattle.energy.specs.Lists.{else}
-use Rattle.rules.specs.File.{Layout, table, widthsOf, total}
+use Rattle.rules.specs.File.{Layout, table, widthsOf, whole}
 use Rattle.unitfile.specs.declared.table.Row.{Row}
 
 -- numbers in eleven places, zeros after them
@@ -13,7 +13,7 @@ padded xs = xs ++ replicate (11 - length xs) 0
 
 -- a row of the rules' table in the code's shape
 unfoldable pub rowOf : Layout → Row
-rowOf l = record { byte = l .byte; length = 1 + total (l .widths); count = length (l .widths); widths = padded (l .widths) }
+rowOf l = record { byte = l .byte; length = whole l; count = length (l .widths); widths = padded (l .widths) }
 
 -- the row at a place of the rules' table
 unfoldable pub layoutAt : ℕ → Layout
@@ -29,5 +29,5 @@ unfoldable pub rowFor : ℕ → Row
 rowFor b = rowIn b (widthsOf b table)
 
 -- the operand widths of a command byte, none where the table lacks it
-unfoldable pub widthsFor : ℕ → List ℕ
-widthsFor b = else (widthsOf b table) []
+unfoldable pub byteWidths : ℕ → List ℕ
+byteWidths b = else (widthsOf b table) []

@@ -4,7 +4,7 @@ use mir.Syntax.{w64}
 use mir.Facts.{toZ-ofZ}
 use Rattle.energy.specs.Lists.{else}
 use Rattle.rules.specs.File.{table, widthsOf, commandOf}
-use Rattle.unitfile.specs.Table.{widthsFor}
+use Rattle.unitfile.specs.Table.{byteWidths}
 use Rattle.unitfile.proofs.command.reading_of.Statement.{statement}
 use Rattle.unitfile.proofs.command.reading_of.Tie as tie
 
@@ -12,14 +12,14 @@ array-read-t7 : tie.Need-array-read-t7
 array-read-t7 c = search needs
 
 cast-t8 : tie.Need-cast-t8
-unfolding else table widthsOf widthsFor
+unfolding else table widthsOf byteWidths
 cast-t8 c = record { fits = c .pre .sized 0 }
 
 array-read-signed : tie.Need-array-read-signed
 array-read-signed c = search needs
 
 signed-requires : tie.Need-signed-requires
-unfolding else table widthsOf widthsFor
+unfolding else table widthsOf byteWidths
 signed-requires c κs = c .pre .sized 1
 
 returns : tie.Need-returns

@@ -10,10 +10,10 @@ use lib.Seq.{getD-drop}
 use Rattle.rules.specs.File.{table, widthsOf, total, operands, commandOf, readAt}
 use Rattle.rules.specs.declared.entries.Command.{Command}
 use Rattle.rules.specs.declared.file.Read.the-variants.{Got, Refused}
-use Rattle.unitfile.specs.Table.{padded, rowFor, widthsFor}
+use Rattle.unitfile.specs.Table.{padded, rowFor, byteWidths}
 use Rattle.unitfile.specs.Operands.{Narrow, Sized}
 use Rattle.unitfile.specs.declared.table.Row.{Row}
-use Rattle.unitfile.proofs.Found.{ended, unknown, short, whole, found-reads}
+use Rattle.unitfile.proofs.Found.{ended, unknown, short, entire, found-reads}
 use Rattle.unitfile.proofs.Operands.{getD-padded, command-padded, operand-below}
 use Rattle.unitfile.proofs.Rows.{row-widths, row-none, row-some, row-length, row-narrow}
 use Rattle.unitfile.proofs.Words.{Bytes}
@@ -22,7 +22,7 @@ use Rattle.unitfile.proofs.decode.read_at.Tie as tie
 
 -- the widths of the byte at a position
 abbrev ws : List ℕ → ℕ → List ℕ
-ws s at = widthsFor (getD s at 0)
+ws s at = byteWidths (getD s at 0)
 
 -- a position before the end, and the row of its byte
 module _ (s : List ℕ) (at : ℕ) (inside : at < length s) (row : Row) (is : row ≡ rowFor (getD s at 0)) where
@@ -52,7 +52,7 @@ module _ (s : List ℕ) (at : ℕ) (inside : at < length s) (row : Row) (is : ro
         fits h = record { sized = λ k. rw (holds, getD-padded) (operand-below (ws s at) (drop (at + 1) s) (λ j. rw getD-drop (h (at + 1 + j))) k) }
 
         got : (c : Command) → c ≡ commandOf (getD s at 0) v → Got c (at + row .length) ≡ readAt s at
-        got c e = rw (e, holds, command-padded, long) (sym (found-reads (whole inside known (rw long at room))))
+        got c e = rw (e, holds, command-padded, long) (sym (found-reads (entire inside known (rw long at room))))
 
 returns : tie.Need-returns
 returns c = sym (found-reads (ended (c .if1 .taken)))
