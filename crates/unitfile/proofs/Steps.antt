@@ -1,0 +1,60 @@
+-- Laws of a reader's steps, for those who read a file from its first byte to its last.
+use mathlib.Core.Path.{_≡_, refl}
+use mathlib.Core.Logic.{_⊎_, inl, inr}
+use mathlib.Core.List.{List, [], _∷_}
+use Prim.Native.Nat.{ℕ, zero, suc, _≤_, _<_}
+use native.Mathlib.Omega.{arith}
+use lib.ListN.{length}
+use Rattle.rules.specs.File.{readAt, commandsFrom}
+use Rattle.rules.specs.declared.entries.Command.{Command}
+use Rattle.rules.specs.declared.file.Read.{Read}
+use Rattle.rules.specs.declared.file.Read.the-variants.{Got, Refused, End}
+use Rattle.unitfile.specs.Reader.{after, stepAt}
+use Rattle.unitfile.proofs.Found.{Found, unknown, short, entire, found-at}
+
+-- a command that is read ends after where it begins, and within the bytes
+got-inside : {s : List ℕ} {at next : ℕ} {c : Command} → Found s at (Got c next) → (at < next) × (next ≤ length s)
+got-inside (entire h e k) = omega arith
+
+pub got-within : (s : List ℕ) (at : ℕ) {c : Command} {next : ℕ} → readAt s at ≡ Got c next → (at < next) × (next ≤ length s)
+got-within s at e = got-inside (found-at e)
+
+-- a refusal is 1 or 2
+refused-as : {s : List ℕ} {at n : ℕ} → Found s at (Refused n) → (n ≡ 1) ⊎ (n ≡ 2)
+refused-as (unknown h e) = inl refl
+refused-as (short h e k) = inr refl
+
+pub refused-number : (s : List ℕ) (at : ℕ) {n : ℕ} → readAt s at ≡ Refused n → (n ≡ 1) ⊎ (n ≡ 2)
+refused-number s at e = refused-as (found-at e)
+
+-- what a step gives, by what is read
+pub step-got : (s : List ℕ) (at : ℕ) {c : Command} {next : ℕ} → readAt s at ≡ Got c next → stepAt s at ≡ record { read = Got c next; at = next }
+unfolding stepAt
+step-got s at e = rw e
+
+-- an end, 1 or 2: no command, and the reader stays
+abbrev pub Stops : Read → Type 0
+Stops (Got c next) = ⊥
+Stops (Refused n) = Unit {0}
+Stops End = Unit {0}
+
+pub step-stops : (s : List ℕ) (at : ℕ) (r : Read) → readAt s at ≡ r → Stops r → stepAt s at ≡ record { read = r; at = at }
+unfolding stepAt
+step-stops s at (Refused n) e h = rw e
+step-stops s at End e h = rw e
+step-stops s at (Got c next) e h = absurd h
+
+-- ---- the commands of a file, from a position on
+
+-- a command that is read, and those after it
+pub commands-got : (s : List ℕ) (at f : ℕ) {c : Command} {next : ℕ} → readAt s at ≡ Got c next → commandsFrom (suc f) s at ≡ c ∷ commandsFrom f s next
+unfolding commandsFrom
+commands-got s at f e = rw e
+
+-- and none where the reader stops
+pub commands-none : (s : List ℕ) (at f : ℕ) (r : Read) → readAt s at ≡ r → Stops r → commandsFrom f s at ≡ []
+unfolding commandsFrom
+commands-none s at zero r e h = refl
+commands-none s at (suc f) (Refused n) e h = rw e
+commands-none s at (suc f) End e h = rw e
+commands-none s at (suc f) (Got c next) e h = absurd h
