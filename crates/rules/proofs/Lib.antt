@@ -9,3 +9,6 @@ pub mod Refused
 pub mod Taken
 pub mod Tables
 pub mod Reached
+pub mod Partition
+pub mod Difference
+pub mod Bounds

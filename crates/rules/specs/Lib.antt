@@ -9,3 +9,4 @@ pub mod File
 pub mod Examples
 pub mod Figures
 pub mod Refused
+pub mod Lines

@@ -1,0 +1,5 @@
+pub mod Steps
+pub mod Demand3
+pub mod Write
+pub mod RoundTrip
+pub mod Files
