@@ -10,5 +10,3 @@ pub mod Taken
 pub mod Tables
 pub mod Reached
 pub mod Partition
-pub mod Difference
-pub mod Bounds
