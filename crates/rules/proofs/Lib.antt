@@ -10,3 +10,6 @@ pub mod Taken
 pub mod Tables
 pub mod Reached
 pub mod Partition
+pub mod Bounds
+pub mod Bytes
+pub mod Reread

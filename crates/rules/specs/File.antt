@@ -1,6 +1,6 @@
 -- "The unit file": the table of command bytes, operand widths and whole lengths, what reading at a position gives, what a command and a book are
 -- written as, and the commands that a file's bytes fix.
-use mathlib.Core.Bool.{Bool, true, false, cond}
+use mathlib.Core.Bool.{cond}
 use mathlib.Core.List.{List, [], _∷_, _++_, map}
 use mathlib.Core.Option.{Option, none, some}
 use Prim.Native.Nat.{ℕ, zero, suc, _+_, _-_, _*_, _/_, _%_, _^_}
@@ -101,7 +101,7 @@ commandOf b v =
     closeᶜ))))
 
 -- what stands at a position before the end, by the operand widths of its command byte: 1 where it has none, 2 where bytes are missing
-abbrev readBody : Option (List ℕ) → List ℕ → ℕ → Read
+abbrev pub readBody : Option (List ℕ) → List ℕ → ℕ → Read
 readBody none s at = Refused 1
 readBody (some ws) s at =
     let r : Layout = row (getD s at 0) ws in
@@ -147,9 +147,13 @@ abbrev widthsOr : Option (List ℕ) → List ℕ
 widthsOr none = []
 widthsOr (some ws) = ws
 
+-- a command's operand widths
+abbrev pub widthsFor : Command → List ℕ
+widthsFor c = widthsOr (widthsOf (byteOf c) table)
+
 -- a command's bytes
 unfoldable pub write : Command → List ℕ
-write c = byteOf c ∷ writeOperands (widthsOr (widthsOf (byteOf c) table)) (operandsOf c)
+write c = byteOf c ∷ writeOperands (widthsFor c) (operandsOf c)
 
 -- the reading of minute m as a command, if there is one
 abbrev pub readingAt : Option ℤ → ℕ → List Command

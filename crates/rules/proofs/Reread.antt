@@ -1,0 +1,204 @@
+-- A command written and read again, one after the other in a file, and that reading a file on finds no more.
+use mathlib.Core.Path.{_≡_, refl, sym, ap, _∙_}
+use mathlib.Core.Bool.{Bool, true, false, cond}
+use mathlib.Core.List.{List, [], _∷_, _++_, append-nil, append-assoc}
+use mathlib.Core.Option.{Option, none, some}
+use Prim.Native.Nat.{ℕ, zero, suc, _+_, _-_, _^_, _≤_, _<_}
+use native.Mathlib.Nat.{le-refl}
+use native.Mathlib.Omega.{arith}
+use lib.IntN.{ℤ, pos, negsuc, natAbs}
+use lib.Dec.{T, leb, ltb, leb→le, le→leb}
+use lib.ListN.{length, drop, getD, length-append}
+use lib.Seq.{getD-append-seam, drop-append-add}
+use lib.Signed.{leZ}
+use borrow.Author.Tests.{lt-ltb, le-ltb, le-leb, lt-leb}
+use Rattle.energy.specs.Lists.{all, concatMap}
+use Rattle.energy.proofs.Tests.{T-and, and-T}
+use Rattle.rules.specs.Refusal.{inRange, isReading, from-to, from-toℤ}
+use Rattle.rules.specs.File.{table, widthsOf, total, signedOf, unsignedOf, operands, commandOf, readBody, readAt, byteOf, operandsOf, writeOperands, widthsFor, write, readOn, commandsFrom, commandsIn}
+use Rattle.rules.specs.Reread.{fit, signFits, sayable, Reread}
+use Rattle.rules.specs.declared.entries.Command.{Command}
+use Rattle.rules.specs.declared.entries.Command.the-variants.{Contract as contractᶜ, Window as windowᶜ, Instruction as instructionᶜ, Default as defaultᶜ, Reading as readingᶜ, Close as closeᶜ}
+use Rattle.rules.specs.declared.file.Read.{Read}
+use Rattle.rules.specs.declared.file.Read.the-variants.{Got, End, Refused}
+use Rattle.rules.proofs.Bytes.{operands-back, length-operands}
+use Rattle.rules.proofs.Chain.{apart}
+use Rattle.rules.proofs.Terms.{ranges, bounds}
+
+-- ---- a command from its operands
+
+-- two's complement
+signed-back : (z : ℤ) → T (from-toℤ (negsuc 2147483647) (pos 2147483647) z) → signedOf (unsignedOf z) ≡ z
+unfolding signedOf
+signed-back (pos n) t =
+    let h : n ≤ 2147483647 = leb→le n 2147483647 t in
+    rw (lt-ltb n (2 ^ 31) (omega arith))
+signed-back (negsuc n) t =
+    let h : n ≤ 2147483647 = leb→le n 2147483647 (T-and (leb n 2147483647) true t .0) in
+    rw (le-ltb (2 ^ 32 - suc n) (2 ^ 31) (omega arith)) (ap negsuc (omega arith))
+
+kw-back : (z : ℤ) → T (leZ (pos 0) z) → pos (natAbs z) ≡ z
+kw-back (pos n) t = refl
+kw-back (negsuc n) t = absurd t
+
+command-back : (c : Command) → T (signFits c) → commandOf (byteOf c) (operandsOf c) ≡ c
+unfolding commandOf
+command-back (contractᶜ k) t = rw (kw-back (k .contracted .0) t)
+command-back (windowᶜ w) t = refl
+command-back (instructionᶜ i) t = refl
+command-back (defaultᶜ d) t = refl
+command-back (readingᶜ r) t = rw (signed-back (r .kw .0) t)
+command-back closeᶜ t = refl
+
+-- ---- a command in range
+
+reading-says : (z : ℤ) → T (isReading z) → T (from-toℤ (negsuc 2147483647) (pos 2147483647) z) × (unsignedOf z < 256 ^ 4)
+reading-says (pos n) t = let h : n ≤ 500000 = leb→le n 500000 t in (le→leb n 2147483647 (omega arith), omega arith)
+reading-says (negsuc n) t =
+    let h : n ≤ 499999 = leb→le n 499999 (T-and (leb n 499999) true t .0) in
+    (and-T (leb n 2147483647) true (le→leb n 2147483647 (omega arith)) tt, omega arith)
+
+ranged : (c : Command) → T (inRange c) → T (sayable c)
+unfolding sayable fit widthsOf table
+ranged (contractᶜ k) t =
+    let r = ranges k t in
+    rw (
+      r .positive,
+      le-leb 0 (natAbs (k .contracted .0)) (omega arith),
+      lt-ltb (k .days) (256 ^ 1) (omega arith),
+      lt-ltb (k .kind) (256 ^ 1) (omega arith),
+      lt-ltb (k .service) (256 ^ 1) (omega arith),
+      lt-ltb (natAbs (k .contracted .0)) (256 ^ 4) (omega arith),
+      lt-ltb (k .rampup) (256 ^ 4) (omega arith),
+      lt-ltb (k .rampdown) (256 ^ 4) (omega arith),
+      lt-ltb (k .response .0) (256 ^ 2) (omega arith),
+      lt-ltb (k .recovery .0) (256 ^ 2) (omega arith),
+      lt-ltb (k .availability) (256 ^ 4) (omega arith),
+      lt-ltb (k .utilisation) (256 ^ 4) (omega arith),
+      lt-ltb (k .optional) (256 ^ 4) (omega arith),
+    ) tt
+ranged (windowᶜ w) t =
+    let q = apart (from-to 0 44640 (w .start .0)) (from-to 0 44640 (w .end .0) ∷ from-to 0 1 (w .verdict) ∷ []) t in
+    let a = bounds 0 44640 (w .start .0) (q .0) in let b = bounds 0 44640 (w .end .0) (q .1 .0) in let v = bounds 0 1 (w .verdict) (q .1 .1 .0) in
+    rw (lt-ltb (w .start .0) (256 ^ 2) (omega arith), lt-ltb (w .end .0) (256 ^ 2) (omega arith), lt-ltb (w .verdict) (256 ^ 1) (omega arith)) tt
+ranged (instructionᶜ i) t =
+    let q = T-and (from-to 3 44640 (i .issue .0)) (from-to 0 44640 (i .cease .0)) t in
+    let a = bounds 3 44640 (i .issue .0) (q .0) in let b = bounds 0 44640 (i .cease .0) (q .1) in
+    rw (lt-ltb (i .issue .0) (256 ^ 2) (omega arith), lt-ltb (i .cease .0) (256 ^ 2) (omega arith)) tt
+ranged (defaultᶜ d) t =
+    let q = apart (from-to 0 44640 (d .minute .0)) (from-to 1 4 (d .kind) ∷ from-to 1 3 (d .reach) ∷ []) t in
+    let m = bounds 0 44640 (d .minute .0) (q .0) in let a = bounds 1 4 (d .kind) (q .1 .0) in let b = bounds 1 3 (d .reach) (q .1 .1 .0) in
+    rw (lt-ltb (d .minute .0) (256 ^ 2) (omega arith), lt-ltb (d .kind) (256 ^ 1) (omega arith), lt-ltb (d .reach) (256 ^ 1) (omega arith)) tt
+ranged (readingᶜ r) t =
+    let q = T-and (from-to 0 44640 (r .minute .0)) (isReading (r .kw .0)) t in
+    let m = bounds 0 44640 (r .minute .0) (q .0) in let z = reading-says (r .kw .0) (q .1) in
+    and-T (signFits (readingᶜ r)) (fit (2 ∷ 4 ∷ []) (operandsOf (readingᶜ r))) (z .0)
+    (rw (lt-ltb (r .minute .0) (256 ^ 2) (omega arith), lt-ltb (unsignedOf (r .kw .0)) (256 ^ 4) (omega arith)) tt)
+ranged closeᶜ t = tt
+
+-- ---- one command read where it stands
+
+in-table : (c : Command) → widthsOf (byteOf c) table ≡ some (widthsFor c)
+unfolding widthsOf table
+in-table (contractᶜ k) = refl
+in-table (windowᶜ w) = refl
+in-table (instructionᶜ i) = refl
+in-table (defaultᶜ d) = refl
+in-table (readingᶜ r) = refl
+in-table closeᶜ = refl
+
+-- a byte of the table with operands that fit, after `pre` and before `rest`
+read-layout : (pre rest : List ℕ) (b : ℕ) (ws v : List ℕ) → widthsOf b table ≡ some ws → T (fit ws v)
+    → readAt (pre ++ b ∷ (writeOperands ws v ++ rest)) (length pre) ≡ Got (commandOf b v) (length pre + (1 + total ws))
+unfolding readAt
+read-layout pre rest b ws v e h =
+    let s : List ℕ = pre ++ b ∷ (writeOperands ws v ++ rest) in
+    let n : length s ≡ length pre + (1 + (total ws + length rest)) =
+    simp length-append (omega (arith, length-operands ws v h)) in
+    let byte : getD s (length pre) 0 ≡ b = getD-append-seam pre b (writeOperands ws v ++ rest) 0 in
+    let ops : operands ws (drop (length pre + 1) s) ≡ v = ap (operands ws) (drop-append-add pre (b ∷ (writeOperands ws v ++ rest)) 1) ∙ operands-back ws v rest h in
+    rw (lt-leb (length s) (length pre) (omega arith), byte, e, le-ltb (length s - length pre) (1 + total ws) (omega arith), ops)
+    (ap (λ x. Got (commandOf x v) (length pre + (1 + total ws))) byte)
+
+module _ (c : Command) (t : T (sayable c)) where
+  says : T (signFits c) × T (fit (widthsFor c) (operandsOf c))
+  unfolding sayable
+  says = T-and (signFits c) (fit (widthsFor c) (operandsOf c)) t
+
+  size : length (write c) ≡ 1 + total (widthsFor c)
+  unfolding write
+  size = omega (arith, length-operands (widthsFor c) (operandsOf c) (says .1))
+
+  read-one : (before after : List ℕ) → readAt (before ++ write c ++ after) (length before) ≡ Got c (length before + length (write c))
+  unfolding write
+  read-one before after =
+      rw (append-assoc before (write c) after, read-layout before after (byteOf c) (widthsFor c) (operandsOf c) (in-table c) (says .1), command-back c (says .0), size)
+
+-- ---- a whole file
+
+at-end : (s : List ℕ) (at : ℕ) → length s ≤ at → readAt s at ≡ End
+unfolding readAt
+at-end s at h = rw (le-leb (length s) at h)
+
+none-left : (fuel : ℕ) (s : List ℕ) (at : ℕ) → length s ≤ at → commandsFrom fuel s at ≡ []
+unfolding commandsFrom
+none-left zero s at h = refl
+none-left (suc fuel) s at h = rw (at-end s at h)
+
+read-all : (fuel : ℕ) (before : List ℕ) (cs : List Command) → T (all sayable cs) → length (concatMap write cs) ≤ fuel
+    → commandsFrom fuel (before ++ concatMap write cs) (length before) ≡ cs
+unfolding all concatMap commandsFrom
+read-all fuel before [] t h = none-left fuel (before ++ []) (length before) (rw (append-nil before) (le-refl (length before)))
+read-all zero before (c ∷ cs) t h =
+    absurd (omega (arith, length-append (write c) (concatMap write cs), size c (T-and (sayable c) (all sayable cs) t .0)))
+read-all (suc fuel) before (c ∷ cs) t h =
+    let q = T-and (sayable c) (all sayable cs) t in
+    let rest : List ℕ = concatMap write cs in
+    let n : length rest ≤ fuel = omega (arith, length-append (write c) rest, size c (q .0)) in
+    rw (sym (append-assoc before (write c) rest), read-one c (q .0) before rest, sym (length-append before (write c)))
+    (ap (λ l. c ∷ l) (read-all fuel (before ++ write c) cs (q .1) n))
+
+-- ---- reading on
+
+-- the position after what is read, or one on
+abbrev after : ℕ → Read → ℕ
+after at (Got c next) = next
+after at (Refused n) = suc at
+after at End = suc at
+
+forward : (s : List ℕ) (at : ℕ) → at < after at (readAt s at)
+unfolding readAt
+forward s at = go (leb (length s) at) (widthsOf (getD s at 0) table)
+  where
+    some-read : (ws : List ℕ) (c : Command) (b : Bool) → at < after at (cond b (Refused 2) (Got c (at + (1 + total ws))))
+    some-read ws c true = omega arith
+    some-read ws c false = omega arith
+
+    go : (b : Bool) (o : Option (List ℕ)) → at < after at (cond b End (readBody o s at))
+    go true o = omega arith
+    go false none = omega arith
+    go false (some ws) = some-read ws (commandOf (getD s at 0) (operands ws (drop (at + 1) s))) (ltb (length s - at) (1 + total ws))
+
+-- two amounts of fuel that both reach the end
+same-fuel : (f h : ℕ) (s : List ℕ) (at : ℕ) → length s ≤ at + f → length s ≤ at + h → commandsFrom f s at ≡ commandsFrom h s at
+unfolding commandsFrom
+same-fuel zero h s at p q = sym (none-left h s at (omega arith))
+same-fuel (suc f) zero s at p q = none-left (suc f) s at (omega arith)
+same-fuel (suc f) (suc h) s at p q = go (readAt s at) (forward s at) (λ next a b. same-fuel f h s next a b)
+  where
+    go : (r : Read) → at < after at r → ((next : ℕ) → length s ≤ next + f → length s ≤ next + h → commandsFrom f s next ≡ commandsFrom h s next)
+        → readOn (λ next. commandsFrom f s next) r ≡ readOn (λ next. commandsFrom h s next) r
+    go (Got c next) lt rec = ap (λ l. c ∷ l) (rec next (omega arith) (omega arith))
+    go (Refused n) lt rec = refl
+    go End lt rec = refl
+
+pub reread : Reread
+unfolding commandsIn
+reread =
+    record {
+      size = size;
+      command = λ before after c t. read-one c t before after;
+      file = λ cs t. read-all (length (concatMap write cs)) [] cs t (le-refl (length (concatMap write cs)));
+      ranged = ranged;
+      enough = λ s more. same-fuel (length s + more) (length s) s 0 (omega arith) (omega arith);
+    }

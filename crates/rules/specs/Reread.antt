@@ -1,0 +1,48 @@
+-- "The unit file", both ways: what is written reads back as itself.
+use mathlib.Core.Path.{_≡_}
+use mathlib.Core.Bool.{Bool, true, false, _&&_}
+use mathlib.Core.List.{List, [], _∷_, _++_}
+use Prim.Native.Nat.{ℕ, _+_, _^_}
+use lib.Dec.{T, ltb}
+use lib.IntN.{pos, negsuc}
+use lib.ListN.{length}
+use lib.Signed.{leZ}
+use Rattle.energy.specs.Lists.{all, concatMap}
+use Rattle.rules.specs.Command.{onContract, onReading, always}
+use Rattle.rules.specs.Refusal.{from-toℤ, inRange}
+use Rattle.rules.specs.File.{total, readAt, operandsOf, widthsFor, write, commandsFrom, commandsIn}
+use Rattle.rules.specs.declared.entries.Command.{Command}
+use Rattle.rules.specs.declared.file.Read.the-variants.{Got}
+
+-- each operand fits its width
+unfoldable pub fit : List ℕ → List ℕ → Bool
+fit [] [] = true
+fit [] (n ∷ v) = false
+fit (w ∷ ws) [] = false
+fit (w ∷ ws) (n ∷ v) = ltb n (256 ^ w) && fit ws v
+
+-- contracted kW has no sign, and a reading's kW is a signed number of 4 bytes
+abbrev pub signFits : Command → Bool
+signFits c =
+    onContract (λ k. leZ (pos 0) (k .contracted .0))
+    (onReading (λ r. from-toℤ (negsuc 2147483647) (pos 2147483647) (r .kw .0))
+    (always true))
+    c
+
+-- a command that the operand bytes can say, in range or not
+unfoldable pub sayable : Command → Bool
+sayable c = signFits c && fit (widthsFor c) (operandsOf c)
+
+pub record Reread : Type 0 where
+  -- it is written at its whole length, and read back wherever it stands
+  pub size : (c : Command) → T (sayable c) → length (write c) ≡ 1 + total (widthsFor c)
+  pub command :
+      (before after : List ℕ) (c : Command)
+      → T (sayable c)
+      → readAt (before ++ write c ++ after) (length before) ≡ Got c (length before + length (write c))
+  -- commands written one after the other are the commands of their file
+  pub file : (cs : List Command) → T (all sayable cs) → commandsIn (concatMap write cs) ≡ cs
+  -- every command in range is one
+  pub ranged : (c : Command) → T (inRange c) → T (sayable c)
+  -- the commands of a file end at an end, 1 or 2: no more are found by reading on
+  pub enough : (s : List ℕ) (more : ℕ) → commandsFrom (length s + more) s 0 ≡ commandsIn s
