@@ -39,7 +39,7 @@ use Rattle.settlement.specs.declared.Settlement.{Settlement}
 use Rattle.book.proofs.Follow.{Follows, Clear, clear}
 use Rattle.book.proofs.Put.{put}
 use Rattle.rules.proofs.Partition.{once, nonempty}
-use Rattle.rules.proofs.Bounds.{energy-near, money-near}
+use Rattle.rules.proofs.Bounds.{bounds}
 
 and-left : (a b : Bool) → T (a && b) → T a
 and-left true b t = tt
@@ -251,8 +251,8 @@ right g =
       ruledLines = refl;
       once = once g;
       nonempty = nonempty g;
-      energy = subst (λ n. natAbs (pos 240 *ℤ sum (λ (l : Line). l .capped .0) (lines g) -ℤ exactEnergy g) ≤ 120 * n) (sym (lines-length g)) (energy-near g);
-      money = money-near g;
+      energy = bounds g .energy;
+      money = bounds g .money;
     }
 
 -- a settlement of a book that follows the commands taken is right for them

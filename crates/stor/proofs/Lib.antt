@@ -1,3 +1,4 @@
 pub mod Demand3
+pub mod Appendix2
 pub mod Pieces
 pub mod Files
