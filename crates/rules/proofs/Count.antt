@@ -1,19 +1,19 @@
 -- How many segments an instruction has: the periods that each of its three stages touches.
-use mathlib.Core.Path.{_≡_, refl, sym, ap, ap₂, _∙_, subst}
+use mathlib.Core.Path.{_≡_, refl, sym, ap, _∙_, subst}
 use mathlib.Core.Bool.{Bool, true, false, cond, not}
-use mathlib.Core.List.{List, [], _∷_, _++_}
+use mathlib.Core.List.{[], _∷_}
 use Prim.Native.Nat.{ℕ, zero, suc, _+_, _-_, _*_, _/_, _≤_, _<_, min}
 use native.Mathlib.Nat.{le-refl}
 use native.Mathlib.Omega.{arith}
 use native.Mathlib.Decide.{decLe, decLt}
 use lib.Dec.{T, ltb, ltb→lt, nltb→le}
-use lib.ListN.{length, length-append}
+use lib.ListN.{length}
 use borrow.Author.Tests.{lt-ltb, le-ltb}
 use Rattle.rules.specs.Ledger.{expiry, rise, endOf}
-use Rattle.rules.specs.Segment.{Segment, segmentsOf}
+use Rattle.rules.specs.Segment.{segmentsOf}
 use Rattle.rules.specs.declared.contract.Contract.{Contract}
 use Rattle.rules.specs.declared.entries.Instruction.{Instruction}
-use Rattle.rules.proofs.Cuts.{cutOf, stageEnd, split, rises, cut, cutsFrom, segmentAt, segments-cuts, Timed}
+use Rattle.rules.proofs.Cuts.{cutOf, split, rises, cut, cutsFrom, segmentAt, segments-cuts, Timed}
 
 -- the periods that the minutes from a to b - 1 touch
 unfoldable pub touched : ℕ → ℕ → ℕ
@@ -26,6 +26,17 @@ touched-yes a b h = rw (lt-ltb a b h) refl
 touched-no : (a b : ℕ) → b ≤ a → touched a b ≡ 0
 unfolding touched
 touched-no a b h = rw (le-ltb a b h) refl
+
+touched-most : (a b : ℕ) → touched a b ≤ (b - 1) / 30 - a / 30 + 1
+touched-most a b = go (decLt a b)
+  where
+    go : Dec (a < b) → touched a b ≤ (b - 1) / 30 - a / 30 + 1
+    go (yes h) = omega (arith, touched-yes a b h)
+    go (no d) = omega (arith, touched-no a b (omega (arith, d)))
+
+-- three stages, one after the other, touch few periods twice
+pub stages-most : (a e c f : ℕ) → a < e → e ≤ c → c < f → touched a e + touched e c + touched c f + a / 30 ≤ 3 + (f - 1) / 30
+stages-most a e c f h o o′ = omega (arith, touched-most a e, touched-most e c, touched-most c f)
 
 module _ (e c f : ℕ) (o : e ≤ c) (o′ : c ≤ f) where
   -- the segments from m on

@@ -1,61 +1,23 @@
 -- A segment's minutes are an interval: from its first minute up to the end of its stage or of its period, whichever is first. So the segments of an instruction are the cuts of its active minutes, one after the other.
 use mathlib.Core.Path.{_≡_, refl, sym, ap, ap₂, _∙_, subst}
 use mathlib.Core.Logic.{_⊎_, inl, inr, ⊎-elim, _≢_}
-use mathlib.Core.Bool.{Bool, true, false, cond, not, _&&_, _||_}
-use mathlib.Core.List.{List, [], _∷_, _++_, map}
+use mathlib.Core.Bool.{Bool, true, false, cond, not, _&&_, _||_, and-false, or-true}
+use mathlib.Core.List.{List, [], _∷_, _++_, append-nil, map}
 use Prim.Native.Nat.{ℕ, zero, suc, _+_, _-_, _*_, _/_, _≤_, _<_, zero-le, min}
 use native.Mathlib.Nat.{le-refl}
 use native.Mathlib.Omega.{arith}
-use native.Mathlib.Decide.{ℕ-discrete, decLe, decLt}
-use lib.Dec.{T, leb, ltb, eqb, ltb→lt, nltb→le, eqb→eq, eqb-refl}
+use native.Mathlib.Decide.{ℕ-discrete, decLe}
+use lib.Dec.{T, ltb, eqb, ltb→lt, nltb→le}
 use Rattle.energy.specs.Lists.{filter, run, between}
 use Rattle.energy.proofs.Tests.{eq-true, eq-false}
-use Rattle.energy.proofs.Sums.{run-append, between-split, between-cons}
-use Rattle.rules.specs.Ledger.{Ledger, contractOf, expiry, rise, endOf}
-use Rattle.rules.specs.Segment.{periodOf, stageOf, sameStage, alike, heads, active, Segment, segmentsOf, segmentsFrom, segments}
+use Rattle.energy.proofs.Sums.{between-split, between-cons}
+use Rattle.rules.specs.Ledger.{expiry, rise, endOf}
+use Rattle.rules.specs.Segment.{periodOf, stageOf, sameStage, alike, heads, active, Segment, segmentsOf, segments}
 use Rattle.rules.specs.declared.contract.Contract.{Contract}
 use Rattle.rules.specs.declared.entries.Instruction.{Instruction}
 use Rattle.rules.specs.declared.statement.Stage.{Stage}
 use Rattle.rules.specs.declared.statement.Stage.the-variants.{Up, Steady, Down}
-
--- ---- what a test keeps of numbers in a row
-module _ (f : ℕ → Bool) where
-  filter-append : (xs ys : List ℕ) → filter f (xs ++ ys) ≡ filter f xs ++ filter f ys
-  unfolding filter
-  filter-append [] ys = refl
-  filter-append (x ∷ xs) ys = go (f x) (filter-append xs ys)
-    where
-      go : (b : Bool) → filter f (xs ++ ys) ≡ filter f xs ++ filter f ys
-          → elim b as (λ z. List ℕ) [ true ↦ x ∷ filter f (xs ++ ys) | false ↦ filter f (xs ++ ys) ]
-          ≡ elim b as (λ z. List ℕ) [ true ↦ x ∷ filter f xs | false ↦ filter f xs ] ++ filter f ys
-      go true e = ap (λ l. x ∷ l) e
-      go false e = e
-
-  filter-yes : (x : ℕ) (xs : List ℕ) → f x ≡ true → filter f (x ∷ xs) ≡ x ∷ filter f xs
-  unfolding filter
-  filter-yes x xs e = ap (λ b. elim b as (λ z. List ℕ) [ true ↦ x ∷ filter f xs | false ↦ filter f xs ]) e
-
-  all-run : (a n : ℕ) → ((x : ℕ) → a ≤ x → x < a + n → f x ≡ true) → filter f (run a n) ≡ run a n
-  unfolding filter run
-  all-run a zero h = refl
-  all-run a (suc n) h =
-      let e : f a ≡ true = h a (le-refl a) (omega arith) in
-      rw e (ap (λ l. a ∷ l) (all-run (suc a) n (λ x l k. h x (omega arith) (omega arith))))
-
-  none-run : (a n : ℕ) → ((x : ℕ) → a ≤ x → x < a + n → f x ≡ false) → filter f (run a n) ≡ []
-  unfolding filter run
-  none-run a zero h = refl
-  none-run a (suc n) h =
-      let e : f a ≡ false = h a (le-refl a) (omega arith) in
-      rw e (none-run (suc a) n (λ x l k. h x (omega arith) (omega arith)))
-
-  pub filter-all : (a b : ℕ) → ((x : ℕ) → a ≤ x → x < b → f x ≡ true) → filter f (between a b) ≡ between a b
-  unfolding between
-  filter-all a b h = all-run a (b - a) (λ x l k. h x l (omega arith))
-
-  pub filter-none : (a b : ℕ) → ((x : ℕ) → a ≤ x → x < b → f x ≡ false) → filter f (between a b) ≡ []
-  unfolding between
-  filter-none a b h = none-run a (b - a) (λ x l k. h x l (omega arith))
+use Rattle.rules.proofs.Lists.{filter-ext, filter-yes, filter-append, filter-all, filter-none}
 
 -- ---- a number that never falls, r, and the place where it next rises, cut
 pub record Rises (r cut : ℕ → ℕ) (B : ℕ) : Type 0 where
@@ -65,13 +27,13 @@ pub record Rises (r cut : ℕ → ℕ) (B : ℕ) : Type 0 where
   pub flat : (m x : ℕ) → m ≤ x → x < cut m → r x ≡ r m
   pub jump : (m : ℕ) → cut m < B → r m < r (cut m)
 
+-- x is the first of its run, from A on
+unfoldable pub headTest : (ℕ → ℕ) → ℕ → ℕ → Bool
+headTest r A x = eqb x A || not (eqb (r (x - 1)) (r x))
+
 module _ (r cut : ℕ → ℕ) (A B : ℕ) (R : Rises r cut B) where
-  -- m is the first of its run
   abbrev Head : ℕ → Type 0
   Head m = (m ≡ A) ⊎ (r (m - 1) < r m)
-
-  headTest : ℕ → Bool
-  headTest x = eqb x A || not (eqb (r (x - 1)) (r x))
 
   -- the minutes of a run are an interval
   run-between : (m : ℕ) → A ≤ m → m < B → Head m → filter (λ x. eqb (r m) (r x)) (between A B) ≡ between m (cut m)
@@ -83,35 +45,27 @@ module _ (r cut : ℕ → ℕ) (A B : ℕ) (R : Rises r cut B) where
       (filter-append _ (between m (cut m)) (between (cut m) B)
       ∙ ap₂ _++_ (filter-all _ m (cut m) (λ x i k. eq-true (r m) (r x) (sym (R .flat m x i k))))
       (filter-none _ (cut m) B (λ x i k. eq-false (r m) (r x) (λ e. omega (arith, R .jump m (omega arith), R .mono (cut m) x i)))))
-      ∙ end-nil (between m (cut m))
+      ∙ append-nil (between m (cut m))
     where
       before : (x : ℕ) → A ≤ x → x < m → Head m → r m ≡ r x → ⊥
       before x i k (inl e) d = omega arith
       before x i k (inr j) d = omega (arith, R .mono x (m - 1) (omega arith))
 
-      end-nil : (xs : List ℕ) → xs ++ [] ≡ xs
-      end-nil [] = refl
-      end-nil (x ∷ xs) = ap (λ l. x ∷ l) (end-nil xs)
-
   -- the first of the runs from m on: m, and then those from the cut on
-  heads-cons : (m : ℕ) → A ≤ m → m < B → Head m → filter headTest (between m B) ≡ m ∷ filter headTest (between (cut m) B)
+  heads-cons : (m : ℕ) → A ≤ m → m < B → Head m → filter (headTest r A) (between m B) ≡ m ∷ filter (headTest r A) (between (cut m) B)
   unfolding headTest
   heads-cons m h l q =
       let u : m < cut m = R .above m l in let v : cut m ≤ B = R .inside m l in
-      ap (filter headTest) (between-cons m B l ∙ ap (λ z. m ∷ z) (between-split (suc m) (cut m) B u v))
-      ∙ filter-yes headTest m (between (suc m) (cut m) ++ between (cut m) B) (yes-head q)
-      ∙ ap (λ z. m ∷ z) (filter-append headTest (between (suc m) (cut m)) (between (cut m) B)
-      ∙ ap (λ z. z ++ filter headTest (between (cut m) B)) (filter-none headTest (suc m) (cut m) (λ x i k. no-head x i k)))
+      ap (filter (headTest r A)) (between-cons m B l ∙ ap (λ z. m ∷ z) (between-split (suc m) (cut m) B u v))
+      ∙ filter-yes (headTest r A) m (between (suc m) (cut m) ++ between (cut m) B) (yes-head q)
+      ∙ ap (λ z. m ∷ z) (filter-append (headTest r A) (between (suc m) (cut m)) (between (cut m) B)
+      ∙ ap (λ z. z ++ filter (headTest r A) (between (cut m) B)) (filter-none (headTest r A) (suc m) (cut m) (λ x i k. no-head x i k)))
     where
-      or-true : (b : Bool) → (b || true) ≡ true
-      or-true true = refl
-      or-true false = refl
-
-      yes-head : Head m → headTest m ≡ true
+      yes-head : Head m → headTest r A m ≡ true
       yes-head (inl e) = rw (eq-true m A e) refl
       yes-head (inr j) = rw (eq-false (r (m - 1)) (r m) (λ e. omega arith)) (or-true (eqb m A))
 
-      no-head : (x : ℕ) → suc m ≤ x → x < cut m → headTest x ≡ false
+      no-head : (x : ℕ) → suc m ≤ x → x < cut m → headTest r A x ≡ false
       no-head x i k = rw (eq-false x A (λ e. omega arith), eq-true (r (x - 1)) (r x) (R .flat m (x - 1) (omega arith) (omega arith) ∙ sym (R .flat m x (omega arith) k))) refl
 
   head-next : (m : ℕ) → m < B → cut m < B → Head (cut m)
@@ -214,32 +168,38 @@ both-eq p q a b h = go (ℕ-discrete p q) (ℕ-discrete a b)
     apart : (p ≡ q → a ≡ b → ⊥) → p + a ≢ q + b
     apart d e = ⊎-elim (λ w. d (omega (arith, w .0, w .1)) (omega (arith, w .0, w .1))) (λ w. d (omega (arith, w .0, w .1)) (omega (arith, w .0, w .1))) h
 
-    and-false : (x : Bool) → (x && false) ≡ false
-    and-false true = refl
-    and-false false = refl
-
     go : Dec (p ≡ q) → Dec (a ≡ b) → (eqb p q && eqb a b) ≡ eqb (p + a) (q + b)
     go (yes d) (yes e) = rw (eq-true p q d, eq-true a b e, eq-true (p + a) (q + b) (ap₂ _+_ d e)) refl
     go (yes d) (no e) = rw (eq-false a b e, eq-false (p + a) (q + b) (apart (λ x y. e y))) (and-false (eqb p q))
     go (no d) e = rw (eq-false p q d, eq-false (p + a) (q + b) (apart (λ x y. d x))) refl
 
-alike-rank : (k : Contract) (i : Instruction) (m n : ℕ) → alike k i m n ≡ eqb (rank (expiry k i) (i .cease .0) m) (rank (expiry k i) (i .cease .0) n)
+-- of the minutes of an instruction
+abbrev pub rankOf : Contract → Instruction → ℕ → ℕ
+rankOf k i = rank (expiry k i) (i .cease .0)
+
+pub rank-mono : (k : Contract) (i : Instruction) (m n : ℕ) → m ≤ n → rankOf k i m ≤ rankOf k i n
+rank-mono k i m n h = omega (arith, ix-mono (expiry k i) (i .cease .0) m n h)
+
+pub alike-rank : (k : Contract) (i : Instruction) (m n : ℕ) → alike k i m n ≡ eqb (rankOf k i m) (rankOf k i n)
 unfolding alike stageOf
 alike-rank k i m n =
-    ap (λ x. eqb (periodOf m) (periodOf n) && x) (same-ix (stageAt (expiry k i) (i .cease .0) m) (stageAt (expiry k i) (i .cease .0) n))
-    ∙ both-eq (periodOf m) (periodOf n) (stageIx (stageAt (expiry k i) (i .cease .0) m)) (stageIx (stageAt (expiry k i) (i .cease .0) n)) (go (decLe m n))
+    ap (λ x. eqb (periodOf m) (periodOf n) && x) (same-ix (stage m) (stage n))
+    ∙ both-eq (periodOf m) (periodOf n) (stageIx (stage m)) (stageIx (stage n)) (go (decLe m n))
   where
+    stage : ℕ → Stage
+    stage = stageAt (expiry k i) (i .cease .0)
+
     go : Dec (m ≤ n)
-        → ((periodOf m ≤ periodOf n) × (stageIx (stageAt (expiry k i) (i .cease .0) m) ≤ stageIx (stageAt (expiry k i) (i .cease .0) n)))
-        ⊎ ((periodOf n ≤ periodOf m) × (stageIx (stageAt (expiry k i) (i .cease .0) n) ≤ stageIx (stageAt (expiry k i) (i .cease .0) m)))
+        → ((periodOf m ≤ periodOf n) × (stageIx (stage m) ≤ stageIx (stage n))) ⊎ ((periodOf n ≤ periodOf m) × (stageIx (stage n) ≤ stageIx (stage m)))
     go (yes h) = inl (omega arith, ix-mono (expiry k i) (i .cease .0) m n h)
     go (no d) = let h : n ≤ m = omega (arith, d) in inr (omega arith, ix-mono (expiry k i) (i .cease .0) n m h)
 
-module _ {A : Type 0} where
-  pub filter-ext : (f g : A → Bool) → ((x : A) → f x ≡ g x) → (xs : List A) → filter f xs ≡ filter g xs
-  unfolding filter
-  filter-ext f g h [] = refl
-  filter-ext f g h (x ∷ xs) = ap₂ (λ b l. elim b as (λ z. List A) [ true ↦ x ∷ l | false ↦ l ]) (h x) (filter-ext f g h xs)
+-- the heads of an instruction's segments are the first minutes of each rank
+pub heads-rank : (k : Contract) (i : Instruction) → heads k i ≡ filter (headTest (rankOf k i) (rise k i)) (active k i)
+unfolding heads headTest
+heads-rank k i =
+    filter-ext (λ m. eqb m (rise k i) || not (alike k i (m - 1) m)) (headTest (rankOf k i) (rise k i))
+    (λ m. ap (λ b. eqb m (rise k i) || not b) (alike-rank k i (m - 1) m)) (active k i)
 
 -- the segment from m of the instruction i, the n-th
 abbrev pub cut : Contract → Instruction → ℕ → ℕ
@@ -259,11 +219,11 @@ pub record Timed (k : Contract) (i : Instruction) : Type 0 where
   pub steady : expiry k i ≤ i .cease .0
 
 module _ (k : Contract) (n : ℕ) (i : Instruction) (t : Timed k i) where
-  abbrev R : Rises (rank (expiry k i) (i .cease .0)) (cut k i) (endOf k i)
+  abbrev R : Rises (rankOf k i) (cut k i) (endOf k i)
   R = rises (expiry k i) (i .cease .0) (endOf k i) (t .steady) (omega arith)
 
   abbrev r : ℕ → ℕ
-  r = rank (expiry k i) (i .cease .0)
+  r = rankOf k i
 
   abbrev Hd : ℕ → Type 0
   Hd = Head r (cut k i) (rise k i) (endOf k i) R
@@ -277,7 +237,7 @@ module _ (k : Contract) (n : ℕ) (i : Instruction) (t : Timed k i) where
       (filter-ext (alike k i m) (λ x. eqb (r m) (r x)) (λ x. alike-rank k i m x) (between (rise k i) (endOf k i)) ∙ run-between r (cut k i) (rise k i) (endOf k i) R m h l q)
 
   abbrev test : ℕ → Bool
-  test = headTest r (cut k i) (rise k i) (endOf k i) R
+  test = headTest r (rise k i)
 
   cuts-go : (u m : ℕ) → endOf k i ≤ m + u → rise k i ≤ m → (m < endOf k i → Hd m) → map seg (filter test (between m (endOf k i))) ≡ cutsFrom k n i u m
   unfolding cutsFrom
@@ -296,10 +256,8 @@ module _ (k : Contract) (n : ℕ) (i : Instruction) (t : Timed k i) where
 
   -- the segments of an instruction, one after the other
   pub segments-cuts : segmentsOf k n i ≡ cutsFrom k n i (endOf k i - rise k i) (rise k i)
-  unfolding segmentsOf heads headTest active
-  segments-cuts =
-      ap (map seg) (filter-ext (λ m. eqb m (rise k i) || not (alike k i (m - 1) m)) test (λ x. ap (λ b. eqb x (rise k i) || not b) (alike-rank k i (x - 1) x)) (between (rise k i) (endOf k i)))
-      ∙ cuts-go (endOf k i - rise k i) (rise k i) (omega arith) (le-refl (rise k i)) (λ z. inl refl)
+  unfolding segmentsOf active
+  segments-cuts = ap (map seg) (heads-rank k i) ∙ cuts-go (endOf k i - rise k i) (rise k i) (omega arith) (le-refl (rise k i)) (λ z. inl refl)
 
 -- the stage is the same throughout a segment
 pub stage-flat : (e c f m n : ℕ) → m ≤ n → n < cutOf e c f m → stageAt e c n ≡ stageAt e c m

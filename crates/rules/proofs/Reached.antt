@@ -21,6 +21,7 @@ use Rattle.rules.specs.declared.entries.Default.{Default}
 use Rattle.rules.specs.declared.entries.Reading.{Reading}
 use Rattle.rules.specs.declared.entries.Command.{Command}
 use Rattle.rules.specs.declared.entries.Command.the-variants.{Contract as contractᶜ, Window as windowᶜ, Instruction as instructionᶜ, Default as defaultᶜ, Reading as readingᶜ, Close as closeᶜ}
+use Rattle.rules.proofs.Terms.{Terms, terms}
 use Rattle.rules.proofs.Taken.{grown, ledgerOf-snoc, Allowed, allowed}
 use Rattle.rules.proofs.Tables.{lastEnd, last-end, one-window, windows-snoc, ready, ready-recovered, one-instruction, instructions-snoc, defaults-more}
 
@@ -47,6 +48,10 @@ tested {k} {ws} {is} {ds} p =
 
 pub parts-of : {size : ℕ} {g : Ledger} → Agreed size g → Parts (contractOf g) (g .windows) (g .instructions) (g .defaults)
 parts-of {g = g} a = parts (contractOf g) (g .windows) (g .instructions) (g .defaults) (a .tests)
+
+-- the contract of a ledger, in numbers
+pub terms-of : {size : ℕ} {g : Ledger} → Agreed size g → Terms (contractOf g)
+terms-of {g = g} a = let p = parts-of a in terms (contractOf g) (p .operands) (p .ramps)
 
 -- readings of a contract's span
 abbrev Readings : Contract → Ledger → Type 0
@@ -254,5 +259,5 @@ reach-after size t (c ∷ cs) r = reach-after size (joined (refusal false size (
     go (some n) e = r
 
 pub reached : Reached·theorem
-unfolding Reached·theorem taken
+unfolding taken
 reached size cs = reach-after size [] cs (start size)

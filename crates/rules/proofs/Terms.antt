@@ -1,19 +1,22 @@
 -- What the ranges and ramps of a contract come to as numbers.
 use mathlib.Core.Path.{_≡_, refl, sym, subst}
+use mathlib.Core.Bool.{not}
 use mathlib.Core.List.{[], _∷_}
 use Prim.Native.Nat.{ℕ, _≤_}
-use lib.Dec.{T, leb, leb→le}
+use lib.Dec.{T, leb, ltb, leb→le}
 use lib.Signed.{nonNeg}
 use mir.Syntax.{w32}
 use mir.Val.{Fits}
+use native.Mathlib.Nat.{le-div-iff-mul-le}
 use native.Mathlib.Omega.{arith}
 use lib.IntN.{ℤ, pos, negsuc, natAbs}
-use Rattle.energy.proofs.Tests.{T-and}
-use Rattle.rules.specs.Ledger.{kwOf}
-use Rattle.rules.specs.Refusal.{from-to, from-toℤ, inRange}
+use Rattle.energy.specs.Number.{ceiling}
+use Rattle.energy.proofs.Tests.{T-and, off-or, off-ltb}
+use Rattle.rules.specs.Ledger.{kwOf, upMinutes, downMinutes}
+use Rattle.rules.specs.Refusal.{from-to, from-toℤ, inRange, rampTooLong}
 use Rattle.rules.specs.declared.contract.Contract.{Contract}
 use Rattle.rules.specs.declared.entries.Command.the-variants.{Contract as contractᶜ}
-use Rattle.rules.proofs.Chain.{apart}
+use Rattle.rules.proofs.Chain.{apart, not-on}
 
 -- the operands of a contract in their ranges
 pub record Ranges (k : Contract) : Type 0 where
@@ -73,3 +76,25 @@ ranges k t =
 -- the contracted kW as an unsigned number
 pub kw-unsigned : (k : Contract) → Ranges k → T (nonNeg (k .contracted .0)) × Fits w32 (natAbs (k .contracted .0))
 kw-unsigned k r = (subst (λ z. T (nonNeg z)) (sym (r .positive)) tt, record { fits = omega arith })
+
+-- a ramp takes a minute at least
+pub ceiling-some : (n d : ℕ) → 1 ≤ n → 1 ≤ d → 1 ≤ ceiling n d
+unfolding ceiling
+ceiling-some n d h k = le-div-iff-mul-le k .1 (omega arith)
+
+-- a contract in its ranges whose ramps are short enough
+pub record Terms (k : Contract) : Type 0 where
+  pub ranges : Ranges k
+  pub up : (1 ≤ upMinutes k) × (upMinutes k ≤ k .response .0)
+  pub down : (1 ≤ downMinutes k) × (downMinutes k ≤ 240)
+
+pub terms : (k : Contract) → T (inRange (contractᶜ k)) → T (not (rampTooLong (contractᶜ k))) → Terms k
+unfolding upMinutes downMinutes
+terms k t s =
+    let r : Ranges k = ranges k t in
+    let q = off-or (ltb (k .response .0) (upMinutes k)) (ltb 240 (downMinutes k)) (not-on (rampTooLong (contractᶜ k)) s) in
+    record {
+      ranges = r;
+      up = (ceiling-some (kwOf k) (k .rampup) (omega arith) (r .rampup .0), off-ltb (k .response .0) (upMinutes k) (q .0));
+      down = (ceiling-some (kwOf k) (k .rampdown) (omega arith) (r .rampdown .0), off-ltb 240 (downMinutes k) (q .1));
+    }

@@ -5,6 +5,7 @@ pub mod Input
 pub mod Reached
 pub mod Segment
 pub mod Statement
+pub mod Lines
 pub mod File
 pub mod Examples
 pub mod Figures

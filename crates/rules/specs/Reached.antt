@@ -73,5 +73,5 @@ pub data Reached (size : ℕ) (g : Ledger) : Type 0 where
   agreed : Agreed size g → Reached size g
 
 -- commands of any number and kind leave no other, whatever the size of meter memory
-unfoldable pub Reached·theorem : Type 0
+abbrev pub Reached·theorem : Type 0
 Reached·theorem = (size : ℕ) (cs : List Command) → Reached size (ledgerOf (taken size cs))

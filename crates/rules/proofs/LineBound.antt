@@ -1,0 +1,96 @@
+-- The number of a statement's lines: at most 48 a day less 1, and 3 for each instruction.
+use mathlib.Core.Path.{_≡_, refl, sym, ap, ap₂, _∙_}
+use mathlib.Core.List.{List, [], _∷_}
+use Prim.Native.Nat.{ℕ, suc, _+_, _-_, _*_, _/_, _≤_, _<_}
+use native.Mathlib.Nat.{le-refl}
+use native.Mathlib.Omega.{arith}
+use lib.Dec.{T}
+use lib.ListN.{length, length-append, length-map}
+use Rattle.energy.specs.Lists.{sumℕ}
+use Rattle.rules.specs.Ledger.{Ledger, ledgerOf, contractOf, spanOf, expiry, rise, endOf}
+use Rattle.rules.specs.Refusal.{taken}
+use Rattle.rules.specs.Segment.{segmentsOf, segmentsFrom, segments}
+use Rattle.rules.specs.Statement.{lineOf, lines}
+use Rattle.rules.specs.Reached.{instructionsSound, Reached}
+use Rattle.rules.specs.Reached.Reached.{untouched, agreed}
+use Rattle.rules.specs.Lines.{LineBound, LineBound·theorem}
+use Rattle.rules.specs.declared.contract.Contract.{Contract}
+use Rattle.rules.specs.declared.entries.Instruction.{Instruction}
+use Rattle.rules.proofs.Cuts.{Timed}
+use Rattle.rules.proofs.Count.{touched, stages-most, count-segments}
+use Rattle.rules.proofs.Terms.{Terms}
+use Rattle.rules.proofs.Tables.{InstructionFits, instructions-cons}
+use Rattle.rules.proofs.Reached.{parts-of, terms-of, reached}
+
+-- the periods that each stage of an instruction touches, together
+abbrev pub touches : Contract → Instruction → ℕ
+touches k i = touched (rise k i) (expiry k i) + touched (expiry k i) (i .cease .0) + touched (i .cease .0) (endOf k i)
+
+-- ---- the segments of one instruction
+
+module _ (k : Contract) (t : Terms k) where
+  timed : {e : ℕ} {i : Instruction} → InstructionFits k e i → Timed k i
+  timed f = record { starts = omega arith; steady = f .ceased }
+
+  count-of : (n : ℕ) {e : ℕ} (i : Instruction) → InstructionFits k e i → length (segmentsOf k n i) ≡ touches k i
+  count-of n i f = count-segments k n i (timed f) (omega arith)
+
+  touches-most : {e : ℕ} (i : Instruction) → InstructionFits k e i → touches k i + rise k i / 30 ≤ 3 + (endOf k i - 1) / 30
+  touches-most i f = stages-most (rise k i) (expiry k i) (i .cease .0) (endOf k i) (omega arith) (f .ceased) (omega arith)
+
+  -- over all instructions after minute e: p is a minute before them, 0 or the last active one
+  segments-most : (is : List Instruction) (n e p : ℕ) → T (instructionsSound k e is) → p ≤ e → p < spanOf k
+      → length (segmentsFrom k n is) + p / 30 ≤ 3 * length is + (spanOf k - 1) / 30
+  unfolding segmentsFrom
+  segments-most [] n e p s h l = omega arith
+  segments-most (i ∷ is) n e p s h l =
+      let (f, s′) = instructions-cons k e i is s in
+      let here : length (segmentsOf k n i) + rise k i / 30 ≤ 3 + (endOf k i - 1) / 30 = rw (count-of n i f) (touches-most i f) in
+      let rest : length (segmentsFrom k (suc n) is) + (endOf k i - 1) / 30 ≤ 3 * length is + (spanOf k - 1) / 30 =
+      segments-most is (suc n) (endOf k i + k .recovery .0) (endOf k i - 1) s′ (omega arith) (omega arith) in
+      omega (arith, length-append (segmentsOf k n i) (segmentsFrom k (suc n) is))
+
+  -- and how many there are
+  segments-count : (is : List Instruction) (n e : ℕ) → T (instructionsSound k e is) → length (segmentsFrom k n is) ≡ sumℕ (touches k) is
+  unfolding segmentsFrom sumℕ
+  segments-count [] n e s = refl
+  segments-count (i ∷ is) n e s =
+      let (f, s′) = instructions-cons k e i is s in
+      length-append (segmentsOf k n i) (segmentsFrom k (suc n) is)
+      ∙ ap₂ _+_ (count-of n i f) (segments-count is (suc n) (endOf k i + k .recovery .0) s′)
+
+-- ---- the lines of a ledger
+
+pub lines-segments : (g : Ledger) → length (lines g) ≡ length (segments g)
+unfolding lines
+lines-segments g = length-map (segments g) (lineOf g)
+
+-- none without an instruction
+none : (k : Contract) (is : List Instruction) → is ≡ [] → (length (segmentsFrom k 1 is) ≡ 0) × (sumℕ (touches k) is ≡ 0)
+unfolding segmentsFrom sumℕ
+none k is e = (ap (λ is. length (segmentsFrom k 1 is)) e, ap (sumℕ (touches k)) e)
+
+-- the number of lines of a ledger that commands leave
+pub lines-count : {size : ℕ} (g : Ledger) → Reached size g → length (lines g) ≡ sumℕ (touches (contractOf g)) (g .instructions)
+unfolding segments
+lines-count g (untouched u) = let z = none (contractOf g) (g .instructions) (u .instructions) in lines-segments g ∙ z .0 ∙ sym (z .1)
+lines-count g (agreed a) = lines-segments g ∙ segments-count (contractOf g) (terms-of a) (g .instructions) 1 0 (parts-of a .instructions)
+
+-- and its bound
+bound : {size : ℕ} (g : Ledger) → Reached size g → LineBound g
+unfolding segments
+bound g (untouched u) =
+    let z : length (lines g) ≡ 0 = lines-segments g ∙ none (contractOf g) (g .instructions) (u .instructions) .0 in
+    record { most = omega arith; elevenDays = λ h. omega arith; inAll = omega arith }
+bound g (agreed a) =
+    let k : Contract = contractOf g in
+    let t : Terms k = terms-of a in
+    let days : (1 ≤ k .days) × (k .days ≤ 31) = t .ranges .days in
+    let few : length (g .instructions) ≤ 64 = a .instructions in
+    let most : length (segmentsFrom k 1 (g .instructions)) + 0 / 30 ≤ 3 * length (g .instructions) + (spanOf k - 1) / 30 =
+    segments-most k t (g .instructions) 1 0 0 (parts-of a .instructions) (le-refl 0) (omega arith) in
+    let same : length (lines g) ≡ length (segmentsFrom k 1 (g .instructions)) = lines-segments g in
+    record { most = omega arith; elevenDays = λ h. omega arith; inAll = omega arith }
+
+pub line-bound : LineBound·theorem
+line-bound size cs = bound (ledgerOf (taken size cs)) (reached size cs)

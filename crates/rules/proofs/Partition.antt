@@ -1,0 +1,216 @@
+-- Each active minute belongs to exactly one line, and each line has one: of every ledger.
+use mathlib.Core.Path.{_≡_, refl, sym, ap, ap₂, _∙_, subst}
+use mathlib.Core.Logic.{⊎-elim, _≢_}
+use mathlib.Core.Bool.{Bool, true, false, not, _&&_, _||_, and-false, or-true}
+use mathlib.Core.List.{List, [], _∷_, List·Memᴰ, List·Memᴰ·not-nil, List·Memᴰ·append-cases, Memᴰ·of-map}
+use mathlib.Core.Option.{some, Option·some-injective, Option·none-ne-some}
+use Prim.Native.Nat.{ℕ, zero, suc, _+_, _-_, _≤_, _<_}
+use native.Mathlib.Nat.{le-refl}
+use native.Mathlib.Omega.{arith}
+use native.Mathlib.Decide.{ℕ-discrete}
+use lib.Dec.{T, eqb}
+use lib.ListN.{getElem?}
+use Rattle.energy.specs.Lists.{count, filter, run, between}
+use Rattle.energy.proofs.Tests.{eq-true, eq-false, to-T}
+use Rattle.rules.specs.Ledger.{Ledger, contractOf, rise, endOf}
+use Rattle.rules.specs.Segment.{periodOf, stageOf, sameStage, alike, heads, active, Segment, segmentsOf, segmentsFrom, segments}
+use Rattle.rules.specs.Statement.{lineOf, lines}
+use Rattle.rules.specs.Lines.{belongs, Active, MinuteOf, Partition·theorem}
+use Rattle.rules.specs.declared.contract.Contract.{Contract}
+use Rattle.rules.specs.declared.entries.Instruction.{Instruction}
+use Rattle.rules.specs.declared.statement.Line.{Line}
+use Rattle.rules.specs.declared.statement.Stage.{Stage}
+use Rattle.rules.specs.declared.statement.Stage.the-variants.{Up, Steady, Down}
+use Rattle.rules.proofs.Chain.{together}
+use Rattle.rules.proofs.Lists.{kept-was, in-run, count-yes, count-no, count-ext, count-none, count-append, count-filter, count-map}
+use Rattle.rules.proofs.Cuts.{headTest, rankOf, rank-mono, alike-rank, heads-rank}
+
+-- ---- of the minutes where a number that never falls has one value, one is the first
+
+module _ (f : ℕ → ℕ) (mono : (x y : ℕ) → x ≤ y → f x ≤ f y) (A v : ℕ) where
+  starts : ℕ → Bool
+  starts x = headTest f A x && eqb (f x) v
+
+  starts-no : (x : ℕ) → f x ≢ v → starts x ≡ false
+  unfolding starts
+  starts-no x h = ap (λ b. headTest f A x && b) (eq-false (f x) v h) ∙ and-false (headTest f A x)
+
+  starts-yes : (a : ℕ) → f (suc a) ≡ v → f a ≢ v → starts (suc a) ≡ true
+  unfolding starts headTest
+  starts-yes a h k =
+      ap₂ (λ b c. (eqb (suc a) A || not b) && c) (eq-false (f (suc a - 1)) (f (suc a)) (λ e. k (ap f (omega arith) ∙ e ∙ h))) (eq-true (f (suc a)) v h)
+      ∙ ap (λ b. b && true) (or-true (eqb (suc a) A))
+
+  starts-on : (a : ℕ) → A ≤ a → f (suc a) ≡ v → f a ≡ v → starts (suc a) ≡ false
+  unfolding starts headTest
+  starts-on a h k l =
+      ap₂ (λ b c. (b || not c) && eqb (f (suc a)) v) (eq-false (suc a) A (λ e. omega arith)) (eq-true (f (suc a - 1)) (f (suc a)) (ap f (omega arith) ∙ l ∙ sym k))
+
+  count-past : (n a : ℕ) → A ≤ a → v ≤ f a → count starts (run (suc a) n) ≡ 0
+  unfolding run
+  count-past zero a h k = unfold count in refl
+  count-past (suc n) a h k =
+      let m : f a ≤ f (suc a) = mono a (suc a) (omega arith) in
+      count-no starts (suc a) (run (suc (suc a)) n) (go (ℕ-discrete (f (suc a)) v)) ∙ count-past n (suc a) (omega arith) (omega arith)
+    where
+      go : Dec (f (suc a) ≡ v) → starts (suc a) ≡ false
+      go (yes e) = let m : f a ≤ f (suc a) = mono a (suc a) (omega arith) in starts-on a h e (omega arith)
+      go (no d) = starts-no (suc a) d
+
+  count-once : (n a x : ℕ) → A ≤ a → f a < v → a < x → x < suc a + n → f x ≡ v → count starts (run (suc a) n) ≡ 1
+  unfolding run
+  count-once zero a x h k l r e = absurd (omega arith)
+  count-once (suc n) a x h k l r e = go (ℕ-discrete (f (suc a)) v) (λ q. count-once n (suc a) x (omega arith) q)
+    where
+      go : Dec (f (suc a) ≡ v) → (f (suc a) < v → suc a < x → x < suc (suc a) + n → f x ≡ v → count starts (run (suc (suc a)) n) ≡ 1)
+          → count starts (suc a ∷ run (suc (suc a)) n) ≡ 1
+      go (yes d) rest =
+          count-yes starts (suc a) (run (suc (suc a)) n) (starts-yes a d (λ q. omega arith))
+          ∙ ap suc (count-past n (suc a) (omega arith) (omega arith))
+      go (no d) rest =
+          let m : f (suc a) ≤ f x = mono (suc a) x (omega arith) in
+          let c : suc a ≢ x = λ q. d (ap f q ∙ e) in
+          count-no starts (suc a) (run (suc (suc a)) n) (starts-no (suc a) d) ∙ rest (omega (arith, d)) (omega arith) (omega arith) e
+
+  count-starts : (n m : ℕ) → A ≤ m → m < A + n → f m ≡ v → count starts (run A n) ≡ 1
+  unfolding run starts headTest
+  count-starts zero m h k e = absurd (omega arith)
+  count-starts (suc n) m h k e = go (ℕ-discrete (f A) v)
+    where
+      at-first : f A ≡ v → starts A ≡ true
+      at-first d = ap₂ (λ a b. (a || not (eqb (f (A - 1)) (f A))) && b) (eq-true A A refl) (eq-true (f A) v d)
+
+      go : Dec (f A ≡ v) → count starts (A ∷ run (suc A) n) ≡ 1
+      go (yes d) = count-yes starts A (run (suc A) n) (at-first d) ∙ ap suc (count-past n A (le-refl A) (omega arith))
+      go (no d) =
+          let l : f A ≤ f m = mono A m h in
+          let c : A ≢ m = λ q. d (ap f q ∙ e) in
+          count-no starts A (run (suc A) n) (starts-no A d) ∙ count-once n A m (le-refl A) (omega (arith, d)) (omega arith) (omega arith) e
+
+-- exactly one segment's first minute is like an active minute m
+heads-once : (k : Contract) (i : Instruction) (m : ℕ) → rise k i ≤ m → m < endOf k i → count (λ h. alike k i h m) (heads k i) ≡ 1
+unfolding active between starts
+heads-once k i m h l =
+    ap (count (λ x. alike k i x m)) (heads-rank k i)
+    ∙ count-filter (λ x. alike k i x m) (headTest (rankOf k i) (rise k i)) (run (rise k i) (endOf k i - rise k i))
+    ∙ count-ext (λ x. headTest (rankOf k i) (rise k i) x && alike k i x m) (starts (rankOf k i) (rank-mono k i) (rise k i) (rankOf k i m))
+    (run (rise k i) (endOf k i - rise k i)) (λ x. ap (λ b. headTest (rankOf k i) (rise k i) x && b) (alike-rank k i x m))
+    ∙ count-starts (rankOf k i) (rank-mono k i) (rise k i) (rankOf k i m) (endOf k i - rise k i) m h (omega arith) refl
+
+-- ---- over all instructions
+
+-- the test of `belongs`, on a segment
+hit : Contract → ℕ → Instruction → ℕ → Segment → Bool
+hit k n i m s = eqb (s .number) n && eqb (periodOf (s .head)) (periodOf m) && sameStage (stageOf k (s .instruction) (s .head)) (stageOf k i m)
+
+-- the segment of instruction n that begins at x
+abbrev pub segmentFrom : Contract → ℕ → Instruction → ℕ → Segment
+segmentFrom k n i x = record { number = n; instruction = i; head = x; minutes = filter (alike k i x) (active k i) }
+
+hits-of : (k : Contract) (n : ℕ) (i : Instruction) (m : ℕ) → rise k i ≤ m → m < endOf k i → count (hit k n i m) (segmentsOf k n i) ≡ 1
+unfolding segmentsOf hit
+hits-of k n i m h l =
+    count-map (hit k n i m) (segmentFrom k n i) (heads k i)
+    ∙ count-ext (λ x. hit k n i m (segmentFrom k n i x)) (λ x. alike k i x m) (heads k i)
+    (λ x. unfold alike in ap (λ b. b && eqb (periodOf x) (periodOf m) && sameStage (stageOf k i x) (stageOf k i m)) (eq-true n n refl))
+    ∙ heads-once k i m h l
+
+-- another instruction's segments have another number
+hits-other : (k : Contract) (n n′ : ℕ) (i i′ : Instruction) (m : ℕ) → n′ ≢ n → count (hit k n i m) (segmentsOf k n′ i′) ≡ 0
+unfolding segmentsOf hit
+hits-other k n n′ i i′ m d =
+    count-map (hit k n i m) (segmentFrom k n′ i′) (heads k i′)
+    ∙ count-none (λ x. hit k n i m (segmentFrom k n′ i′ x)) (heads k i′)
+    (λ x. ap (λ b. b && eqb (periodOf x) (periodOf m) && sameStage (stageOf k i′ x) (stageOf k i m)) (eq-false n′ n d))
+
+hits-later : (k : Contract) (n n′ : ℕ) (i : Instruction) (is : List Instruction) (m : ℕ) → n < n′ → count (hit k n i m) (segmentsFrom k n′ is) ≡ 0
+unfolding segmentsFrom count
+hits-later k n n′ i [] m h = refl
+hits-later k n n′ i (i′ ∷ is) m h =
+    count-append (hit k n i m) (segmentsOf k n′ i′) (segmentsFrom k (suc n′) is)
+    ∙ ap₂ _+_ (hits-other k n n′ i i′ m (λ e. omega arith)) (hits-later k n (suc n′) i is m (omega arith))
+
+hits-from : (k : Contract) (is : List Instruction) (n j : ℕ) (i : Instruction) (m : ℕ) → getElem? is j ≡ some i → rise k i ≤ m → m < endOf k i
+    → count (hit k (n + j) i m) (segmentsFrom k n is) ≡ 1
+unfolding segmentsFrom
+hits-from k [] n j i m e h l = absurd (Option·none-ne-some i e)
+hits-from k (i′ ∷ is) n zero i m e h l =
+    let q : i′ ≡ i = Option·some-injective i′ i e in
+    count-append (hit k (n + 0) i m) (segmentsOf k n i′) (segmentsFrom k (suc n) is)
+    ∙ ap₂ _+_
+    (ap₂ (λ a b. count (hit k a i m) (segmentsOf k n b)) (omega arith) q ∙ hits-of k n i m h l)
+    (hits-later k (n + 0) (suc n) i is m (omega arith))
+hits-from k (i′ ∷ is) n (suc j) i m e h l =
+    count-append (hit k (n + suc j) i m) (segmentsOf k n i′) (segmentsFrom k (suc n) is)
+    ∙ ap₂ _+_
+    (hits-other k (n + suc j) n i i′ m (λ q. omega arith))
+    (ap (λ a. count (hit k a i m) (segmentsFrom k (suc n) is)) (omega arith) ∙ hits-from k is (suc n) j i m e h l)
+
+once : (g : Ledger) (n : ℕ) (i : Instruction) (m : ℕ) → Active g n i m → count (belongs (contractOf g) (suc n) i m) (lines g) ≡ 1
+unfolding lines lineOf segments hit
+once g n i m a =
+    count-map (belongs (contractOf g) (suc n) i m) (lineOf g) (segments g)
+    ∙ ap (λ x. count (hit (contractOf g) x i m) (segments g)) (omega arith)
+    ∙ hits-from (contractOf g) (g .instructions) 1 n i m (a .given) (a .begun) (a .before-end)
+
+-- ---- no line is without a minute
+
+-- where a segment comes from: its instruction, and a head of it
+pub record From (k : Contract) (is : List Instruction) (n : ℕ) (s : Segment) : Type 0 where
+  pub place : ℕ
+  pub given : getElem? is place ≡ some (s .instruction)
+  pub same : s ≡ segmentFrom k (n + place) (s .instruction) (s .head)
+  pub isHead : List·Memᴰ (s .head) (heads k (s .instruction))
+
+pub segment-from : (k : Contract) (is : List Instruction) (n : ℕ) (s : Segment) → List·Memᴰ s (segmentsFrom k n is) → From k is n s
+unfolding segmentsFrom segmentsOf
+segment-from k [] n s h = absurd (List·Memᴰ·not-nil h)
+segment-from k (i ∷ is) n s h = ⊎-elim here (λ q. go (segment-from k is (suc n) s q)) (List·Memᴰ·append-cases (segmentsOf k n i) h)
+  where
+    here : List·Memᴰ s (segmentsOf k n i) → From k (i ∷ is) n s
+    here q =
+        let (x, r, e) = Memᴰ·of-map (segmentFrom k n i) (heads k i) q in
+        let z : n ≡ n + 0 = omega arith in
+        subst (λ s. From k (i ∷ is) n s) e (record { place = 0; given = refl; same = ap (λ a. segmentFrom k a i x) z; isHead = r })
+
+    go : From k is (suc n) s → From k (i ∷ is) n s
+    go f =
+        let z : suc n + f .place ≡ n + suc (f .place) = omega arith in
+        record { place = suc (f .place); given = f .given; same = f .same ∙ ap (λ a. segmentFrom k a (s .instruction) (s .head)) z; isHead = f .isHead }
+
+-- a head is an active minute, and the first of its rank
+pub head-active : (k : Contract) (i : Instruction) (m : ℕ) → List·Memᴰ m (heads k i) → (rise k i ≤ m) × (m < endOf k i) × T (headTest (rankOf k i) (rise k i) m)
+unfolding active between
+head-active k i m h =
+    let q = kept-was (headTest (rankOf k i) (rise k i)) (run (rise k i) (endOf k i - rise k i)) (subst (λ l. List·Memᴰ m l) (heads-rank k i) h) in
+    let r = in-run (endOf k i - rise k i) (rise k i) m (q .0) in
+    (r .0, omega (arith, r .0, r .1), q .1)
+
+same-self : (s : Stage) → sameStage s s ≡ true
+same-self Up = refl
+same-self Steady = refl
+same-self Down = refl
+
+nonempty : (g : Ledger) (l : Line) → List·Memᴰ l (lines g) → MinuteOf g l
+unfolding lines lineOf segments
+nonempty g l h =
+    let k : Contract = contractOf g in
+    let (s, q, e) = Memᴰ·of-map (lineOf g) (segments g) h in
+    let f : From k (g .instructions) 1 s = segment-from k (g .instructions) 1 s q in
+    let a = head-active k (s .instruction) (s .head) (f .isHead) in
+    let number : s .number ≡ 1 + f .place = ap (λ (s : Segment). s .number) (f .same) in
+    let stage : Stage = stageOf k (s .instruction) (s .head) in
+    subst (λ l. MinuteOf g l) e
+    (record {
+      n = f .place;
+      i = s .instruction;
+      m = s .head;
+      active = record { given = f .given; begun = a .0; before-end = a .1 };
+      itsLine =
+          together (eqb (s .number) (suc (f .place))) (eqb (periodOf (s .head)) (periodOf (s .head)) ∷ sameStage stage stage ∷ [])
+          (to-T (eq-true (s .number) (suc (f .place)) (omega arith)))
+          (to-T (eq-true (periodOf (s .head)) (periodOf (s .head)) refl), (to-T (same-self stage), tt));
+    })
+
+pub partition : Partition·theorem
+partition g = record { once = once g; nonempty = nonempty g }
