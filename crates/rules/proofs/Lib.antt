@@ -8,7 +8,6 @@ pub mod Reached
 pub mod Partition
 pub mod Cuts
 pub mod Count
-pub mod Partition
 pub mod Rising
 pub mod Steady
 pub mod LineBound

@@ -10,6 +10,5 @@ pub mod File
 pub mod Examples
 pub mod Figures
 pub mod Refused
-pub mod Lines
 pub mod Bounds
 pub mod Reread
