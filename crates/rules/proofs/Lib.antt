@@ -14,7 +14,8 @@ pub mod LineBound
 pub mod Busiest
 pub mod Opened
 pub mod Figures
+pub mod Corners
 pub mod Refused
 pub mod Bounds
-pub mod Bytes
+pub mod Operands
 pub mod Reread

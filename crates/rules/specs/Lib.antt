@@ -9,6 +9,7 @@ pub mod Lines
 pub mod File
 pub mod Examples
 pub mod Figures
+pub mod Corners
 pub mod Refused
 pub mod Bounds
 pub mod Reread
