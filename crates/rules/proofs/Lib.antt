@@ -19,3 +19,4 @@ pub mod Refused
 pub mod Bounds
 pub mod Operands
 pub mod Reread
+pub mod FileLength

@@ -13,3 +13,4 @@ pub mod Corners
 pub mod Refused
 pub mod Bounds
 pub mod Reread
+pub mod FileLength
