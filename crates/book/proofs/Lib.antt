@@ -1,2 +1,2 @@
+pub mod Holds
 pub mod Follow
-pub mod Put

@@ -147,7 +147,7 @@ step size g closeᶜ s a =
 -- ---- a list
 
 -- meter memory holds the span
-span-fits : {size : ℕ} {g : Ledger} → Reached size g → spanOf (contractOf g) ≤ size
+pub span-fits : {size : ℕ} {g : Ledger} → Reached size g → spanOf (contractOf g) ≤ size
 unfolding contractOf first
 span-fits {size} (untouched u) = subst⁻¹ (λ ks. spanOf (first noContract ks) ≤ size) (u .contracts) (omega arith)
 span-fits (agreed a) = a .span

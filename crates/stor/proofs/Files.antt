@@ -20,13 +20,13 @@ use Rattle.rules.specs.declared.file.Read.the-variants.{Refused as refusedʳ}
 use Rattle.book.specs.Book.{emptyBook}
 use Rattle.book.specs.Enter.{enterBook, Entered}
 use Rattle.book.specs.declared.Book.{Book}
-use Rattle.book.proofs.Follow.{Follows}
+use Rattle.book.proofs.Follow.{Follows, follow, answers, starts}
 use Rattle.settlement.specs.Settle.{settleBook, Settled}
 use Rattle.stor.specs.Steps.{Step, read, entries, readsOn, position, onwards}
 use Rattle.stor.specs.Demand3.{SettlementRight}
 use Rattle.stor.specs.Files.{LoadedFile, carriesOn, loadsOn, loadFrom, load, settlesFile, settleFile, readRefusal, FileRight, File·theorem}
 use Rattle.stor.specs.declared.file.Loaded.{Loaded}
-use Rattle.stor.proofs.Demand3.{follow, starts, answers, settlement-right}
+use Rattle.stor.proofs.Demand3.{settlement-right}
 use Rattle.stor.proofs.Pieces.{past-end}
 
 -- entering from a position on, behind the commands t: some commands more are taken, and what stands behind them decides
@@ -102,7 +102,7 @@ module _ (ends-later : (s : List ℕ) (at : ℕ) (c : Command) (next : ℕ) → 
 
       go : Rest → (r : Read) → readAt file at ≡ r → Ran file size (suc n) at t (loadsOn (λ next b m. loadFrom n file next b m) at b meter r)
       go rest (Got c next) got =
-          subst⁻¹ (λ a. Ran file size (suc n) at t (carriesOn (loadFrom n file next) at a (e c))) (answers t b meter c f)
+          subst⁻¹ (λ a. Ran file size (suc n) at t (carriesOn (loadFrom n file next) at a (e c))) (answers c f)
           (entering rest c next got (refusal false size (ledgerOf t) c) refl (follow c f))
       go rest (refusedʳ x) got =
           stopped file f (suc n) at (Refused x) (ap (λ w. answerOf (readRefusal size t w)) (sym got)) (λ a. absurd (let z : _≡_ {A = ℕ} 0 1 = cc in omega arith))
