@@ -72,7 +72,7 @@ tables-pass b t =
     )
 
 -- the tests of what is in them, with a contract or without
-abbrev contents : Book → Bool → List Bool
+abbrev pub contents : Book → Bool → List Bool
 contents b c = cond c (agreedTests (b .contract) (take (b .nwindows) (b .windows)) (take (b .ninstructions) (b .instructions)) (take (b .ndefaults) (b .defaults))) (emptyTests b)
 
 pub record Sound (b : Book) : Type 0 where
@@ -289,7 +289,7 @@ module _ {size : ℕ} {t : List Command} {b : Book} {meter : List ℤ} (f : Foll
   put-any closeᶜ a = put-close a
 
   -- the book keeps following
-  put-follows : (c : Command) → refusal false size (ledgerOf t) c ≡ none → Follows size (t ++ (c ∷ [])) (putBook b c) (putMeter meter c)
+  pub put-follows : (c : Command) → refusal false size (ledgerOf t) c ≡ none → Follows size (t ++ (c ∷ [])) (putBook b c) (putMeter meter c)
   put-follows c e =
       let p : Put c b meter = put-any c (subst⁻¹ (λ l. Allowed size l c) (f .ledger) (allowed size (ledgerOf t) c e)) in
       let l : ledgerIn (putBook b c) (putMeter meter c) ≡ ledgerOf (t ++ (c ∷ [])) = p .holds ∙ ap (λ l. grown l c) (f .ledger) ∙ sym (ledgerOf-snoc t c) in

@@ -1,2 +1,4 @@
 pub mod Holds
 pub mod Follow
+pub mod Determined
+pub mod Left

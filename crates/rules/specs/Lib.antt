@@ -14,3 +14,4 @@ pub mod Refused
 pub mod Bounds
 pub mod Reread
 pub mod FileLength
+pub mod Rewritten
