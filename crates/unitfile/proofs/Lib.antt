@@ -1,0 +1,4 @@
+pub mod Found
+pub mod Places
+pub mod Words
+pub mod Operands
