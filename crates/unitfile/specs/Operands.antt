@@ -2,8 +2,7 @@
 use mathlib.Core.List.{List}
 use Prim.Native.Nat.{ℕ, _^_, _≤_, _<_}
 use lib.ListN.{getD}
-use Rattle.rules.specs.File.{table}
-use Rattle.unitfile.specs.Table.{layoutAt, placeIn}
+use Rattle.unitfile.specs.Table.{widthsFor}
 
 -- at most eleven operands, none of them wider than four bytes
 pub record Narrow (count : ℕ) (widths : List ℕ) : Type 0 where
@@ -12,4 +11,4 @@ pub record Narrow (count : ℕ) (widths : List ℕ) : Type 0 where
 
 -- each number fits the width that the table has for it under a command byte
 pub record Sized (byte : ℕ) (v : List ℕ) : Type 0 where
-  pub sized : (k : ℕ) → getD v k 0 < 256 ^ getD (layoutAt (placeIn byte table) .widths) k 0
+  pub sized : (k : ℕ) → getD v k 0 < 256 ^ getD (widthsFor byte) k 0

@@ -1,10 +1,10 @@
--- The rules' table as the code keeps it: rows of one shape, found by their place.
-use mathlib.Core.Bool.{cond}
-use mathlib.Core.List.{List, [], _∷_, _++_}
-use Prim.Native.Nat.{ℕ, zero, suc, _+_, _-_}
-use lib.Dec.{eqb}
+-- The rules' table as the code keeps it: rows of one shape, found by their command byte.
+use mathlib.Core.List.{List, [], _++_}
+use mathlib.Core.Option.{Option, none, some}
+use Prim.Native.Nat.{ℕ, _+_, _-_}
 use lib.ListN.{length, getD, replicate}
-use Rattle.rules.specs.File.{Layout, table, total}
+use Rattle.energy.specs.Lists.{else}
+use Rattle.rules.specs.File.{Layout, table, widthsOf, total}
 use Rattle.unitfile.specs.declared.table.Row.{Row}
 
 -- numbers in eleven places, zeros after them
@@ -19,7 +19,15 @@ rowOf l = record { byte = l .byte; length = 1 + total (l .widths); count = lengt
 unfoldable pub layoutAt : ℕ → Layout
 layoutAt k = getD table k (record { byte = 0; widths = [] })
 
--- the place of the first row with a command byte, or the number of rows
-unfoldable pub placeIn : ℕ → List Layout → ℕ
-placeIn b [] = 0
-placeIn b (r ∷ rs) = cond (eqb (r .byte) b) 0 (suc (placeIn b rs))
+-- the row of a command byte with these widths, and one of length 0 where it has none
+unfoldable pub rowIn : ℕ → Option (List ℕ) → Row
+rowIn b none = record { byte = 0; length = 0; count = 0; widths = padded [] }
+rowIn b (some ws) = rowOf (record { byte = b; widths = ws })
+
+-- the row of a command byte
+unfoldable pub rowFor : ℕ → Row
+rowFor b = rowIn b (widthsOf b table)
+
+-- the operand widths of a command byte, none where the table lacks it
+unfoldable pub widthsFor : ℕ → List ℕ
+widthsFor b = else (widthsOf b table) []

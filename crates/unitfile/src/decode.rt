@@ -1,9 +1,7 @@
 // Decoding: the command that stands at a position of a unit file.
 use crate::command::command_of;
 use crate::number::number_in;
-use crate::table::ROWS;
-use crate::table::place_of;
-use crate::table::row_at;
+use crate::table::row_of;
 use rules::file::Read;
 ghost use mathlib.Core.Path.{_≡_};
 ghost use Prim.Native.Nat.{_+_, _≤_};
@@ -38,12 +36,11 @@ pub fn read_at(s: &[u8], at: usize) -> Read
         return Read::End;
     }
     let byte = s[at];
-    let place = place_of(byte);
-    if ROWS <= place {
+    let row = row_of(byte);
+    let length = row.length as usize;
+    if length == 0 {
         return Read::Refused(1);
     }
-    let row = row_at(place);
-    let length = row.length as usize;
     if s.len() - at < length {
         return Read::Refused(2);
     }

@@ -1,8 +1,7 @@
 // The table of the unit file: command bytes, whole lengths and operand widths. Decoder and encoder read them here.
 ghost use mathlib.Core.Path.{_≡_};
 ghost use Prim.Native.Nat.{_<_};
-ghost use Rattle.rules.specs.File.{table};
-ghost use Rattle.unitfile.specs.Table.{placeIn, rowOf, layoutAt};
+ghost use Rattle.unitfile.specs.Table.{rowOf, layoutAt, rowFor};
 
 // A command in the table.
 pub struct Row {
@@ -13,8 +12,6 @@ pub struct Row {
     pub count: u8,
     pub widths: [u8; 11],
 }
-
-pub const ROWS: usize = 6;
 
 // Contract, window, instruction, default, reading, close.
 const TABLE: [Row; 6] = [
@@ -56,25 +53,32 @@ const TABLE: [Row; 6] = [
     },
 ];
 
-// The row at a place of the table.
-pub fn row_at(place: usize) -> Row
+// The row of a byte that the table lacks: no command is that short.
+const MISSING: Row = Row {
+    byte: 0,
+    length: 0,
+    count: 0,
+    widths: [0, 0, 0, 0, 0, 0, 0, 0, 0, 0, 0],
+};
+
+fn row_at(place: usize) -> Row
     requires { ⌜ place < 6 ⌝ }
     ensures { λ r. ⌜ r ≡ rowOf (layoutAt place) ⌝ }
 {
     TABLE[place]
 }
 
-// The place of a command byte in the table, or ROWS where the table lacks it.
-pub fn place_of(byte: u8) -> usize
-    ensures { λ r. ⌜ r ≡ placeIn byte table ⌝ }
+// The row of a command byte.
+pub fn row_of(byte: u8) -> Row
+    ensures { λ r. ⌜ r ≡ rowFor byte ⌝ }
 {
     let mut place: usize = 0;
-    while place < ROWS {
+    while place < 6 {
         let row = row_at(place);
         if row.byte == byte {
-            return place;
+            return row;
         }
         place += 1;
     }
-    place
+    MISSING
 }

@@ -1,7 +1,8 @@
 use mathlib.Core.Path.{refl}
 use borrow.Author.Needs.{needs}
-use Rattle.rules.specs.File.{table, commandOf}
-use Rattle.unitfile.specs.Table.{layoutAt, placeIn}
+use Rattle.energy.specs.Lists.{else}
+use Rattle.rules.specs.File.{table, widthsOf, commandOf}
+use Rattle.unitfile.specs.Table.{widthsFor}
 use Rattle.unitfile.proofs.command.default_of.Statement.{statement}
 use Rattle.unitfile.proofs.command.default_of.Tie as tie
 
@@ -9,21 +10,21 @@ array-read-t6 : tie.Need-array-read-t6
 array-read-t6 c = search needs
 
 cast-t7 : tie.Need-cast-t7
-unfolding table layoutAt placeIn
+unfolding else table widthsOf widthsFor
 cast-t7 c = record { fits = c .pre .sized 0 }
 
 array-read-t6-2 : tie.Need-array-read-t6-2
 array-read-t6-2 c = search needs
 
 cast-t10 : tie.Need-cast-t10
-unfolding table layoutAt placeIn
+unfolding else table widthsOf widthsFor
 cast-t10 c = record { fits = c .pre .sized 1 }
 
 array-read-t13 : tie.Need-array-read-t13
 array-read-t13 c = search needs
 
 cast-t14 : tie.Need-cast-t14
-unfolding table layoutAt placeIn
+unfolding else table widthsOf widthsFor
 cast-t14 c = record { fits = c .pre .sized 2 }
 
 returns : tie.Need-returns

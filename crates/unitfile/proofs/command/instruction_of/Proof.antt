@@ -1,7 +1,8 @@
 use mathlib.Core.Path.{refl}
 use borrow.Author.Needs.{needs}
-use Rattle.rules.specs.File.{table, commandOf}
-use Rattle.unitfile.specs.Table.{layoutAt, placeIn}
+use Rattle.energy.specs.Lists.{else}
+use Rattle.rules.specs.File.{table, widthsOf, commandOf}
+use Rattle.unitfile.specs.Table.{widthsFor}
 use Rattle.unitfile.proofs.command.instruction_of.Statement.{statement}
 use Rattle.unitfile.proofs.command.instruction_of.Tie as tie
 
@@ -9,14 +10,14 @@ array-read-t7 : tie.Need-array-read-t7
 array-read-t7 c = search needs
 
 cast-t8 : tie.Need-cast-t8
-unfolding table layoutAt placeIn
+unfolding else table widthsOf widthsFor
 cast-t8 c = record { fits = c .pre .sized 0 }
 
 array-read-t7-2 : tie.Need-array-read-t7-2
 array-read-t7-2 c = search needs
 
 cast-t8-2 : tie.Need-cast-t8-2
-unfolding table layoutAt placeIn
+unfolding else table widthsOf widthsFor
 cast-t8-2 c = record { fits = c .pre .sized 1 }
 
 returns : tie.Need-returns

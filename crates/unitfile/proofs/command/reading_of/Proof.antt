@@ -1,8 +1,9 @@
 use borrow.Author.Needs.{needs}
 use mir.Syntax.{w64}
 use mir.Facts.{toZ-ofZ}
-use Rattle.rules.specs.File.{table, commandOf}
-use Rattle.unitfile.specs.Table.{layoutAt, placeIn}
+use Rattle.energy.specs.Lists.{else}
+use Rattle.rules.specs.File.{table, widthsOf, commandOf}
+use Rattle.unitfile.specs.Table.{widthsFor}
 use Rattle.unitfile.proofs.command.reading_of.Statement.{statement}
 use Rattle.unitfile.proofs.command.reading_of.Tie as tie
 use Rattle.unitfile.proofs.command.signed.Reads as signed-reads
@@ -11,14 +12,14 @@ array-read-t7 : tie.Need-array-read-t7
 array-read-t7 c = search needs
 
 cast-t8 : tie.Need-cast-t8
-unfolding table layoutAt placeIn
+unfolding else table widthsOf widthsFor
 cast-t8 c = record { fits = c .pre .sized 0 }
 
 array-read-signed : tie.Need-array-read-signed
 array-read-signed c = search needs
 
 signed-requires : tie.Need-signed-requires
-unfolding table layoutAt placeIn
+unfolding else table widthsOf widthsFor
 signed-requires c κs = c .pre .sized 1
 
 returns : tie.Need-returns

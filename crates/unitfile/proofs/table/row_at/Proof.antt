@@ -5,7 +5,7 @@ use borrow.Author.Needs.{needs}
 use lib.ListN.{List·getD-map}
 use Rattle.rules.specs.File.{table, total}
 use Rattle.unitfile.specs.Table.{padded, rowOf, layoutAt}
-use Rattle.unitfile.proofs.Places.{getD-any}
+use Rattle.unitfile.proofs.Rows.{getD-any}
 use Rattle.unitfile.proofs.table.row_at.Statement.{statement}
 use Rattle.unitfile.proofs.table.row_at.Tie as tie
 
