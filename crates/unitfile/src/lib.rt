@@ -4,4 +4,5 @@ pub mod decode;
 pub mod encode;
 pub mod number;
 pub mod operand;
+pub mod reader;
 pub mod table;
