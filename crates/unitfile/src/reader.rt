@@ -2,7 +2,6 @@
 use crate::decode::read_at;
 use rules::file::Read;
 ghost use mathlib.Core.Path.{_≡_};
-ghost use Rattle.rules.specs.File.{readAt};
 ghost use Rattle.unitfile.specs.Reader.{after, stepAt};
 
 pub struct Reader<'a> {
