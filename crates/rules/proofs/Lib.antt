@@ -6,6 +6,7 @@ pub mod Taken
 pub mod Tables
 pub mod Reached
 pub mod Partition
+pub mod Replay
 pub mod Cuts
 pub mod Count
 pub mod Rising
@@ -20,3 +21,4 @@ pub mod Bounds
 pub mod Operands
 pub mod Reread
 pub mod FileLength
+pub mod Rewritten
