@@ -1,13 +1,13 @@
 -- 11 in both directions: the books that a list of commands leaves are the sound ones. A sound book is left by the commands that it is written as.
 use mathlib.Core.Path.{_≡_, refl, sym, ap, _∙_, subst, subst⁻¹}
-use mathlib.Core.Bool.{Bool, true, false, cond}
+use mathlib.Core.Bool.{Bool, true, false, cond, not}
 use mathlib.Core.List.{List, [], _∷_, _++_}
 use mathlib.Core.Option.{Option, none, some, Option·none-ne-some}
 use Prim.Native.Nat.{ℕ, zero, suc, _≤_, _<_}
 use native.Mathlib.Nat.{le-refl}
 use native.Mathlib.Omega.{arith}
 use lib.IntN.{ℤ}
-use lib.Dec.{T, ltb, eqb→eq}
+use lib.Dec.{T, ltb, ltb→lt, eqb→eq}
 use lib.ListN.{length, take, getD, replicate, length-replicate, length-take}
 use Rattle.energy.specs.Lists.{pass}
 use Rattle.energy.proofs.Tests.{to-T, of-T, Passes, passes}
@@ -15,8 +15,9 @@ use Rattle.rules.specs.Ledger.{Ledger, ledgerOf, contractOf, spanOf}
 use Rattle.rules.specs.Refusal.{refusal, isReading, joined, takenAfter, taken}
 use Rattle.rules.specs.Reached.{Reached, untouched, agreed, Untouched, Agreed, agreedTests}
 use Rattle.rules.specs.File.{written}
-use Rattle.rules.specs.Rewritten.{Rewritten, Rewritten·theorem}
+use Rattle.rules.specs.Rewritten.{Rewritten}
 use Rattle.rules.specs.declared.entries.Command.{Command}
+use Rattle.rules.proofs.Rewritten.{rewritten}
 use Rattle.book.specs.Book.{emptyBook, ledgerIn, putBook, putMeter, putAll, cell, missing}
 use Rattle.book.specs.Sound.{sound, Shaped, Left, Left·theorem, emptyTests}
 use Rattle.book.specs.declared.Book.{Book}
@@ -76,7 +77,7 @@ given b meter m kw e = in-span (ltb m (spanOf (b .contract))) refl e
     in-range z false i h = absurd (Option·none-ne-some kw h)
 
     in-span : (t : Bool) → ltb m (spanOf (b .contract)) ≡ t → cond t (cell (getD meter m missing)) none ≡ some kw → (m < spanOf (b .contract)) × T (isReading kw)
-    in-span true l h = (lib.Dec.ltb→lt m (spanOf (b .contract)) (to-T l), in-range (getD meter m missing) (isReading (getD meter m missing)) refl h)
+    in-span true l h = (ltb→lt m (spanOf (b .contract)) (to-T l), in-range (getD meter m missing) (isReading (getD meter m missing)) refl h)
     in-span false l h = absurd (Option·none-ne-some kw h)
 
 with-contract : (b : Book) (meter : List ℤ) (size : ℕ) → sound b ≡ true → b .agreed ≡ true → spanOf (b .contract) ≤ size → Agreed size (ledgerIn b meter)
@@ -114,7 +115,7 @@ holds-nothing b t =
       notClosed = off (b .closed) (p .1 .0);
     }
   where
-    off : (x : Bool) → T (mathlib.Core.Bool.not x) → x ≡ false
+    off : (x : Bool) → T (not x) → x ≡ false
     off true t = absurd t
     off false t = refl
 
@@ -153,8 +154,8 @@ same-book b c meter after s s′ e e′ l =
       closed = ap (λ g. g .closed) l;
     })
 
-sound-left : Rewritten·theorem → (b : Book) → Shaped b → T (sound b) → Left b
-sound-left rewritten b s t =
+sound-left : (b : Book) → Shaped b → T (sound b) → Left b
+sound-left b s t =
     let size : ℕ = spanOf (b .contract) in
     let e : sound b ≡ true = of-T (sound b) t in
     let g : Ledger = ledgerIn b [] in
@@ -168,6 +169,6 @@ sound-left rewritten b s t =
       leaves = same-book b after [] (l .meter) s (l .follows .shaped) e (l .follows .left) (sym same);
     }
 
-pub left : Rewritten·theorem → Left·theorem
+pub left : Left·theorem
 unfolding Left·theorem
-left r b s = (λ t. sound-left r b s t, λ l. left-sound b l)
+left b s = (λ t. sound-left b s t, λ l. left-sound b l)

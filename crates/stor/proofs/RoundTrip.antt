@@ -11,17 +11,16 @@ use lib.IntN.{ℤ}
 use lib.Dec.{T, ltb}
 use lib.ListN.{length, take, drop}
 use lib.Seq.{take-append-seam}
-use Rattle.energy.specs.Lists.{all, concatMap}
-use Rattle.energy.proofs.Tests.{to-T, of-T, off-not, all-mono, all-snoc}
+use Rattle.energy.proofs.Tests.{of-T, off-not}
 use Rattle.rules.specs.Ledger.{Ledger, ledgerOf, contractOf, spanOf}
-use Rattle.rules.specs.Refusal.{refusal, lowest, inRange, joined, takenAfter, taken, answerOf}
+use Rattle.rules.specs.Refusal.{lowest, takenAfter, taken}
 use Rattle.rules.specs.File.{written, fileOf, commandsIn}
-use Rattle.rules.specs.Reread.{sayable}
-use Rattle.rules.specs.Rewritten.{Rewritten, Rewritten·theorem}
+use Rattle.rules.specs.Reached.{Reached}
+use Rattle.rules.specs.Rewritten.{Rewritten}
 use Rattle.rules.specs.declared.entries.Command.{Command}
 use Rattle.rules.specs.declared.answer.Answer.the-variants.{Taken}
-use Rattle.rules.proofs.Reread.{reread}
-use Rattle.rules.proofs.Taken.{Clear, clear, allowed}
+use Rattle.rules.proofs.Rewritten.{rewritten, file-commands}
+use Rattle.rules.proofs.Taken.{Clear, clear}
 use Rattle.book.specs.Book.{emptyBook, ledgerIn}
 use Rattle.book.specs.Sound.{sound, Shaped}
 use Rattle.book.specs.Enter.{enterBook}
@@ -54,22 +53,6 @@ writable b meter memory e = go (lowest (writeConditions (not (sound b)) (length 
         }
     go (some n) q h = absurd (let z : _≡_ {A = ℕ} 0 1 = cc in omega arith)
 
--- ---- commands that are taken are in range
-
-ranged-after : (size : ℕ) (t cs : List Command) → T (all inRange t) → T (all inRange (takenAfter size t cs))
-unfolding takenAfter
-ranged-after size t [] h = h
-ranged-after size t (c ∷ cs) h = ranged-after size (joined (refusal false size (ledgerOf t) c) t c) cs (go (refusal false size (ledgerOf t) c) refl)
-  where
-    go : (o : Option ℕ) → refusal false size (ledgerOf t) c ≡ o → T (all inRange (joined o t c))
-    go none e = all-snoc inRange t c h (allowed size (ledgerOf t) c e .operands)
-    go (some n) e = h
-
--- so a file of them is read as them
-file-back : (size : ℕ) (cs : List Command) → taken size cs ≡ cs → T (all sayable cs)
-unfolding taken
-file-back size cs e = all-mono inRange sayable cs (reread .ranged) (subst (λ x. T (all inRange x)) e (ranged-after size [] cs (unfold all in tt)))
-
 -- ---- read again
 
 -- entering commands one after the other keeps book and commands together
@@ -79,12 +62,13 @@ unfolding takenAfter enterAll
 follow-all [] f = f
 follow-all (c ∷ cs) f = follow-all cs (follow c f)
 
-again : Rewritten·theorem → (b : Book) (meter fresh : List ℤ) → Shaped b → sound b ≡ true → spanOf (b .contract) ≤ length fresh → SameAgain b meter fresh (fileOf (ledgerIn b meter))
-unfolding fileOf taken
-again rewritten b meter fresh s e h =
+again : (b : Book) (meter fresh : List ℤ) → Shaped b → sound b ≡ true → spanOf (b .contract) ≤ length fresh → SameAgain b meter fresh (fileOf (ledgerIn b meter))
+unfolding taken
+again b meter fresh s e h =
     let g : Ledger = ledgerIn b meter in
-    let w : Rewritten (length fresh) g = rewritten (length fresh) g (book-reached b meter (length fresh) e h) in
-    let back : commandsIn (fileOf g) ≡ written g = reread .file (written g) (file-back (length fresh) (written g) (w .allTaken)) in
+    let r : Reached (length fresh) g = book-reached b meter (length fresh) e h in
+    let w : Rewritten (length fresh) g = rewritten (length fresh) g r in
+    let back : commandsIn (fileOf g) ≡ written g = file-commands (length fresh) g r in
     let b′ : Book = enterAll emptyBook fresh (written g) .book in
     let m′ : List ℤ = enterAll emptyBook fresh (written g) .meter in
     let f : Follows (length fresh) (written g) b′ m′ = subst (λ t. Follows (length fresh) t b′ m′) (w .allTaken) (follow-all (written g) (starts fresh)) in
@@ -96,11 +80,11 @@ again rewritten b meter fresh s e h =
           ap (λ cs. ledgerIn b (enterAll emptyBook fresh cs .meter) .reading m) back ∙ ap (λ x. ledgerIn x m′ .reading m) (sym same) ∙ ap (λ g. g .reading m) l;
     }
 
-pub round-trip : Rewritten·theorem → RoundTrip·theorem
+pub round-trip : RoundTrip·theorem
 unfolding RoundTrip·theorem
-round-trip rewritten b meter fresh memory s n e =
+round-trip b meter fresh memory s n e =
     let w : Writable b meter memory = writable b meter memory e in
-    subst⁻¹ (λ bytes. SameAgain b meter fresh bytes) (w .bytes) (again rewritten b meter fresh s (w .left) (fits (w .left) (b .agreed) refl (w .span)))
+    subst⁻¹ (λ bytes. SameAgain b meter fresh bytes) (w .bytes) (again b meter fresh s (w .left) (fits (w .left) (b .agreed) refl (w .span)))
   where
     fits : sound b ≡ true → (x : Bool) → b .agreed ≡ x → spanOf (contractOf (ledgerIn b meter)) ≤ length meter → spanOf (b .contract) ≤ length fresh
     fits e true q h = subst (λ k. spanOf k ≤ length fresh) (contract-is b meter q) (subst⁻¹ (λ size. spanOf (contractOf (ledgerIn b meter)) ≤ size) n h)
