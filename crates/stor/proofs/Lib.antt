@@ -3,3 +3,4 @@ pub mod Appendix2
 pub mod RoundTrip
 pub mod Pieces
 pub mod Files
+pub mod Turns

@@ -93,10 +93,10 @@ enough (suc n) (suc k) s at b m h i = go (λ next b m. enough n k s next b m) (r
     go rest End e = refl
 
 -- all commands from a position on, with turns enough
-from : List ℕ → ℕ → Book → List ℤ → LoadedFile
+unfoldable pub from : List ℕ → ℕ → Book → List ℤ → LoadedFile
 from s at b m = loadFrom (length s) s at b m
 
-from-step : (s : List ℕ) (at : ℕ) (b : Book) (m : List ℤ) → from s at b m ≡ loadsOn (λ next b m. from s next b m) at b m (readAt s at)
+pub from-step : (s : List ℕ) (at : ℕ) (b : Book) (m : List ℤ) → from s at b m ≡ loadsOn (λ next b m. from s next b m) at b m (readAt s at)
 unfolding from loadFrom
 from-step s at b m = enough (length s) (suc (length s)) s at b m (omega arith) (omega arith)
 
