@@ -3,3 +3,10 @@ pub mod Follow
 pub mod Determined
 pub mod Left
 pub mod Kept
+pub mod Tables
+pub mod Search
+pub mod Cells
+pub mod Numbers
+pub mod Walks
+pub mod Tested
+pub mod Entered
