@@ -4,9 +4,9 @@ pub mod Determined
 pub mod Left
 pub mod Kept
 pub mod Tables
+pub mod Tested
 pub mod Search
 pub mod Cells
 pub mod Numbers
 pub mod Walks
-pub mod Tested
 pub mod Entered
