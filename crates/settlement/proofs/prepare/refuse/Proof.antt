@@ -1,9 +1,9 @@
--- `settlement::settle::refuse` meets its contract. Assumes nothing.
+-- `settlement::prepare::refuse` meets its contract. Assumes nothing.
 use mathlib.Core.Path.{_≡_}
 use borrow.Author.Needs.{needs}
 use Rattle.settlement.specs.Prepared.{refusalOf}
-use Rattle.settlement.proofs.settle.refuse.Statement.{statement}
-use Rattle.settlement.proofs.settle.refuse.Tie as tie
+use Rattle.settlement.proofs.prepare.refuse.Statement.{statement}
+use Rattle.settlement.proofs.prepare.refuse.Tie as tie
 
 no-terms-requires : tie.Need-no-terms-requires
 no-terms-requires c κs = search needs
