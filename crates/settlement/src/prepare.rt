@@ -32,6 +32,21 @@ pub struct Prepared {
     pub live: [u8; 1490],
 }
 
+// The statement of n lines without their sums.
+fn unsummed_of(n: usize, e: Entries) -> Statement
+    ensures { λ r. ⌜ r ≡ unsummed n e ⌝ }
+{
+    let windows = e.windows;
+    Statement {
+        lines: n,
+        capped: Kwh(0),
+        utilisation: Pence(0),
+        availability: Pence(e.pence),
+        total: Pence(e.pence),
+        windows: windows,
+    }
+}
+
 // A refusal: no line, and a statement of zeros.
 fn refuse(n: u8) -> Prepared
     ensures { λ r. ⌜ r ≡ refusalOf n ⌝ }
@@ -41,14 +56,11 @@ fn refuse(n: u8) -> Prepared
         pence: Pence(0),
     };
     let windows = [none; 128];
-    let statement = Statement {
-        lines: 0,
-        capped: Kwh(0),
-        utilisation: Pence(0),
-        availability: Pence(0),
-        total: Pence(0),
+    let entries = Entries {
         windows: windows,
+        pence: 0,
     };
+    let statement = unsummed_of(0, entries);
     let settlement = Settlement {
         answer: Answer::Refused(n),
         statement: statement,
@@ -62,21 +74,6 @@ fn refuse(n: u8) -> Prepared
         terms: terms,
         times: times,
         live: live,
-    }
-}
-
-// The statement of n lines without their sums.
-fn unsummed_of(n: usize, e: Entries) -> Statement
-    ensures { λ r. ⌜ r ≡ unsummed n e ⌝ }
-{
-    let windows = e.windows;
-    Statement {
-        lines: n,
-        capped: Kwh(0),
-        utilisation: Pence(0),
-        availability: Pence(e.pence),
-        total: Pence(e.pence),
-        windows: windows,
     }
 }
 
