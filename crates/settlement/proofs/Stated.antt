@@ -26,7 +26,7 @@ use Rattle.book.specs.declared.Book.{Book}
 use Rattle.settlement.specs.declared.Settlement.{Settlement}
 use Rattle.settlement.specs.declared.cursor.Cursor.{Cursor}
 use Rattle.settlement.specs.declared.paid.Entries.{Entries}
-use Rattle.settlement.specs.declared.settle.Prepared.{Prepared}
+use Rattle.settlement.specs.declared.prepare.Prepared.{Prepared}
 use Rattle.settlement.specs.declared.terms.Terms.{Terms}
 use Rattle.settlement.specs.Terms.{termsOf}
 use Rattle.settlement.specs.Live.{isLive, Lit}

@@ -188,7 +188,7 @@ fn moved(c: Cursor, at: usize, minute: usize, l: Line) -> Cursor
 }
 
 // The line of the segment that comes next, and the cursor after it.
-pub fn step<'b, 'c>(
+pub(crate) fn step<'b, 'c>(
     t: Terms,
     times: &'b [u16],
     live: &'b [u8],
@@ -219,7 +219,7 @@ pub fn step<'b, 'c>(
 }
 
 // The cursor at the first segment, if there is one.
-pub fn first<'b, 'c>(t: Terms, times: &'b [u16], live: &'b [u8], meter: &'c [i32]) -> Cursor
+pub(crate) fn first<'b, 'c>(t: Terms, times: &'b [u16], live: &'b [u8], meter: &'c [i32]) -> Cursor
     requires { ⌜ Plan t (now times) (now live) (now meter) ⌝ }
     ensures { λ r. ⌜ r ≡ cursorAt t (now (times .entry)) (now (live .entry)) (now (meter .entry)) 0 ⌝ }
 {

@@ -3,12 +3,14 @@ use rules::answer::Answer;
 use rules::statement::Line;
 use rules::statement::Statement;
 
-pub mod cursor;
-pub mod live;
-pub mod paid;
+mod cursor;
+pub mod listed;
+mod live;
+mod paid;
+mod prepare;
 pub mod settle;
-pub mod survey;
-pub mod terms;
+mod survey;
+mod terms;
 
 // The answer, and the statement: zeros where settling is refused.
 pub struct Settlement {

@@ -38,7 +38,7 @@ fn is_live(w: Window, times: &[u16], n: usize, fall: u16, recovery: u16, respons
 }
 
 // Puts `value` into the places from `from` to `to` - 1 of a table.
-pub fn mark(table: &mut [u8], from: usize, to: usize, value: u8)
+pub(crate) fn mark(table: &mut [u8], from: usize, to: usize, value: u8)
     requires { ⌜ (from ≤ to) × (to ≤ length (now table)) ⌝ }
     ensures { λ _. ⌜ Marked (now (table .entry)) from to value (now (table .exit)) ⌝ }
 {
@@ -63,7 +63,7 @@ fn show(live: &mut [u8], w: Window, number: u8, lit: bool)
 }
 
 // Marks the periods of the live ones among the first n windows.
-pub fn show_live(
+pub(crate) fn show_live(
     live: &mut [u8],
     windows: [Window; 128],
     n: usize,

@@ -181,7 +181,7 @@ fn entries_of(
 }
 
 // The availability of the first n windows with d defaults.
-pub fn availability(
+pub(crate) fn availability(
     live: &[u8],
     windows: [Window; 128],
     n: usize,

@@ -62,7 +62,7 @@ fn surveyed(t: Terms, times: &[u16], meter: &[i32], at: usize, s: Survey) -> Sur
 }
 
 // The survey of all instructions.
-pub fn survey_all(t: Terms, times: &[u16], meter: &[i32]) -> Survey
+pub(crate) fn survey_all(t: Terms, times: &[u16], meter: &[i32]) -> Survey
     requires { ⌜ Laid t (now times) (now meter) ⌝ }
     ensures { λ r. ⌜ r ≡ surveyTo t (now (times .entry)) (now (meter .entry)) (t .calls) ⌝ }
 {

@@ -22,21 +22,21 @@ pub struct Terms {
 }
 
 // A minute as an index.
-pub fn wide(x: u16) -> usize
+pub(crate) fn wide(x: u16) -> usize
     ensures { λ r. ⌜ r ≡ x ⌝ }
 {
     x as usize
 }
 
 // A byte as an index.
-pub fn wide_byte(x: u8) -> usize
+pub(crate) fn wide_byte(x: u8) -> usize
     ensures { λ r. ⌜ r ≡ x ⌝ }
 {
     x as usize
 }
 
 // The terms of a contract with so many instructions.
-pub fn terms_of(k: Contract, calls: usize) -> Terms
+pub(crate) fn terms_of(k: Contract, calls: usize) -> Terms
     requires { ⌜ (k .contracted .0 ≡ pos (kwOf k)) × (kwOf k ≤ 500000) ⌝ }
     ensures { λ r. ⌜ r ≡ termsOf k calls ⌝ }
 {
@@ -57,7 +57,7 @@ pub fn terms_of(k: Contract, calls: usize) -> Terms
 }
 
 // The terms of a refusal.
-pub fn no_terms() -> Terms
+pub(crate) fn no_terms() -> Terms
     ensures { λ r. ⌜ r ≡ noTerms ⌝ }
 {
     Terms {
@@ -73,7 +73,7 @@ pub fn no_terms() -> Terms
 }
 
 // The issues of the instructions, and from 64 on their ceases: the lines are calculated from numbers, not from the book.
-pub fn times_of(instructions: [Instruction; 64]) -> [u16; 128]
+pub(crate) fn times_of(instructions: [Instruction; 64]) -> [u16; 128]
     ensures { λ r. ⌜ Timed instructions 64 r ⌝ }
 {
     let mut times = [0; 128];

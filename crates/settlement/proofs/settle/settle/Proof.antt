@@ -50,7 +50,7 @@ use Rattle.rules.specs.declared.statement.Line.{Line}
 use Rattle.book.specs.declared.Book.{Book}
 use Rattle.settlement.specs.declared.Settlement.{Settlement}
 use Rattle.settlement.specs.declared.cursor.Cursor.{Cursor}
-use Rattle.settlement.specs.declared.settle.Prepared.{Prepared}
+use Rattle.settlement.specs.declared.prepare.Prepared.{Prepared}
 use Rattle.settlement.specs.Cursor.{cursorAt, steppedLine, stored}
 use Rattle.settlement.specs.Settle.{settleBook}
 use Rattle.settlement.specs.Prepared.{Prepares, lastCursor, summed}
@@ -66,12 +66,12 @@ use Rattle.settlement.proofs.cursor.Cursor as K
 use Rattle.settlement.proofs.cursor.Cursor.Laws as K′
 use Rattle.settlement.proofs.terms.Terms as E
 use Rattle.settlement.proofs.terms.Terms.Laws as E′
-use Rattle.settlement.proofs.settle.Prepared as N
-use Rattle.settlement.proofs.settle.Prepared.Laws as N′
-use Rattle.settlement.proofs.settle.prepare as prepare
-use Rattle.settlement.proofs.settle.prepare.Symbol as prepare-def
-use Rattle.settlement.proofs.settle.prepare.Symbol.{name as #prepare}
-use Rattle.settlement.proofs.settle.prepare.Met as prepare-thm
+use Rattle.settlement.proofs.prepare.Prepared as N
+use Rattle.settlement.proofs.prepare.Prepared.Laws as N′
+use Rattle.settlement.proofs.prepare.prepare as prepare
+use Rattle.settlement.proofs.prepare.prepare.Symbol as prepare-def
+use Rattle.settlement.proofs.prepare.prepare.Symbol.{name as #prepare}
+use Rattle.settlement.proofs.prepare.prepare.Met as prepare-thm
 use Rattle.settlement.proofs.settle.fill as fill
 use Rattle.settlement.proofs.settle.fill.Symbol as fill-def
 use Rattle.settlement.proofs.settle.fill.Symbol.{name as #fill}
@@ -438,6 +438,6 @@ settle-spec 𝓤 H 𝓜 𝓖 𝓡 =
     entered 𝓤 H (tripleOf 𝓤 H (𝓖 .A) settle.signature (settle.spec 𝓤 H (𝓖 .A) (𝓜 .mem) (𝓡 .run)))
     (tables 𝓤 H 𝓜 𝓡 code.env .C) (tables 𝓤 H 𝓜 𝓡 code.env .Λ) #settle code.function (code.unfolded 𝓤 H 𝓜 𝓡)
     (settle-meets 𝓤 H (𝓖 .A) (givenOf 𝓤 H 𝓜 𝓖) (𝓜 .mem) (𝓡 .run) (tablesOf 𝓤 H 𝓜 (tables 𝓤 H 𝓜 𝓡 code.env))
-    (cited 𝓤 H (PrepareC 𝓤 H (𝓖 .A) (𝓜 .mem) (𝓡 .run)) 𝓜 𝓡 code.env #prepare prepare-def.routine code.calls-settlement·settle·prepare (prepare-thm.met 𝓤 H 𝓜 𝓖 𝓡))
+    (cited 𝓤 H (PrepareC 𝓤 H (𝓖 .A) (𝓜 .mem) (𝓡 .run)) 𝓜 𝓡 code.env #prepare prepare-def.routine code.calls-settlement·prepare·prepare (prepare-thm.met 𝓤 H 𝓜 𝓖 𝓡))
     (cited 𝓤 H (FillC 𝓤 H (𝓖 .A) (𝓜 .mem) (𝓡 .run)) 𝓜 𝓡 code.env #fill fill-def.routine code.calls-settlement·settle·fill (fill-thm.met 𝓤 H 𝓜 𝓖 𝓡))
     (cited 𝓤 H (SumC 𝓤 H (𝓖 .A) (𝓜 .mem) (𝓡 .run)) 𝓜 𝓡 code.env #sum-up sum-up-def.routine code.calls-settlement·settle·sum-up (sum-up-thm.met 𝓤 H 𝓜 𝓖 𝓡)))

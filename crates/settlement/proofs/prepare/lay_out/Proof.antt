@@ -1,4 +1,4 @@
--- `settlement::settle::lay_out` meets its contract. What it stands on does not look at the readings, so meter memory of the span stands in. Assumes nothing.
+-- `settlement::prepare::lay_out` meets its contract. What it stands on does not look at the readings, so meter memory of the span stands in. Assumes nothing.
 use mathlib.Core.Path.{_≡_, refl, sym, _∙_, ap, subst}
 use mathlib.Core.List.{List, map}
 use Prim.Native.Nat.{ℕ, _+_, _≤_, _<_}
@@ -24,8 +24,8 @@ use Rattle.settlement.proofs.Folds.{length-mapped}
 use Rattle.settlement.proofs.Sound.{sound-book}
 use Rattle.settlement.proofs.Struck.{dark-zeros}
 use Rattle.settlement.proofs.Ground.{Grounds, cleared, windows-fit, spans, placed}
-use Rattle.settlement.proofs.settle.lay_out.Statement.{statement}
-use Rattle.settlement.proofs.settle.lay_out.Tie as tie
+use Rattle.settlement.proofs.prepare.lay_out.Statement.{statement}
+use Rattle.settlement.proofs.prepare.lay_out.Tie as tie
 
 module _ (s : tie.Start) where
   shape : Shaped (s .args .b)

@@ -1,4 +1,4 @@
--- `settlement::settle::check_lines` meets its contract. Assumes nothing.
+-- `settlement::prepare::check_lines` meets its contract. Assumes nothing.
 use mathlib.Core.Path.{_≡_, sym, _∙_, ap, subst}
 use mathlib.Core.Bool.{true, false}
 use mathlib.Core.List.{List, map}
@@ -14,7 +14,7 @@ use Rattle.book.specs.Book.{ledgerIn}
 use Rattle.book.specs.Sound.{Shaped}
 use Rattle.book.specs.declared.Book.{Book}
 use Rattle.settlement.specs.declared.survey.Survey.{Survey}
-use Rattle.settlement.specs.declared.settle.Prepared.{Prepared}
+use Rattle.settlement.specs.declared.prepare.Prepared.{Prepared}
 use Rattle.settlement.specs.declared.terms.Terms.{Terms}
 use Rattle.settlement.specs.Terms.{Timed, termsOf}
 use Rattle.settlement.specs.Survey.{Laid, surveyTo}
@@ -25,8 +25,8 @@ use Rattle.settlement.proofs.Surveyed.{Surveyed, survey-complete, surve
 use Rattle.settlement.proofs.Ground.{Grounds, surveyed}
 use Rattle.settlement.proofs.Refused.{refused, is-25, is-26, is-taken}
 use Rattle.settlement.proofs.Stated.{prepares}
-use Rattle.settlement.proofs.settle.check_lines.Statement.{statement}
-use Rattle.settlement.proofs.settle.check_lines.Tie as tie
+use Rattle.settlement.proofs.prepare.check_lines.Statement.{statement}
+use Rattle.settlement.proofs.prepare.check_lines.Tie as tie
 
 module _ (s : tie.Start) where
   abbrev b : Book
