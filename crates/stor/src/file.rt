@@ -1,6 +1,8 @@
 // Whole unit files: each command read where the last one stopped and entered, up to the file's end or the first refusal.
 ghost use mathlib.Core.Path.{_≡_};
 ghost use mathlib.Core.Bool.{true};
+ghost use Prim.Native.Nat.{_≤_};
+ghost use lib.ListN.{length};
 ghost use Rattle.book.specs.Book.{emptyBook};
 ghost use Rattle.book.specs.Sound.{sound};
 ghost use Rattle.stor.specs.Files.{load as loadOf};
@@ -84,7 +86,7 @@ fn read_and_enter(b: Book, s: &[u8], at: usize, meter: &mut [i32]) -> Turn
 // All commands of a file, or of a piece of one, into a sound book. 11 is not asked again at each command: entering keeps the book sound.
 pub fn load(b: Book, s: &[u8], meter: &mut [i32]) -> Loaded
     requires { ⌜ sound b ≡ true ⌝ }
-    ensures { λ r. ⌜ (r ≡ loadOf (now (s .entry)) b (now (meter .entry)) .loaded) × (now (meter .exit) ≡ loadOf (now (s .entry)) b (now (meter .entry)) .meter) × (sound (r .book) ≡ true) ⌝ }
+    ensures { λ r. ⌜ (r ≡ loadOf (now (s .entry)) b (now (meter .entry)) .loaded) × (now (meter .exit) ≡ loadOf (now (s .entry)) b (now (meter .entry)) .meter) × (sound (r .book) ≡ true) × (r .at ≤ length (now (s .entry))) ⌝ }
 {
     let mut l = Loaded {
         answer: Answer::Taken,
@@ -105,7 +107,7 @@ pub fn load(b: Book, s: &[u8], meter: &mut [i32]) -> Loaded
 
 // All commands of a file into the empty book.
 pub fn load_file(s: &[u8], meter: &mut [i32]) -> Loaded
-    ensures { λ r. ⌜ (r ≡ loadOf (now (s .entry)) emptyBook (now (meter .entry)) .loaded) × (now (meter .exit) ≡ loadOf (now (s .entry)) emptyBook (now (meter .entry)) .meter) × (sound (r .book) ≡ true) ⌝ }
+    ensures { λ r. ⌜ (r ≡ loadOf (now (s .entry)) emptyBook (now (meter .entry)) .loaded) × (now (meter .exit) ≡ loadOf (now (s .entry)) emptyBook (now (meter .entry)) .meter) × (sound (r .book) ≡ true) × (r .at ≤ length (now (s .entry))) ⌝ }
 {
     load(Book::empty(), s, meter)
 }

@@ -58,7 +58,7 @@ unfolding load from
 returns c =
     let inv = c .before .loop .inv in
     let e = rw (c .loop-test .left) at (inv .0) in
-    (ap (λ f. f .loaded) e, ap (λ f. f .meter) e, inv .1 .left)
+    (ap (λ f. f .loaded) e, ap (λ f. f .meter) e, inv .1 .left, inv .2)
 
 pub load-spec : {M : Type 1} → statement M
 load-spec =
