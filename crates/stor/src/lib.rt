@@ -1,0 +1,3 @@
+// The package's front: a whole book written as a unit file, and whole unit files read, entered and settled.
+pub mod file;
+pub mod writer;
