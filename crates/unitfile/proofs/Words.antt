@@ -1,0 +1,82 @@
+-- Laws of numbers in bytes, high byte first, over the number of bytes.
+use mathlib.Core.Path.{_≡_, refl, sym, _∙_}
+use mathlib.Core.List.{List, [], _∷_, _++_}
+use Prim.Native.Nat.{ℕ, zero, suc, _+_, _-_, _*_, _/_, _%_, _^_, _≤_, _<_, zero-le}
+use native.Mathlib.Nat.{le-refl, not-suc-le-zero, le-of-suc-le-suc, sub-self, sub-zero, div-one, pow-suc, pow-succ', mul-assoc, mul-le-mul-right, mul-le-mul-left, lt-of-lt-of-le, pow-le-pow-right, div-div-eq-div-mul}
+use native.Mathlib.Numerals.{add-one}
+use native.Mathlib.Omega.{arith}
+use lib.Dec.{lit<}
+use lib.ListN.{length, getD, take, drop, set, length-set}
+use lib.Seq.{take-suc, drop-length}
+use Rattle.rules.specs.File.{wordFrom, bytesOf}
+
+-- ---- reading
+
+word-snoc : (n : ℕ) (bs : List ℕ) (b : ℕ) → wordFrom n (bs ++ (b ∷ [])) ≡ wordFrom n bs * 256 + b
+unfolding wordFrom
+word-snoc n [] b = refl
+word-snoc n (x ∷ bs) b = word-snoc (n * 256 + x) bs b
+
+-- one byte more
+pub word-more : (s : List ℕ) (i : ℕ) → i < length s → wordFrom 0 (take (i + 1) s) ≡ wordFrom 0 (take i s) * 256 + getD s i 0
+word-more s i h = rw (add-one i, take-suc s i 0) (word-snoc 0 (take i s) (getD s i 0))
+
+abbrev pub Bytes : List ℕ → Type 0
+Bytes s = (k : ℕ) → getD s k 0 < 256
+
+below : (i n : ℕ) (s : List ℕ) → Bytes s → wordFrom n (take i s) < suc n * 256 ^ i
+unfolding wordFrom
+below zero n s h = omega arith
+below (suc i) n [] h = lt-of-lt-of-le (omega arith) (mul-le-mul-left (suc n) (pow-le-pow-right (lit< tt) {i = 0} {j = suc i} zero-le))
+below (suc i) n (b ∷ s) h =
+    lt-of-lt-of-le (below i (n * 256 + b) s (λ k. h (suc k)))
+    (rw (pow-succ' 256 i, ← mul-assoc (suc n) 256 (256 ^ i)) (mul-le-mul-right (256 ^ i) (omega (arith, h 0))))
+
+-- a number in i bytes is below 256 ^ i
+pub word-below : (i : ℕ) (s : List ℕ) → Bytes s → wordFrom 0 (take i s) < 256 ^ i
+word-below i s h = omega (arith, below i 0 s h)
+
+-- ---- writing
+
+drop-set : (l : List ℕ) (i a : ℕ) → i < length l → drop i (set l i a) ≡ a ∷ drop (suc i) l
+drop-set [] i a h = absurd (not-suc-le-zero h)
+drop-set (x ∷ l) zero a h = refl
+drop-set (x ∷ l) (suc i) a h = drop-set l i a (le-of-suc-le-suc h)
+
+-- from i on, the bytes are the number's lowest, and the rest is what the number has above them
+pub record Lowest (number size : ℕ) (out : List ℕ) (rest i : ℕ) : Type 0 where
+  pub inside : i ≤ size
+  pub long : length out ≡ size
+  pub written : drop i out ≡ bytesOf (size - i) number
+  pub left : rest ≡ number / 256 ^ (size - i)
+
+pub lowest-none : (number : ℕ) (out : List ℕ) → Lowest number (length out) out number (length out)
+unfolding bytesOf
+lowest-none number out =
+    record {
+      inside = le-refl (length out);
+      long = refl;
+      written = rw (drop-length out, sub-self (length out));
+      left = rw (sub-self (length out)) (sym (div-one number));
+    }
+
+one-more : (size i : ℕ) → 0 < i → i ≤ size → size - (i - 1) ≡ suc (size - i)
+one-more size i h k = omega arith
+
+pub lowest-more : (number size : ℕ) (out : List ℕ) (rest i : ℕ) → 0 < i → Lowest number size out rest i → Lowest number size (set out (i - 1) (rest % 256)) (rest / 256) (i - 1)
+unfolding bytesOf
+lowest-more number size out rest i h l =
+    let inside = l .inside in
+    let long = l .long in
+    let more = one-more size i h inside in
+    let next : suc (i - 1) ≡ i = omega arith in
+    let below : i - 1 < length out = omega arith in
+    record {
+      inside = omega arith;
+      long = length-set out (i - 1) (rest % 256) ∙ long;
+      written = rw (more, drop-set out (i - 1) (rest % 256) below, next, l .written, l .left);
+      left = rw (more, pow-suc 256 (size - i), l .left, div-div-eq-div-mul);
+    }
+
+pub lowest-all : (number size : ℕ) (out : List ℕ) (rest i : ℕ) → i ≤ 0 → Lowest number size out rest i → out ≡ bytesOf size number
+lowest-all number size out rest i h l = let done : i ≡ 0 = omega arith in rw (done, sub-zero size) at (l .written)

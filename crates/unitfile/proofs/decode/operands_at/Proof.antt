@@ -1,0 +1,98 @@
+-- `decode::operands_at` meets its contract: the operands passed so far are read, and the next one stands after their widths.
+use mathlib.Core.Path.{_≡_}
+use Prim.Native.Nat.{_+_, _-_, _≤_, _<_}
+use native.Mathlib.Omega.{arith}
+use borrow.Author.Needs.{needs}
+use lib.ListN.{length, getD, take, length-take}
+use Rattle.rules.specs.File.{total}
+use Rattle.unitfile.proofs.Operands.{Passed, passed-none, passed-more, total-more, total-within}
+use Rattle.unitfile.proofs.decode.operands_at.Statement.{statement}
+use Rattle.unitfile.proofs.decode.operands_at.Tie as tie
+use Rattle.unitfile.proofs.decode.operands_at.Reads as reads
+use Rattle.unitfile.proofs.decode.operands_at.Lts as lts
+use Rattle.unitfile.proofs.number.number_in.Reads as number-in-reads
+
+abbrev Inv-loop : tie.InvT-loop
+Inv-loop s at count widths v₀ place₀ k₀ v place k = (k ≤ count) × Passed s at widths v place k
+
+abbrev μ-loop : tie.MeasureT-loop
+μ-loop s at count widths v₀ place₀ k₀ v place k = count - k
+
+loop-holds : tie.Need-loop-holds Inv-loop μ-loop
+loop-holds c = (search needs, passed-none _ _ _)
+
+array-read-next : tie.Need-array-read-next Inv-loop μ-loop
+array-read-next c = search needs
+
+cast-next : tie.Need-cast-next Inv-loop μ-loop
+cast-next c = search needs
+
+-- the widths are as many as the array has places
+inside : (c : tie.In-loop Inv-loop μ-loop) → c .before .loop .k < length (c .before .before .before .args .t4)
+inside c = search needs
+
+-- the next operand ends within the bytes
+ends : (c : tie.In-loop Inv-loop μ-loop)
+    → c .before .loop .place + getD (c .before .before .before .args .t4) (c .before .loop .k) 0 ≤ length (c .before .before .before .args .s .now)
+ends c =
+    let l = c .before .loop in
+    let a = c .before .before .before .args in
+    omega (arith, c .before .before .before .pre .1, l .inv .1 .stands, total-more (a .t4) (l .k) (inside c), total-within (a .t4) (l .k + 1) (a .count) (omega arith))
+
+add-next : tie.Need-add-next Inv-loop μ-loop
+add-next c = omega (arith, ends c)
+
+sub-number-in : tie.Need-sub-number-in Inv-loop μ-loop
+sub-number-in c = omega arith
+
+part-number-in-start : tie.Need-part-number-in-start Inv-loop μ-loop
+part-number-in-start c = search needs
+
+part-number-in-end : tie.Need-part-number-in-end Inv-loop μ-loop
+part-number-in-end c = ends c
+
+number-in-requires : tie.Need-number-in-requires Inv-loop μ-loop
+number-in-requires c κs = simp length-take (omega (arith, c .before .before .before .before .pre .0 .narrow (c .before .before .loop .k)))
+
+mul-v : tie.Need-mul-v Inv-loop μ-loop
+mul-v c = search needs
+
+array-write-v : tie.Need-array-write-v Inv-loop μ-loop
+array-write-v c = search needs
+
+add-k : tie.Need-add-k Inv-loop μ-loop
+add-k c = search needs
+
+loop-less : tie.Need-loop-less Inv-loop μ-loop
+loop-less c = search needs
+
+loop-again : tie.Need-loop-again Inv-loop μ-loop
+loop-again c =
+    let l = c .before .before .before .loop in
+    (search needs, passed-more _ _ _ _ _ _ _ (inside (c .before .before)) (omega arith) (l .inv .1) (c .number-in .ensures))
+
+returns : tie.Need-returns Inv-loop μ-loop
+returns c =
+    let all : c .before .loop .k ≡ c .before .before .before .args .count = omega arith in
+    rw all at (c .before .loop .inv .1 .reads)
+
+pub operands-at-spec : {M : Type 1} → statement M
+operands-at-spec =
+    tie.close
+    (tie.spec
+    Inv-loop
+    μ-loop
+    loop-holds
+    array-read-next
+    cast-next
+    add-next
+    sub-number-in
+    part-number-in-start
+    part-number-in-end
+    number-in-requires
+    mul-v
+    array-write-v
+    add-k
+    loop-less
+    loop-again
+    returns)

@@ -1,0 +1,51 @@
+-- `number::put_number` meets its contract: from the byte at i on, the lent bytes are the number's lowest, and what is left is the number above them.
+use borrow.Author.Needs.{needs}
+use lib.ListN.{length}
+use Rattle.unitfile.proofs.Words.{Lowest, lowest-none, lowest-more, lowest-all}
+use Rattle.unitfile.proofs.number.put_number.Statement.{statement}
+use Rattle.unitfile.proofs.number.put_number.Tie as tie
+
+abbrev Inv-loop : tie.InvT-loop
+Inv-loop number out₀ rest₀ i₀ out rest i = Lowest number (length out₀) out rest i
+
+abbrev μ-loop : tie.MeasureT-loop
+μ-loop number out₀ rest₀ i₀ out rest i = i
+
+loop-holds : tie.Need-loop-holds Inv-loop μ-loop
+loop-holds c = lowest-none _ _
+
+sub-i : tie.Need-sub-i Inv-loop μ-loop
+sub-i c = search needs
+
+cast-out : tie.Need-cast-out Inv-loop μ-loop
+cast-out c = search needs
+
+slice-write-out : tie.Need-slice-write-out Inv-loop μ-loop
+slice-write-out c = search needs
+
+loop-less : tie.Need-loop-less Inv-loop μ-loop
+loop-less c = search needs
+
+loop-again : tie.Need-loop-again Inv-loop μ-loop
+loop-again c = lowest-more _ _ _ _ _ (search needs) (c .before .loop .inv)
+
+same-length : tie.Need-same-length Inv-loop μ-loop
+same-length c = search needs
+
+returns : tie.Need-returns Inv-loop μ-loop
+returns c = lowest-all _ _ _ _ _ (search needs) (c .before .loop .inv)
+
+pub put-number-spec : {M : Type 1} → statement M
+put-number-spec =
+    tie.close
+    (tie.spec
+    Inv-loop
+    μ-loop
+    loop-holds
+    sub-i
+    cast-out
+    slice-write-out
+    loop-less
+    loop-again
+    same-length
+    returns)

@@ -1,0 +1,26 @@
+-- "The writer puts out ..": one command into lent bytes, from a position on.
+use mathlib.Core.Bool.{cond}
+use mathlib.Core.List.{List, _++_}
+use Prim.Native.Nat.{ℕ, _+_}
+use lib.Dec.{leb}
+use lib.ListN.{length, take, drop}
+use Rattle.rules.specs.File.{write}
+use Rattle.rules.specs.declared.entries.Command.{Command}
+use Rattle.unitfile.specs.declared.encode.Written.{Written}
+use Rattle.unitfile.specs.declared.encode.Written.the-variants.{Next, Refused}
+
+-- bytes put into memory from a position on; the others keep their contents
+unfoldable pub putAt : List ℕ → List ℕ → ℕ → List ℕ
+putAt bs m at = take at m ++ bs ++ drop (at + length bs) m
+
+-- the answer, and the memory after it
+pub record Wrote : Type 0 where
+  pub answer : Written
+  pub bytes : List ℕ
+
+-- a command's bytes and the position after them; 26 and no change where the memory does not reach so far
+unfoldable pub writeAt : Command → List ℕ → ℕ → Wrote
+writeAt c m at =
+    cond (leb (at + length (write c)) (length m))
+    (record { answer = Next (at + length (write c)); bytes = putAt (write c) m at })
+    (record { answer = Refused 26; bytes = m })

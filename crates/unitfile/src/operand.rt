@@ -1,0 +1,120 @@
+// The operands of a command, as numbers without a sign.
+use rules::contract::Contract;
+use rules::entries::Command;
+ghost use mathlib.Core.Path.{_≡_};
+ghost use lib.IntN.{natAbs};
+ghost use Rattle.rules.specs.File.{byteOf, operandsOf, unsignedOf};
+ghost use Rattle.rules.specs.declared.entries.Command.the-variants.{Contract as contractᶜ};
+ghost use Rattle.unitfile.specs.Table.{padded};
+
+// A command's byte.
+pub fn byte_of(command: Command) -> u8
+    ensures { λ r. ⌜ r ≡ byteOf command ⌝ }
+{
+    match command {
+        Command::Contract(_) => 0x43,
+        Command::Window(_) => 0x57,
+        Command::Instruction(_) => 0x49,
+        Command::Default(_) => 0x44,
+        Command::Reading(_) => 0x4D,
+        Command::Close => 0x5A,
+    }
+}
+
+// How far a number is from 0.
+fn magnitude(number: i64) -> u64
+    ensures { λ r. ⌜ r ≡ natAbs number ⌝ }
+{
+    if number < 0 {
+        let below = 0 - (number + 1);
+        below as u64 + 1
+    } else {
+        number as u64
+    }
+}
+
+// A signed number as four bytes say it, two's complement; 0 for one that is too far below 0 for them.
+fn unsigned(number: i64) -> u64
+    ensures { λ r. ⌜ r ≡ unsignedOf number ⌝ }
+{
+    if number < 0 {
+        let raised = number + 4294967296;
+        if raised < 0 { 0 } else { raised as u64 }
+    } else {
+        number as u64
+    }
+}
+
+fn contract_operands(k: Contract) -> [u64; 11]
+    ensures { λ r. ⌜ r ≡ operandsOf (contractᶜ k) ⌝ }
+{
+    let contracted = k.contracted;
+    let response = k.response;
+    let recovery = k.recovery;
+    [
+        k.days as u64,
+        k.kind as u64,
+        k.service as u64,
+        magnitude(contracted.0),
+        k.rampup as u64,
+        k.rampdown as u64,
+        response.0 as u64,
+        recovery.0 as u64,
+        k.availability as u64,
+        k.utilisation as u64,
+        k.optional as u64,
+    ]
+}
+
+// The operands of a command, in their order, and zeros after them.
+pub fn operands_of(command: Command) -> [u64; 11]
+    ensures { λ r. ⌜ r ≡ padded (operandsOf command) ⌝ }
+{
+    match command {
+        Command::Contract(k) => contract_operands(k),
+        Command::Window(w) => {
+            let start = w.start;
+            let end = w.end;
+            [
+                start.0 as u64,
+                end.0 as u64,
+                w.verdict as u64,
+                0,
+                0,
+                0,
+                0,
+                0,
+                0,
+                0,
+                0,
+            ]
+        }
+        Command::Instruction(i) => {
+            let issue = i.issue;
+            let cease = i.cease;
+            [issue.0 as u64, cease.0 as u64, 0, 0, 0, 0, 0, 0, 0, 0, 0]
+        }
+        Command::Default(d) => {
+            let minute = d.minute;
+            [
+                minute.0 as u64,
+                d.kind as u64,
+                d.reach as u64,
+                0,
+                0,
+                0,
+                0,
+                0,
+                0,
+                0,
+                0,
+            ]
+        }
+        Command::Reading(r) => {
+            let minute = r.minute;
+            let kw = r.kw;
+            [minute.0 as u64, unsigned(kw.0), 0, 0, 0, 0, 0, 0, 0, 0, 0]
+        }
+        Command::Close => [0u64; 11],
+    }
+}

@@ -1,0 +1,84 @@
+// The table of the unit file: command bytes, whole lengths and operand widths. Decoder and encoder read them here.
+ghost use mathlib.Core.Path.{_≡_};
+ghost use Prim.Native.Nat.{_<_};
+ghost use Rattle.unitfile.specs.Table.{rowOf, layoutAt, rowFor};
+
+// A command in the table.
+pub struct Row {
+    pub byte: u8,
+    // of the whole command, its byte included
+    pub length: u8,
+    // how many operands there are, and their widths in bytes with zeros after them
+    pub count: u8,
+    pub widths: [u8; 11],
+}
+
+// Contract, window, instruction, default, reading, close.
+const TABLE: [Row; 6] = [
+    Row {
+        byte: 0x43,
+        length: 32,
+        count: 11,
+        widths: [1, 1, 1, 4, 4, 4, 2, 2, 4, 4, 4],
+    },
+    Row {
+        byte: 0x57,
+        length: 6,
+        count: 3,
+        widths: [2, 2, 1, 0, 0, 0, 0, 0, 0, 0, 0],
+    },
+    Row {
+        byte: 0x49,
+        length: 5,
+        count: 2,
+        widths: [2, 2, 0, 0, 0, 0, 0, 0, 0, 0, 0],
+    },
+    Row {
+        byte: 0x44,
+        length: 5,
+        count: 3,
+        widths: [2, 1, 1, 0, 0, 0, 0, 0, 0, 0, 0],
+    },
+    Row {
+        byte: 0x4D,
+        length: 7,
+        count: 2,
+        widths: [2, 4, 0, 0, 0, 0, 0, 0, 0, 0, 0],
+    },
+    Row {
+        byte: 0x5A,
+        length: 1,
+        count: 0,
+        widths: [0, 0, 0, 0, 0, 0, 0, 0, 0, 0, 0],
+    },
+];
+
+// The row of a byte that the table lacks: no command is that short.
+const MISSING: Row = Row {
+    byte: 0,
+    length: 0,
+    count: 0,
+    widths: [0, 0, 0, 0, 0, 0, 0, 0, 0, 0, 0],
+};
+
+fn row_at(place: usize) -> Row
+    requires { ⌜ place < 6 ⌝ }
+    ensures { λ r. ⌜ r ≡ rowOf (layoutAt place) ⌝ }
+{
+    TABLE[place]
+}
+
+// The row of a command byte.
+pub fn row_of(byte: u8) -> Row
+    ensures { λ r. ⌜ r ≡ rowFor byte ⌝ }
+{
+    let mut place: usize = 0;
+    while place < 6 {
+        let row = row_at(place);
+        if row.byte == byte {
+            return row;
+        }
+        place += 1;
+    }
+    MISSING
+}
