@@ -1,4 +1,21 @@
--- A signed number z as up z - down z, two naturals of which one is 0. A statement on ℤ becomes one on ℕ, which `omega` reads.
+-- The integer kit: it puts ℤ in front of `omega`, which reads natural numbers only.
+--
+-- A signed number z is up z - down z, two naturals of which one is 0 (specs/Number). So a statement on ℤ is one on naturals: a and b are equal, or
+-- in order, as up a + down b and up b + down a are. How to use it:
+--
+-- 1. `omega (arithℤ, ..)` in place of `omega (arith, ..)` reads and proves `a ≡ b`, `a ≤ℤ b` and `a <ℤ b` on ℤ.
+-- 2. List what each sum, difference and product that stands in the goal or in a fact is made of, `add-parts a b`, `diff-parts a b`, `mul-parts a b`:
+--        kept : (a b c : ℤ) → a ≤ℤ b → (a +ℤ c) ≤ℤ (b +ℤ c)
+--        kept a b c h = omega (arithℤ, add-parts a c, add-parts b c)
+--    Where it matters which of the two parts is 0, list `exact (add-parts a b)`; it costs a split into cases.
+--    A product of two unknowns is an unknown of its own: hand over what is known of it, as `mul-le-mul h k` or `ap (λ x. d * x) e`.
+-- 3. A bound, `Within n z`, is two bounds on naturals, and `omega arith` reads it as it stands.
+-- 4. That a number fits a machine's width: `fits-parts w z (omega ..)`; `fits-sum`, `fits-diff` and `fits-product` ask it of the operands;
+--    `parts-fit` leads back. Put an `SFits` for each number on the way into one record f; `simp (toZ-ofZ, f .x, f .y) ..` then takes the machine's
+--    writing and reading off a need, and leaves a statement on ℤ.
+-- 5. A test of two signed numbers: with `testsℤ` in its list `omega` reads `leZ a b ≡ true` and its like; `leZ-yes` and `leZ-no` decide one.
+-- 6. A signed number cast to an unsigned one: `nonNeg-parts` that it may be, `abs-parts` what it becomes.
+-- 7. `n / d` and `n % d` of a signed n: `quot-rem`.
 use mathlib.Core.Path.{_≡_, refl, sym, _∙_, ap, subst}
 use mathlib.Core.Logic.{_⊎_, inl, inr}
 use mathlib.Core.Bool.{Bool, true, false, not, cond}
@@ -113,7 +130,7 @@ pub <-from-parts : (a b : ℤ) → up a + down b < up b + down a → a <ℤ b
 pub <-to-parts : {a b : ℤ} → a <ℤ b → (up a ≤ up b) × (down b ≤ down a) × (up a + down b < up b + down a)
 <-to-parts {a} {b} h = lt-out a b (h .lt)
 
--- what `omega` takes for statements on ℤ. It applies one rule to a hypothesis, which yields one statement: for a bound on one part list `≤-to-parts h`
+-- the rules of `arithℤ`. A rule yields one statement of a hypothesis: for a bound on one part list `≤-to-parts h`
 pub ≤-apart : {a b : ℤ} → a ≤ℤ b → up a + down b ≤ up b + down a
 ≤-apart h = omega (arith, ≤-to-parts h)
 
@@ -133,6 +150,18 @@ fits-parts w (negsuc n) h = record { sfits = h .1 }
 pub parts-fit : (w : Width) (z : ℤ) → SFits w z → (up z < 2 ^ hbits w) × (down z ≤ 2 ^ hbits w)
 parts-fit w (pos n) h = (h .sfits, omega arith)
 parts-fit w (negsuc n) h = (omega (arith, pow-pos (hbits w)), h .sfits)
+
+-- a sum, a difference and a product fit where their parts do
+pub fits-sum : (w : Width) (a b : ℤ) → (up a + up b < 2 ^ hbits w) × (down a + down b ≤ 2 ^ hbits w) → SFits w (a +ℤ b)
+fits-sum w a b h = fits-parts w (a +ℤ b) (omega (arith, add-parts a b))
+
+pub fits-diff : (w : Width) (a b : ℤ) → (up a + down b < 2 ^ hbits w) × (down a + up b ≤ 2 ^ hbits w) → SFits w (a -ℤ b)
+fits-diff w a b h = fits-parts w (a -ℤ b) (omega (arith, diff-parts a b))
+
+pub fits-product : (w : Width) (a b : ℤ)
+    → (up a * up b + down a * down b < 2 ^ hbits w) × (up a * down b + down a * up b ≤ 2 ^ hbits w)
+    → SFits w (a *ℤ b)
+fits-product w a b h = fits-parts w (a *ℤ b) (omega (arith, mul-parts a b))
 
 pub abs-parts : (z : ℤ) → natAbs z ≡ up z + down z
 abs-parts (pos n) = omega arith
@@ -166,7 +195,22 @@ ltZ-false (pos a) (negsuc b) e = omega arith
 ltZ-false (negsuc a) (pos b) e = absurd (subst T e tt)
 ltZ-false (negsuc a) (negsuc b) e = omega (arith, ltb-false b a e)
 
--- a test and the test the other way round
+-- the same in one statement each, for `omega` to apply to a test that it meets
+pub leZ-on : (a b : ℤ) → leZ a b ≡ true → up a + down b ≤ up b + down a
+leZ-on a b e = omega (arith, leZ-true a b e)
+
+pub leZ-off : (a b : ℤ) → leZ a b ≡ false → up b + down a < up a + down b
+leZ-off a b e = leZ-false a b e .2
+
+pub ltZ-on : (a b : ℤ) → ltZ a b ≡ true → up a + down b < up b + down a
+ltZ-on a b e = ltZ-true a b e .2
+
+pub ltZ-off : (a b : ℤ) → ltZ a b ≡ false → up b + down a ≤ up a + down b
+ltZ-off a b e = omega (arith, ltZ-false a b e)
+
+pub ruleset testsℤ = (leZ-on, leZ-off, ltZ-on, ltZ-off)
+
+-- and what decides a test
 pub leZ-yes : (a b : ℤ) → up a + down b ≤ up b + down a → leZ a b ≡ true
 leZ-yes (pos a) (pos b) h = le-leb a b (omega arith)
 leZ-yes (pos a) (negsuc b) h = absurd (omega arith)
@@ -178,12 +222,6 @@ leZ-no (pos a) (pos b) h = lt-leb a b (omega arith)
 leZ-no (pos a) (negsuc b) h = refl
 leZ-no (negsuc a) (pos b) h = absurd (omega arith)
 leZ-no (negsuc a) (negsuc b) h = lt-leb b a (omega arith)
-
-pub leZ-not-below : (a b : ℤ) → ltZ a b ≡ false → leZ b a ≡ true
-leZ-not-below a b e = leZ-yes b a (omega (arith, ltZ-false a b e))
-
-pub leZ-below : (a b : ℤ) → ltZ a b ≡ true → leZ b a ≡ false
-leZ-below a b e = leZ-no b a (omega (arith, ltZ-true a b e))
 
 pub nonNeg-parts : (z : ℤ) → down z ≡ 0 → T (nonNeg z)
 nonNeg-parts (pos n) h = tt

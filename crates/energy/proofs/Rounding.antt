@@ -1,13 +1,14 @@
--- Rounding a signed quotient to the nearest whole number, a half to the larger: what bounds it.
+-- Rounding: the promises of specs/Rounding proved of `nearest`, and the laws by which code rounds. `nearest-by` shows that a number is the nearest,
+-- `nearest-within` says where the nearest lies, both by the parts of the integer kit.
 use mathlib.Core.Path.{_≡_, refl, sym, _∙_, ap, subst}
 use mathlib.Core.Logic.{_⊎_, inl, inr, ⊎-elim}
 use mathlib.Core.Bool.{Bool, true, false, cond}
-use Prim.Native.Nat.{ℕ, zero, suc, _+_, _*_, _-_, _/_, _%_, _≤_, _<_}
+use Prim.Native.Nat.{ℕ, suc, _+_, _*_, _-_, _/_, _≤_, _<_}
 use native.Mathlib.Nat.{mul-add, mul-comm, suc-mul, div-add-mod', div-lt-iff-lt-mul, mod-lt, div-eq-of-lt-le, mul-le-mul-left, lt-of-mul-lt-mul-left, le-of-lt, le-of-eq}
 use native.Mathlib.Omega.{arith}
-use lib.IntN.{ℤ, pos, negsuc, negℤ, natAbs, _+ℤ_, _-ℤ_, _*ℤ_}
+use lib.IntN.{ℤ, pos, negsuc, natAbs, _+ℤ_, _-ℤ_, _*ℤ_}
 use lib.Signed.{shrZ, leZ, _≤ℤ_, _<ℤ_}
-use Rattle.energy.specs.Number.{ceiling, lesser, nearest, up, down, Within}
+use Rattle.energy.specs.Number.{lesser, nearest, up, down, Within}
 use Rattle.energy.specs.Rounding.{Nearest, Rounding·theorem, distance}
 use Rattle.energy.proofs.Integers.{exact, abs-parts, abs-le, order, from-parts, <-apart, leZ-true, leZ-false, add-parts, diff-parts, mul-parts, arithℤ}
 
@@ -30,41 +31,35 @@ pub floor-only : (z : ℤ) (m : ℕ) (q : ℤ) → Floor z m q → q ≡ shrZ z 
 floor-only (pos a) m (pos k) f = ap pos (sym (div-eq-of-lt-le {k = k} m {m = a} (omega (arithℤ, f)) (omega (arithℤ, f))))
 floor-only (pos a) m (negsuc k) f = absurd (omega (arithℤ, f, mul-parts (pos m) (negsuc k), add-parts (pos m *ℤ negsuc k) (pos m)))
 floor-only (negsuc a) m (pos k) f = absurd (omega (arithℤ, f))
-floor-only (negsuc a) m (negsuc k) f = ap negsuc (sym (div-eq-of-lt-le {k = k} m {m = a} (omega (arithℤ, f, mul-parts (pos m) (negsuc k), add-parts (pos m *ℤ negsuc k) (pos m))) (omega (arithℤ, f, mul-parts (pos m) (negsuc k), add-parts (pos m *ℤ negsuc k) (pos m)))))
+floor-only (negsuc a) m (negsuc k) f =
+    let p = mul-parts (pos m) (negsuc k) in
+    let s = add-parts (pos m *ℤ negsuc k) (pos m) in
+    ap negsuc (sym (div-eq-of-lt-le {k = k} m {m = a} (omega (arithℤ, f)) (omega (arithℤ, f))))
 
 -- ---- the nearest number, by the parts: 2 d q ≤ 2 n + d < 2 d q + 2 d
-pub nearest-by : (n : ℤ) (d : ℕ) (q : ℤ)
-    → (2 * (d * up q) + 2 * down n ≤ 2 * up n + d + 2 * (d * down q)) × (2 * up n + d + 2 * (d * down q) < 2 * (d * up q) + 2 * down n + 2 * d)
-    → q ≡ nearest n d
-unfolding nearest
-nearest-by n d q h = floor-only (pos 2 *ℤ n +ℤ pos d) (2 * d) q (record {
-  low = omega (arithℤ, h, mul-parts (pos (2 * d)) q, mul-parts (pos 2) n, add-parts (pos 2 *ℤ n) (pos d));
-  high = omega (arithℤ, h, mul-parts (pos (2 * d)) q, mul-parts (pos 2) n, add-parts (pos 2 *ℤ n) (pos d), add-parts (pos (2 * d) *ℤ q) (pos (2 * d)));
-})
+abbrev pub By : ℤ → ℕ → ℤ → Type 0
+By n d q =
+    (2 * (d * up q) + 2 * down n ≤ 2 * up n + d + 2 * (d * down q))
+    × (2 * up n + d + 2 * (d * down q) < 2 * (d * up q) + 2 * down n + 2 * d)
 
-pub nearest-within : (n : ℤ) (d : ℕ) → 0 < d →
-    (2 * (d * up (nearest n d)) + 2 * down n ≤ 2 * up n + d + 2 * (d * down (nearest n d))) × (2 * up n + d + 2 * (d * down (nearest n d)) < 2 * (d * up (nearest n d)) + 2 * down n + 2 * d)
+pub nearest-by : (n : ℤ) (d : ℕ) (q : ℤ) → By n d q → q ≡ nearest n d
+unfolding nearest
+nearest-by n d q h =
+    let p = mul-parts (pos (2 * d)) q in
+    let m = mul-parts (pos 2) n in
+    let s = add-parts (pos 2 *ℤ n) (pos d) in
+    floor-only (pos 2 *ℤ n +ℤ pos d) (2 * d) q (record { low = omega arithℤ; high = omega (arithℤ, add-parts (pos (2 * d) *ℤ q) (pos (2 * d))) })
+
+pub nearest-within : (n : ℤ) (d : ℕ) → 0 < d → By n d (nearest n d)
 unfolding nearest
 nearest-within n d h =
     let q = shrZ (pos 2 *ℤ n +ℤ pos d) (2 * d) in
     let f : Floor (pos 2 *ℤ n +ℤ pos d) (2 * d) q = floor-bounds (pos 2 *ℤ n +ℤ pos d) (2 * d) (omega arith) in
     omega (arithℤ, f, mul-parts (pos (2 * d)) q, mul-parts (pos 2) n, add-parts (pos 2 *ℤ n) (pos d), add-parts (pos (2 * d) *ℤ q) (pos (2 * d)))
 
--- raised by K whole numbers and a half, n is no longer negative, and the quotient rounds down to K above the nearest
-pub raised-nearest : (n : ℤ) (h K : ℕ) → 0 < h → down n ≤ 2 * h * K → pos ((up n + (2 * h * K + h) - down n) / (2 * h)) -ℤ pos K ≡ nearest n (2 * h)
-raised-nearest n h K p b =
-    let d : ℕ = 2 * h in
-    let a : ℕ = up n + (2 * h * K + h) - down n in
-    let q : ℕ = a / (2 * h) in
-    let r : ℤ = pos q -ℤ pos K in
-    let e : 2 * h * (up r + K) ≡ 2 * h * (q + down r) = ap (λ z. 2 * h * z) (omega (arith, diff-parts (pos q) (pos K))) in
-    let d>0 : 0 < 2 * h = omega arith in
-    nearest-by n (2 * h) r (omega (arith, e, mul-add (2 * h) (up r) K, mul-add (2 * h) q (down r), div-add-mod' a (2 * h), mul-comm q (2 * h), mod-lt a d>0))
-
--- ---- what is promised, at every divisor from 1
-
+-- ---- the promises
 module _ (n : ℤ) (d : ℕ) (d>0 : 1 ≤ d) (k : ℤ) where
-  -- how far off the nearest number and another are, before their sign is dropped
+  -- how far off the nearest number is, and another, with their signs
   e : ℤ
   e = n -ℤ pos d *ℤ nearest n d
 
@@ -101,13 +96,10 @@ module _ (n : ℤ) (d : ℕ) (d>0 : 1 ≤ d) (k : ℤ) where
   below : k <ℤ nearest n d → natAbs e ≤ natAbs e′
   below h = let m = mul-le-mul-left d (<-apart h) in abs-le e (natAbs e′) (omega (arith, facts)) (omega (arith, facts))
 
-nearest-is : (n : ℤ) (d : ℕ) → 1 ≤ d → Nearest n d (nearest n d)
+pub nearest-is : (n : ℤ) (d : ℕ) → 1 ≤ d → Nearest n d (nearest n d)
 unfolding e e′
 nearest-is n d h = record { closest = closest; larger = larger }
   where
-    q : ℤ
-    q = nearest n d
-
     closest : (k : ℤ) → distance n d (nearest n d) ≤ distance n d k
     closest k =
         ⊎-elim
@@ -118,7 +110,7 @@ nearest-is n d h = record { closest = closest; larger = larger }
     larger : (k : ℤ) → distance n d k ≡ distance n d (nearest n d) → k ≤ℤ nearest n d
     larger k e = ⊎-elim (λ a. absurd (omega (arith, above n d h k a))) (λ b. b) (order (nearest n d) k)
 
-nearest-only : (n : ℤ) (d : ℕ) (q : ℤ) → 1 ≤ d → Nearest n d q → q ≡ nearest n d
+pub nearest-only : (n : ℤ) (d : ℕ) (q : ℤ) → 1 ≤ d → Nearest n d q → q ≡ nearest n d
 nearest-only n d q h f =
     let g = nearest-is n d h in
     let same : distance n d q ≡ distance n d (nearest n d) = omega (arith, f .closest (nearest n d), g .closest q) in
@@ -128,7 +120,7 @@ pub nearest-error : (n : ℤ) (d : ℕ) → 1 ≤ d → 2 * distance n d (neares
 nearest-error n d h =
     let q = nearest n d in
     let z = n -ℤ pos d *ℤ q in
-    omega (arith, nearest-within n d h, exact (diff-parts n (pos d *ℤ q)), diff-parts n (pos d *ℤ q), mul-parts (pos d) q, abs-parts z)
+    omega (arith, nearest-within n d h, exact (diff-parts n (pos d *ℤ q)), mul-parts (pos d) q, abs-parts z)
 
 pub nearest-mono : (a b : ℤ) (d : ℕ) → 1 ≤ d → a ≤ℤ b → nearest a d ≤ℤ nearest b d
 nearest-mono a b d p h =
@@ -163,9 +155,7 @@ half-up n d p =
     nearest-by (pos n) d (pos (a / d)) (omega (arith, div-add-mod' a d, mul-comm (a / d) d, mod-lt a p))
 
 pub half-up-within : (n d r : ℕ) → 0 < d → pos r ≡ nearest (pos n) d → (2 * (d * r) ≤ 2 * n + d) × (2 * n + d < 2 * (d * r) + 2 * d)
-half-up-within n d r p e =
-    let w = subst (λ q. (2 * (d * up q) ≤ 2 * n + d + 2 * (d * down q)) × (2 * n + d + 2 * (d * down q) < 2 * (d * up q) + 2 * d)) (sym e) (omega (arith, nearest-within (pos n) d p)) in
-    omega arith
+half-up-within n d r p e = let w : By (pos n) d (pos r) = subst (By (pos n) d) (sym e) (nearest-within (pos n) d p) in omega arith
 
 -- so a signed number of at most K wholes: raised by them it is not negative, and what it then rounds to is K too many
 pub record Lowered (n : ℤ) (d K r : ℕ) : Type 0 where
@@ -196,7 +186,14 @@ raised n d K p b =
           value = nearest-by n d x (omega (arith, mul-add d (up x) K, mul-add d r (down x)));
         }
 
--- ---- taken up to a whole number, a quotient is at most what is divided
-pub ceiling-most : (n d : ℕ) → 0 < d → ceiling n d ≤ n
-unfolding ceiling
-ceiling-most n d h = omega (arith, div-lt-iff-lt-mul {k = d} {x = n + (d - 1)} {y = suc n} h .1 (omega (arith, suc-mul n d, mul-le-mul-left n h)))
+-- at most K wholes round to at most K
+pub nearest-bound : (n : ℤ) (d K : ℕ) → 0 < d → Within (d * K) n → Within K (nearest n d)
+nearest-bound n d K p b =
+    let a : ℕ = natAbs (n +ℤ pos (d * K)) in
+    let l = raised n d K p b .lowered ((a + d / 2) / d) (half-up a d p) in
+    subst (Within K) (l .value) (l .within)
+
+-- ---- a quotient taken up to a whole number: what is added first is less than d, so it is at most what is divided
+pub raised-most : (n y d : ℕ) → y < d → (n + y) / d ≤ n
+raised-most n y d h =
+    omega (arith, div-lt-iff-lt-mul {k = d} {x = n + y} {y = suc n} (omega arith) .1 (omega (arith, suc-mul n d, mul-le-mul-left n h)))

@@ -1,17 +1,17 @@
--- A segment's two sums, as the code has them: the sum of its readings, and a multiple of its length.
-use mathlib.Core.Path.{_≡_, refl, sym, ap, ap₂, _∙_, subst}
+-- Sums and tests over the minutes a to b - 1: a minute more, two parts, the same minute by minute, bounds; and what a segment delivers, by the sum of its
+-- readings and its length.
+use mathlib.Core.Path.{_≡_, refl, sym, ap, ap₂, _∙_}
 use mathlib.Core.Bool.{Bool, true, false, cond, _&&_}
 use mathlib.Core.List.{List, [], _∷_, _++_}
 use Prim.Native.Nat.{ℕ, zero, suc, _+_, _-_, _*_, _≤_, _<_}
 use native.Mathlib.Nat.{le-refl, mul-suc, suc-mul}
 use native.Mathlib.Omega.{arith}
 use lib.Dec.{eqb}
-use lib.ListN.{length}
-use lib.IntN.{ℤ, pos, negsuc, _+ℤ_, _-ℤ_, _*ℤ_, +ℤ-comm, +ℤ-assoc, +ℤ-idl, +ℤ-idr}
+use lib.IntN.{ℤ, pos, _+ℤ_, _-ℤ_, _*ℤ_, +ℤ-assoc, +ℤ-idl, +ℤ-idr}
 use Rattle.energy.specs.Lists.{sum, all, run, between}
 use Rattle.energy.specs.Energy.{delivers}
 use Rattle.energy.specs.Number.{up, down, Within}
-use Rattle.energy.proofs.Integers.{add-parts, diff-parts, mul-parts, from-parts, arithℤ}
+use Rattle.energy.proofs.Integers.{add-parts, diff-parts, mul-parts, arithℤ}
 
 -- ---- numbers in a row
 pub run-append : (a m n : ℕ) → run a (m + n) ≡ run a m ++ run (a + m) n
@@ -72,88 +72,6 @@ pub all-none : (f : ℕ → Bool) (a : ℕ) → all f (between a a) ≡ true
 unfolding all between run
 all-none f a = let e : a - a ≡ 0 = omega arith in rw e refl
 
-module _ (f : ℕ → ℤ) where
-  sum-within-go : (b a n : ℕ) → ((m : ℕ) → a ≤ m → m < a + n → Within b (f m)) → Within (b * n) (sum f (run a n))
-  unfolding sum run
-  sum-within-go b a zero h = omega arith
-  sum-within-go b a (suc n) h =
-      omega (arith, h a (le-refl a) (omega arith), sum-within-go b (suc a) n (λ m i k. h m (omega arith) (omega arith)), add-parts (f a) (sum f (run (suc a) n)), mul-suc b n)
-
-  pub sum-within : (b a c : ℕ) → ((m : ℕ) → a ≤ m → m < c → Within b (f m)) → Within (b * (c - a)) (sum f (between a c))
-  unfolding between
-  sum-within b a c h = sum-within-go b a (c - a) (λ m i k. h m i (omega arith))
-
-  -- the same number in each minute
-  sum-same-go : (z : ℤ) (a n : ℕ) → ((m : ℕ) → a ≤ m → m < a + n → f m ≡ z) → sum f (run a n) ≡ pos n *ℤ z
-  unfolding sum run
-  sum-same-go z a zero h = omega (arithℤ, mul-parts (pos 0) z)
-  sum-same-go z a (suc n) h =
-      ap₂ _+ℤ_ (h a (le-refl a) (omega arith)) (sum-same-go z (suc a) n (λ m i k. h m (omega arith) (omega arith)))
-      ∙ omega (arithℤ, mul-parts (pos (suc n)) z, mul-parts (pos n) z, add-parts z (pos n *ℤ z), suc-mul n (up z), suc-mul n (down z))
-
-  pub sum-same : (z : ℤ) (a b : ℕ) → ((m : ℕ) → a ≤ m → m < b → f m ≡ z) → sum f (between a b) ≡ pos (b - a) *ℤ z
-  unfolding between
-  sum-same z a b h = sum-same-go z a (b - a) (λ m i k. h m i (omega arith))
-
-  -- what is delivered: four times the readings less the base load in each minute, or the other way round
-  gen-go : (S : ℤ) (a n : ℕ) → sum (λ m. pos 4 *ℤ f m -ℤ S) (run a n) ≡ pos 4 *ℤ sum f (run a n) -ℤ pos n *ℤ S
-  unfolding sum run
-  gen-go S a zero = omega (arithℤ, diff-parts (pos 4 *ℤ pos 0) (pos 0 *ℤ S), mul-parts (pos 0) S)
-  gen-go S a (suc n) =
-      let s = sum f (run (suc a) n) in
-      ap (λ z. (pos 4 *ℤ f a -ℤ S) +ℤ z) (gen-go S (suc a) n)
-      ∙ omega (
-        arithℤ,
-        diff-parts (pos 4 *ℤ f a) S,
-        mul-parts (pos 4) (f a),
-        diff-parts (pos 4 *ℤ s) (pos n *ℤ S),
-        mul-parts (pos 4) s,
-        mul-parts (pos n) S,
-        add-parts (pos 4 *ℤ f a -ℤ S) (pos 4 *ℤ s -ℤ pos n *ℤ S),
-        diff-parts (pos 4 *ℤ (f a +ℤ s)) (pos (suc n) *ℤ S),
-        mul-parts (pos 4) (f a +ℤ s),
-        add-parts (f a) s,
-        mul-parts (pos (suc n)) S,
-        suc-mul n (up S),
-        suc-mul n (down S),
-      )
-
-  red-go : (S : ℤ) (a n : ℕ) → sum (λ m. S -ℤ pos 4 *ℤ f m) (run a n) ≡ pos 0 -ℤ (pos 4 *ℤ sum f (run a n) -ℤ pos n *ℤ S)
-  unfolding sum run
-  red-go S a zero = omega (arithℤ, diff-parts (pos 4 *ℤ pos 0) (pos 0 *ℤ S), mul-parts (pos 0) S, diff-parts (pos 0) (pos 4 *ℤ pos 0 -ℤ pos 0 *ℤ S))
-  red-go S a (suc n) =
-      let s = sum f (run (suc a) n) in let t = pos 4 *ℤ s -ℤ pos n *ℤ S in let u = pos 4 *ℤ (f a +ℤ s) -ℤ pos (suc n) *ℤ S in
-      ap (λ z. (S -ℤ pos 4 *ℤ f a) +ℤ z) (red-go S (suc a) n)
-      ∙ omega (
-        arithℤ,
-        diff-parts S (pos 4 *ℤ f a),
-        mul-parts (pos 4) (f a),
-        diff-parts (pos 4 *ℤ s) (pos n *ℤ S),
-        mul-parts (pos 4) s,
-        mul-parts (pos n) S,
-        diff-parts (pos 0) t,
-        diff-parts (pos 0) u,
-        add-parts (S -ℤ pos 4 *ℤ f a) (pos 0 -ℤ t),
-        diff-parts (pos 4 *ℤ (f a +ℤ s)) (pos (suc n) *ℤ S),
-        mul-parts (pos 4) (f a +ℤ s),
-        add-parts (f a) s,
-        mul-parts (pos (suc n)) S,
-        suc-mul n (up S),
-        suc-mul n (down S),
-      )
-
-  -- above the base load
-  abbrev pub aboveOf : ℤ → ℕ → ℕ → ℤ
-  aboveOf S a b = pos 4 *ℤ sum f (between a b) -ℤ pos (b - a) *ℤ S
-
-  pub sum-delivers : (kind : ℕ) (S : ℤ) (a b : ℕ) → sum (λ m. delivers kind S (f m)) (between a b) ≡ cond (eqb kind 0) (aboveOf S a b) (pos 0 -ℤ aboveOf S a b)
-  unfolding between
-  sum-delivers kind S a b = go (eqb kind 0)
-    where
-      go : (t : Bool) → sum (λ m. cond t (pos 4 *ℤ f m -ℤ S) (S -ℤ pos 4 *ℤ f m)) (run a (b - a)) ≡ cond t (aboveOf S a b) (pos 0 -ℤ aboveOf S a b)
-      go true = gen-go S a (b - a)
-      go false = red-go S a (b - a)
-
 -- the same minute by minute
 sum-ext-go : (f h : ℕ → ℤ) (a n : ℕ) → ((m : ℕ) → a ≤ m → m < a + n → f m ≡ h m) → sum f (run a n) ≡ sum h (run a n)
 unfolding sum run
@@ -172,3 +90,90 @@ all-ext-go f h a (suc n) e = ap₂ _&&_ (e a (le-refl a) (omega arith)) (all-ext
 pub all-ext : (f h : ℕ → Bool) (a b : ℕ) → ((m : ℕ) → a ≤ m → m < b → f m ≡ h m) → all f (between a b) ≡ all h (between a b)
 unfolding between
 all-ext f h a b e = all-ext-go f h a (b - a) (λ m i k. e m i (omega arith))
+
+module _ (f : ℕ → ℤ) where
+  -- at most b in each minute
+  sum-within-go : (b a n : ℕ) → ((m : ℕ) → a ≤ m → m < a + n → Within b (f m)) → Within (b * n) (sum f (run a n))
+  unfolding sum run
+  sum-within-go b a zero h = omega arith
+  sum-within-go b a (suc n) h =
+      omega (
+        arith,
+        h a (le-refl a) (omega arith),
+        sum-within-go b (suc a) n (λ m i k. h m (omega arith) (omega arith)),
+        add-parts (f a) (sum f (run (suc a) n)),
+        mul-suc b n,
+      )
+
+  pub sum-within : (b a c : ℕ) → ((m : ℕ) → a ≤ m → m < c → Within b (f m)) → Within (b * (c - a)) (sum f (between a c))
+  unfolding between
+  sum-within b a c h = sum-within-go b a (c - a) (λ m i k. h m i (omega arith))
+
+  -- the same number in each minute
+  sum-same-go : (z : ℤ) (a n : ℕ) → ((m : ℕ) → a ≤ m → m < a + n → f m ≡ z) → sum f (run a n) ≡ pos n *ℤ z
+  unfolding sum run
+  sum-same-go z a zero h = omega (arithℤ, mul-parts (pos 0) z)
+  sum-same-go z a (suc n) h =
+      ap₂ _+ℤ_ (h a (le-refl a) (omega arith)) (sum-same-go z (suc a) n (λ m i k. h m (omega arith) (omega arith)))
+      ∙ omega (arithℤ, mul-parts (pos (suc n)) z, mul-parts (pos n) z, add-parts z (pos n *ℤ z), suc-mul n (up z), suc-mul n (down z))
+
+  pub sum-same : (z : ℤ) (a b : ℕ) → ((m : ℕ) → a ≤ m → m < b → f m ≡ z) → sum f (between a b) ≡ pos (b - a) *ℤ z
+  unfolding between
+  sum-same z a b h = sum-same-go z a (b - a) (λ m i k. h m i (omega arith))
+
+  -- each turned about
+  sum-neg : (xs : List ℕ) → sum (λ m. pos 0 -ℤ f m) xs ≡ pos 0 -ℤ sum f xs
+  unfolding sum
+  sum-neg [] = refl
+  sum-neg (x ∷ xs) =
+      ap (λ z. (pos 0 -ℤ f x) +ℤ z) (sum-neg xs)
+      ∙ omega (
+        arithℤ,
+        diff-parts (pos 0) (f x),
+        diff-parts (pos 0) (sum f xs),
+        add-parts (pos 0 -ℤ f x) (pos 0 -ℤ sum f xs),
+        diff-parts (pos 0) (f x +ℤ sum f xs),
+        add-parts (f x) (sum f xs),
+      )
+
+  -- four times the readings less the base load in each minute
+  above-go : (S : ℤ) (a n : ℕ) → sum (λ m. pos 4 *ℤ f m -ℤ S) (run a n) ≡ pos 4 *ℤ sum f (run a n) -ℤ pos n *ℤ S
+  unfolding sum run
+  above-go S a zero = omega (arithℤ, diff-parts (pos 4 *ℤ pos 0) (pos 0 *ℤ S), mul-parts (pos 0) S)
+  above-go S a (suc n) =
+      let s = sum f (run (suc a) n) in
+      ap (λ z. (pos 4 *ℤ f a -ℤ S) +ℤ z) (above-go S (suc a) n)
+      ∙ omega (
+        arithℤ,
+        diff-parts (pos 4 *ℤ f a) S,
+        mul-parts (pos 4) (f a),
+        diff-parts (pos 4 *ℤ s) (pos n *ℤ S),
+        mul-parts (pos 4) s,
+        mul-parts (pos n) S,
+        add-parts (pos 4 *ℤ f a -ℤ S) (pos 4 *ℤ s -ℤ pos n *ℤ S),
+        diff-parts (pos 4 *ℤ (f a +ℤ s)) (pos (suc n) *ℤ S),
+        mul-parts (pos 4) (f a +ℤ s),
+        add-parts (f a) s,
+        mul-parts (pos (suc n)) S,
+        suc-mul n (up S),
+        suc-mul n (down S),
+      )
+
+  abbrev pub aboveOf : ℤ → ℕ → ℕ → ℤ
+  aboveOf S a b = pos 4 *ℤ sum f (between a b) -ℤ pos (b - a) *ℤ S
+
+-- what is delivered: that, or as much below the base load
+pub sum-delivers : (f : ℕ → ℤ) (kind : ℕ) (S : ℤ) (a b : ℕ)
+    → sum (λ m. delivers kind S (f m)) (between a b) ≡ cond (eqb kind 0) (aboveOf f S a b) (pos 0 -ℤ aboveOf f S a b)
+unfolding between
+sum-delivers f kind S a b = go (eqb kind 0)
+  where
+    turned : (m : ℕ) → S -ℤ pos 4 *ℤ f m ≡ pos 0 -ℤ (pos 4 *ℤ f m -ℤ S)
+    turned m = omega (arithℤ, diff-parts S (pos 4 *ℤ f m), diff-parts (pos 4 *ℤ f m) S, diff-parts (pos 0) (pos 4 *ℤ f m -ℤ S))
+
+    go : (t : Bool) → sum (λ m. cond t (pos 4 *ℤ f m -ℤ S) (S -ℤ pos 4 *ℤ f m)) (run a (b - a)) ≡ cond t (aboveOf f S a b) (pos 0 -ℤ aboveOf f S a b)
+    go true = above-go f S a (b - a)
+    go false =
+        sum-ext-go (λ m. S -ℤ pos 4 *ℤ f m) (λ m. pos 0 -ℤ (pos 4 *ℤ f m -ℤ S)) a (b - a) (λ m i k. turned m)
+        ∙ sum-neg (λ m. pos 4 *ℤ f m -ℤ S) (run a (b - a))
+        ∙ ap (λ z. pos 0 -ℤ z) (above-go f S a (b - a))

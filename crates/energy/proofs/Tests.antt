@@ -1,25 +1,10 @@
--- Laws of tests.
-use mathlib.Core.Path.{_≡_, refl, sym, ap, _∙_, subst}
-use mathlib.Core.Logic.{_≢_}
+-- Laws of tests, which are Bools: a test that holds, `T b` or `b ≡ true`, one that does not, and tests of whole lists.
+use mathlib.Core.Path.{_≡_, refl, sym, subst}
 use mathlib.Core.Bool.{Bool, true, false, not, _&&_, _||_, true≢false, false≢true}
 use mathlib.Core.List.{List, [], _∷_, _++_}
-use Prim.Native.Nat.{ℕ, suc, _≤_, _<_}
-use lib.Dec.{T, leb, ltb, eqb, leb→le, le→leb, ltb→lt, lt→ltb, nleb→lt, nltb→le, eqb→eq, eqb-refl}
+use lib.Dec.{T}
 use Rattle.energy.specs.Lists.{pass, all, any}
-
-pub eq-true : (a b : ℕ) → a ≡ b → eqb a b ≡ true
-eq-true a b e = ap (λ x. eqb a x) (sym e) ∙ go (eqb a a) (eqb-refl a)
-  where
-    go : (x : Bool) → T x → x ≡ true
-    go true t = refl
-    go false t = absurd t
-
-pub eq-false : (a b : ℕ) → a ≢ b → eqb a b ≡ false
-eq-false a b h = go (eqb a b) (λ t. h (eqb→eq a b t))
-  where
-    go : (x : Bool) → (T x → ⊥) → x ≡ false
-    go true f = absurd (f tt)
-    go false f = refl
+pub use borrow.Author.Tests.{eq-eqb as eq-true, ne-eqb as eq-false, leb-false as off-leb, ltb-false as off-ltb}
 
 pub to-T : {b : Bool} → b ≡ true → T b
 to-T e = subst (λ x. T x) (sym e) tt
@@ -53,12 +38,6 @@ off-or false b e = (refl, e)
 pub on-and : (a b : Bool) → (a && b) ≡ true → (a ≡ true) × (b ≡ true)
 on-and true b e = (refl, e)
 on-and false b e = absurd (false≢true e)
-
-pub off-leb : (a b : ℕ) → leb a b ≡ false → b < a
-off-leb a b e = nleb→lt a b (off-T (leb a b) e)
-
-pub off-ltb : (a b : ℕ) → ltb a b ≡ false → b ≤ a
-off-ltb a b e = nltb→le a b (off-T (ltb a b) e)
 
 abbrev pub Passes : List Bool → Type 0
 Passes [] = Unit {0}

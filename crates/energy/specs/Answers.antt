@@ -1,4 +1,5 @@
--- What the calls that take any numbers answer: a value, or the number of the refusal. The only one met here is 3, a number outside its range.
+-- "When a command or call is turned down": what the calls of this crate that take any numbers answer, a value or the number of the refusal. They meet
+-- 3 alone, a number outside its range.
 use mathlib.Core.Bool.{Bool, _&&_, cond}
 use mathlib.Core.Option.{Option, none, some}
 use Prim.Native.Nat.{ℕ}

@@ -1,4 +1,5 @@
-// Quarter kW-minutes as kWh, and kWh as pence. Each rounds by one unsigned division of a number raised by a half, and by so many wholes that it is not negative.
+// Quarter kW-minutes as kWh, and kWh as pence. What may be negative is first raised by so many wholes that it is not, and these are taken off the
+// rounded number again: a single unsigned division then rounds.
 ghost use mathlib.Core.Path.{_≡_};
 ghost use Prim.Native.Nat.{_≤_};
 ghost use lib.IntN.{pos};
@@ -26,7 +27,7 @@ pub fn expected_kwh(q: u32) -> Kwh
     Kwh(k)
 }
 
-// The kWh delivered in a segment.
+// The kWh delivered in a segment, raised by 500,000 kWh.
 pub fn delivered_kwh(q: i32) -> Kwh
     requires { ⌜ Within 120000000 q ⌝ }
     ensures { λ r. ⌜ (r .0 ≡ kwh q) × Within 500000 (r .0) ⌝ }
@@ -49,7 +50,7 @@ pub fn capped_kwh(x: Kwh, d: Kwh) -> Kwh
     d
 }
 
-// The pence for kWh at a rate in pence per MWh.
+// The pence for kWh at a rate in pence per MWh, raised by 500,000,000 pence.
 pub fn payment_pence(k: Kwh, rate: u32) -> Pence
     requires { ⌜ Within 500000 (k .0) ⌝ }
     requires { ⌜ rate ≤ 1000000 ⌝ }

@@ -37,17 +37,19 @@ fn put(n: i64) {
     io::print_decimal(1, size(n));
 }
 
+fn put_refused(r: u8) {
+    io::write_all(1, b"refused ");
+    put(r as i64);
+    io::write_all(1, b"\n");
+}
+
 fn put_paid(p: Paid) {
     match p {
         Paid::Pays(pence) => {
             put(pence.0);
             io::write_all(1, b" pence\n");
         }
-        Paid::Refused(r) => {
-            io::write_all(1, b"refused ");
-            put(r as i64);
-            io::write_all(1, b"\n");
-        }
+        Paid::Refused(r) => put_refused(r),
     }
 }
 
@@ -57,11 +59,7 @@ fn put_rounded(q: Rounded) {
             put(n);
             io::write_all(1, b"\n");
         }
-        Rounded::Refused(r) => {
-            io::write_all(1, b"refused ");
-            put(r as i64);
-            io::write_all(1, b"\n");
-        }
+        Rounded::Refused(r) => put_refused(r),
     }
 }
 

@@ -3,13 +3,13 @@ use mathlib.Core.Path.{_≡_, refl, _∙_}
 use mathlib.Core.List.{List, [], _∷_, _++_}
 use Prim.Native.Nat.{ℕ, zero, suc, _+_, _-_, _*_}
 use lib.IntN.{pos}
-use Rattle.energy.specs.Lists.{sumℕ, any, isEmpty, last, first, isSome, later, concatMap}
-use Rattle.energy.specs.Number.{ceiling}
-use Rattle.rules.specs.Ledger.{Ledger, ledgerOf, readingOf, contractOf, upMinutes, downMinutes}
-use Rattle.rules.specs.Refusal.{conditions, lowest, refusal, takenAfter, taken}
+use Rattle.energy.specs.Lists.{sumℕ}
+use Rattle.rules.specs.Ledger.{Ledger, ledgerOf, contractOf}
+use Rattle.rules.specs.Refusal.{taken}
 use Rattle.rules.specs.Lines.{LinesMet·theorem}
 use Rattle.rules.specs.declared.entries.Command.{Command}
 use Rattle.rules.specs.declared.entries.Command.the-variants.{Contract as contractᶜ, Instruction as instructionᶜ}
+use Rattle.rules.proofs.Opened.{opened}
 use Rattle.rules.proofs.Count.{touched}
 use Rattle.rules.proofs.Reached.{reached}
 use Rattle.rules.proofs.LineBound.{touches, lines-count}
@@ -49,11 +49,11 @@ abbrev left : ℕ → ℕ → Ledger
 left days d = ledgerOf (taken (1440 * days) (busy days d))
 
 count-11 : (contractOf (left 11 240) .days ≡ 11) × (sumℕ (touches (contractOf (left 11 240))) (left 11 240 .instructions) ≡ 719)
-unfolding sumℕ any isEmpty last first isSome later concatMap ceiling readingOf ledgerOf contractOf upMinutes downMinutes conditions lowest refusal takenAfter taken touched
+unfolding opened touched
 count-11 = (refl, refl)
 
 count-31 : (contractOf (left 31 690) .days ≡ 31) × (sumℕ (touches (contractOf (left 31 690))) (left 31 690 .instructions) ≡ 1679)
-unfolding sumℕ any isEmpty last first isSome later concatMap ceiling readingOf ledgerOf contractOf upMinutes downMinutes conditions lowest refusal takenAfter taken touched
+unfolding opened touched
 count-31 = (refl, refl)
 
 pub lines-met : LinesMet·theorem

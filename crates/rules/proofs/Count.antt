@@ -1,14 +1,14 @@
 -- How many segments an instruction has: the periods that each of its three stages touches.
-use mathlib.Core.Path.{_≡_, refl, sym, ap, _∙_, subst}
-use mathlib.Core.Bool.{Bool, true, false, cond, not}
+use mathlib.Core.Path.{_≡_, refl, sym, ap, _∙_}
+use mathlib.Core.Bool.{Bool, true, false, cond}
 use mathlib.Core.List.{[], _∷_}
 use Prim.Native.Nat.{ℕ, zero, suc, _+_, _-_, _*_, _/_, _≤_, _<_, min}
 use native.Mathlib.Nat.{le-refl}
 use native.Mathlib.Omega.{arith}
 use native.Mathlib.Decide.{decLe, decLt}
-use lib.Dec.{T, ltb, ltb→lt, nltb→le}
+use lib.Dec.{ltb}
 use lib.ListN.{length}
-use borrow.Author.Tests.{lt-ltb, le-ltb}
+use borrow.Author.Tests.{ltb-true, ltb-false, lt-ltb, le-ltb}
 use Rattle.rules.specs.Ledger.{expiry, rise, endOf}
 use Rattle.rules.specs.Segment.{segmentsOf}
 use Rattle.rules.specs.declared.contract.Contract.{Contract}
@@ -107,9 +107,9 @@ module _ (k : Contract) (n : ℕ) (i : Instruction) (t : Timed k i) where
       go : (b : Bool) → ltb m (endOf k i) ≡ b → (endOf k i ≤ cut k i m + u → length (cutsFrom k n i u (cut k i m)) ≡ left (expiry k i) (i .cease .0) (endOf k i) (t .steady) o′ (cut k i m))
           → length (cond b (segmentAt k n i m ∷ cutsFrom k n i u (cut k i m)) []) ≡ left (expiry k i) (i .cease .0) (endOf k i) (t .steady) o′ m
       go true e rest =
-          let a : m < endOf k i = ltb→lt m (endOf k i) (subst (λ x. T x) (sym e) tt) in
+          let a : m < endOf k i = ltb-true m (endOf k i) e in
           ap suc (rest (omega (arith, rises (expiry k i) (i .cease .0) (endOf k i) (t .steady) o′ .above m a))) ∙ sym (step-left (expiry k i) (i .cease .0) (endOf k i) (t .steady) o′ m a)
-      go false e rest = sym (left-none (expiry k i) (i .cease .0) (endOf k i) (t .steady) o′ m (nltb→le m (endOf k i) (subst (λ x. T (not x)) (sym e) tt)))
+      go false e rest = sym (left-none (expiry k i) (i .cease .0) (endOf k i) (t .steady) o′ m (ltb-false m (endOf k i) e))
 
   -- the number of segments
   pub count-segments : 0 < expiry k i - rise k i → length (segmentsOf k n i) ≡ touched (rise k i) (expiry k i) + touched (expiry k i) (i .cease .0) + touched (i .cease .0) (endOf k i)

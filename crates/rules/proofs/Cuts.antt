@@ -7,12 +7,12 @@ use Prim.Native.Nat.{ℕ, zero, suc, _+_, _-_, _*_, _/_, _≤_, _<_, zero-le, mi
 use native.Mathlib.Nat.{le-refl}
 use native.Mathlib.Omega.{arith}
 use native.Mathlib.Decide.{ℕ-discrete, decLe}
-use lib.Dec.{T, ltb, eqb, ltb→lt, nltb→le}
-use Rattle.energy.specs.Lists.{filter, run, between}
-use Rattle.energy.proofs.Tests.{eq-true, eq-false}
+use lib.Dec.{T, ltb, eqb, eqb→eq}
+use borrow.Author.Tests.{ltb-true, ltb-false, eq-eqb, ne-eqb}
+use Rattle.energy.specs.Lists.{filter, between}
 use Rattle.energy.proofs.Sums.{between-split, between-cons}
 use Rattle.rules.specs.Ledger.{expiry, rise, endOf}
-use Rattle.rules.specs.Segment.{periodOf, stageOf, sameStage, alike, heads, active, Segment, segmentsOf, segments}
+use Rattle.rules.specs.Segment.{periodOf, stageOf, sameStage, alike, heads, active, Segment, segmentsOf}
 use Rattle.rules.specs.declared.contract.Contract.{Contract}
 use Rattle.rules.specs.declared.entries.Instruction.{Instruction}
 use Rattle.rules.specs.declared.statement.Stage.{Stage}
@@ -41,10 +41,10 @@ module _ (r cut : ℕ → ℕ) (A B : ℕ) (R : Rises r cut B) where
       let u : m < cut m = R .above m l in let v : cut m ≤ B = R .inside m l in
       ap (filter (λ x. eqb (r m) (r x))) (between-split A m B h (omega arith) ∙ ap (λ z. between A m ++ z) (between-split m (cut m) B (omega arith) v))
       ∙ filter-append _ (between A m) (between m (cut m) ++ between (cut m) B)
-      ∙ ap₂ _++_ (filter-none _ A m (λ x i k. eq-false (r m) (r x) (λ e. before x i k q e)))
+      ∙ ap₂ _++_ (filter-none _ A m (λ x i k. ne-eqb (r m) (r x) (λ e. before x i k q e)))
       (filter-append _ (between m (cut m)) (between (cut m) B)
-      ∙ ap₂ _++_ (filter-all _ m (cut m) (λ x i k. eq-true (r m) (r x) (sym (R .flat m x i k))))
-      (filter-none _ (cut m) B (λ x i k. eq-false (r m) (r x) (λ e. omega (arith, R .jump m (omega arith), R .mono (cut m) x i)))))
+      ∙ ap₂ _++_ (filter-all _ m (cut m) (λ x i k. eq-eqb (r m) (r x) (sym (R .flat m x i k))))
+      (filter-none _ (cut m) B (λ x i k. ne-eqb (r m) (r x) (λ e. omega (arith, R .jump m (omega arith), R .mono (cut m) x i)))))
       ∙ append-nil (between m (cut m))
     where
       before : (x : ℕ) → A ≤ x → x < m → Head m → r m ≡ r x → ⊥
@@ -62,11 +62,11 @@ module _ (r cut : ℕ → ℕ) (A B : ℕ) (R : Rises r cut B) where
       ∙ ap (λ z. z ++ filter (headTest r A) (between (cut m) B)) (filter-none (headTest r A) (suc m) (cut m) (λ x i k. no-head x i k)))
     where
       yes-head : Head m → headTest r A m ≡ true
-      yes-head (inl e) = rw (eq-true m A e) refl
-      yes-head (inr j) = rw (eq-false (r (m - 1)) (r m) (λ e. omega arith)) (or-true (eqb m A))
+      yes-head (inl e) = rw (eq-eqb m A e) refl
+      yes-head (inr j) = rw (ne-eqb (r (m - 1)) (r m) (λ e. omega arith)) (or-true (eqb m A))
 
       no-head : (x : ℕ) → suc m ≤ x → x < cut m → headTest r A x ≡ false
-      no-head x i k = rw (eq-false x A (λ e. omega arith), eq-true (r (x - 1)) (r x) (R .flat m (x - 1) (omega arith) (omega arith) ∙ sym (R .flat m x (omega arith) k))) refl
+      no-head x i k = rw (ne-eqb x A (λ e. omega arith), eq-eqb (r (x - 1)) (r x) (R .flat m (x - 1) (omega arith) (omega arith) ∙ sym (R .flat m x (omega arith) k))) refl
 
   head-next : (m : ℕ) → m < B → cut m < B → Head (cut m)
   head-next m l k = inr (omega (arith, R .jump m k, R .flat m (cut m - 1) (omega (arith, R .above m l)) (omega (arith, R .above m l))))
@@ -95,16 +95,10 @@ rank e c m = periodOf m + stageIx (stageAt e c m)
 pub split : (e c m : ℕ) (P : Bool → Bool → Type 0) → (m < e → (q : Bool) → P true q) → (e ≤ m → m < c → P false true) → (e ≤ m → c ≤ m → P false false) → P (ltb m e) (ltb m c)
 split e c m P up steady down = go (ltb m e) (ltb m c) refl refl
   where
-    less : (a b : ℕ) → ltb a b ≡ true → a < b
-    less a b q = ltb→lt a b (subst (λ x. T x) (sym q) tt)
-
-    most : (a b : ℕ) → ltb a b ≡ false → b ≤ a
-    most a b q = nltb→le a b (subst (λ x. T (not x)) (sym q) tt)
-
     go : (p q : Bool) → ltb m e ≡ p → ltb m c ≡ q → P p q
-    go true q a b = up (less m e a) q
-    go false true a b = steady (most m e a) (less m c b)
-    go false false a b = down (most m e a) (most m c b)
+    go true q a b = up (ltb-true m e a) q
+    go false true a b = steady (ltb-false m e a) (ltb-true m c b)
+    go false false a b = down (ltb-false m e a) (ltb-false m c b)
 
 abbrev ixOf : Bool → Bool → ℕ
 ixOf p q = stageIx (cond p Up (cond q Steady Down))
@@ -150,7 +144,18 @@ rises e c f o o′ =
         let a : min (stageEnd e c f m) (30 * (m / 30) + 30) ≡ 30 * (m / 30) + 30 = omega (arith, d) in
         rw a (omega (arith, ix-mono e c m (30 * (m / 30) + 30) (omega arith)))
 
--- ---- the segments of an instruction are its cuts
+-- ---- two minutes are alike where this number is the same
+ix-same : (s t : Stage) → stageIx s ≡ stageIx t → s ≡ t
+ix-same Up Up p = refl
+ix-same Up Steady p = absurd (omega arith)
+ix-same Up Down p = absurd (omega arith)
+ix-same Steady Up p = absurd (omega arith)
+ix-same Steady Steady p = refl
+ix-same Steady Down p = absurd (omega arith)
+ix-same Down Up p = absurd (omega arith)
+ix-same Down Steady p = absurd (omega arith)
+ix-same Down Down p = refl
+
 same-ix : (s t : Stage) → sameStage s t ≡ eqb (stageIx s) (stageIx t)
 same-ix Up Up = refl
 same-ix Up Steady = refl
@@ -162,6 +167,13 @@ same-ix Down Up = refl
 same-ix Down Steady = refl
 same-ix Down Down = refl
 
+-- a test of two stages, and what it tells
+pub same-stage : (s t : Stage) → T (sameStage s t) → s ≡ t
+same-stage s t h = ix-same s t (eqb→eq (stageIx s) (stageIx t) (subst (λ b. T b) (same-ix s t) h))
+
+pub stage-same : (s : Stage) → sameStage s s ≡ true
+stage-same s = same-ix s s ∙ eq-eqb (stageIx s) (stageIx s) refl
+
 both-eq : (p q a b : ℕ) → ((p ≤ q) × (a ≤ b)) ⊎ ((q ≤ p) × (b ≤ a)) → (eqb p q && eqb a b) ≡ eqb (p + a) (q + b)
 both-eq p q a b h = go (ℕ-discrete p q) (ℕ-discrete a b)
   where
@@ -169,9 +181,9 @@ both-eq p q a b h = go (ℕ-discrete p q) (ℕ-discrete a b)
     apart d e = ⊎-elim (λ w. d (omega (arith, w .0, w .1)) (omega (arith, w .0, w .1))) (λ w. d (omega (arith, w .0, w .1)) (omega (arith, w .0, w .1))) h
 
     go : Dec (p ≡ q) → Dec (a ≡ b) → (eqb p q && eqb a b) ≡ eqb (p + a) (q + b)
-    go (yes d) (yes e) = rw (eq-true p q d, eq-true a b e, eq-true (p + a) (q + b) (ap₂ _+_ d e)) refl
-    go (yes d) (no e) = rw (eq-false a b e, eq-false (p + a) (q + b) (apart (λ x y. e y))) (and-false (eqb p q))
-    go (no d) e = rw (eq-false p q d, eq-false (p + a) (q + b) (apart (λ x y. d x))) refl
+    go (yes d) (yes e) = rw (eq-eqb p q d, eq-eqb a b e, eq-eqb (p + a) (q + b) (ap₂ _+_ d e)) refl
+    go (yes d) (no e) = rw (ne-eqb a b e, ne-eqb (p + a) (q + b) (apart (λ x y. e y))) (and-false (eqb p q))
+    go (no d) e = rw (ne-eqb p q d, ne-eqb (p + a) (q + b) (apart (λ x y. d x))) refl
 
 -- of the minutes of an instruction
 abbrev pub rankOf : Contract → Instruction → ℕ → ℕ
@@ -201,7 +213,8 @@ heads-rank k i =
     filter-ext (λ m. eqb m (rise k i) || not (alike k i (m - 1) m)) (headTest (rankOf k i) (rise k i))
     (λ m. ap (λ b. eqb m (rise k i) || not b) (alike-rank k i (m - 1) m)) (active k i)
 
--- the segment from m of the instruction i, the n-th
+-- ---- the segments of an instruction are its cuts
+-- the end of the segment that begins at m
 abbrev pub cut : Contract → Instruction → ℕ → ℕ
 cut k i m = cutOf (expiry k i) (i .cease .0) (endOf k i) m
 
@@ -248,11 +261,11 @@ module _ (k : Contract) (n : ℕ) (i : Instruction) (t : Timed k i) where
           → (endOf k i ≤ cut k i m + u → rise k i ≤ cut k i m → (cut k i m < endOf k i → Hd (cut k i m)) → map seg (filter test (between (cut k i m) (endOf k i))) ≡ cutsFrom k n i u (cut k i m))
           → map seg (filter test (between m (endOf k i))) ≡ cond b (segmentAt k n i m ∷ cutsFrom k n i u (cut k i m)) []
       go true e rest =
-          let a : m < endOf k i = ltb→lt m (endOf k i) (subst (λ x. T x) (sym e) tt) in
+          let a : m < endOf k i = ltb-true m (endOf k i) e in
           let b : m < cut k i m = R .above m a in
           ap (map seg) (heads-cons r (cut k i) (rise k i) (endOf k i) R m l a (q a))
           ∙ ap₂ _∷_ (seg-at m l a (q a)) (rest (omega arith) (omega arith) (λ z. head-next r (cut k i) (rise k i) (endOf k i) R m a z))
-      go false e rest = ap (map seg) (filter-none test m (endOf k i) (λ x a b. absurd (omega (arith, nltb→le m (endOf k i) (subst (λ x. T (not x)) (sym e) tt)))))
+      go false e rest = ap (map seg) (filter-none test m (endOf k i) (λ x a b. absurd (omega (arith, ltb-false m (endOf k i) e))))
 
   -- the segments of an instruction, one after the other
   pub segments-cuts : segmentsOf k n i ≡ cutsFrom k n i (endOf k i - rise k i) (rise k i)
@@ -263,14 +276,3 @@ module _ (k : Contract) (n : ℕ) (i : Instruction) (t : Timed k i) where
 pub stage-flat : (e c f m n : ℕ) → m ≤ n → n < cutOf e c f m → stageAt e c n ≡ stageAt e c m
 unfolding cutOf
 stage-flat e c f m n h k = ix-same (stageAt e c n) (stageAt e c m) (ix-flat e c f m n h (omega arith))
-  where
-    ix-same : (s t : Stage) → stageIx s ≡ stageIx t → s ≡ t
-    ix-same Up Up p = refl
-    ix-same Up Steady p = absurd (omega arith)
-    ix-same Up Down p = absurd (omega arith)
-    ix-same Steady Up p = absurd (omega arith)
-    ix-same Steady Steady p = refl
-    ix-same Steady Down p = absurd (omega arith)
-    ix-same Down Up p = absurd (omega arith)
-    ix-same Down Steady p = absurd (omega arith)
-    ix-same Down Down p = refl

@@ -1,7 +1,7 @@
--- F1 to F12 and the corners, by computation.
+-- F1 to F12, by computation.
 use mathlib.Core.Path.{refl}
 use Rattle.rules.specs.Examples.{ledger}
-use Rattle.rules.specs.Figures.{Figures, Corners}
+use Rattle.rules.specs.Figures.{Figures}
 use Rattle.rules.proofs.Opened.{opened}
 
 pub figures : Figures
@@ -35,27 +35,4 @@ figures =
       F11-24 = refl;
       F12 = refl;
       lengths = refl;
-    }
-
-pub corners : Corners
-unfolding opened ledger
-corners =
-    record {
-      base = refl;
-      most = refl;
-      ramps = refl;
-      rampsOutside = refl;
-      rampsAfter = refl;
-      rampsExcluded = refl;
-      atEnd = refl;
-      afterEnd = refl;
-      inRecovery = refl;
-      afterRecovery = refl;
-      reach1 = refl;
-      reach2 = refl;
-      reach3 = refl;
-      delivery = refl;
-      once = refl;
-      month = refl;
-      notLive = refl;
     }

@@ -5,7 +5,6 @@ pub mod Terms
 pub mod Taken
 pub mod Tables
 pub mod Reached
-pub mod Partition
 pub mod Cuts
 pub mod Count
 pub mod Partition
@@ -15,7 +14,8 @@ pub mod LineBound
 pub mod Busiest
 pub mod Opened
 pub mod Figures
+pub mod Corners
 pub mod Refused
 pub mod Bounds
-pub mod Bytes
+pub mod Operands
 pub mod Reread

@@ -10,8 +10,9 @@ use native.Mathlib.Omega.{arith}
 use native.Mathlib.Decide.{ℕ-discrete}
 use lib.Dec.{T, eqb}
 use lib.ListN.{getElem?}
+use borrow.Author.Tests.{eq-eqb, ne-eqb}
 use Rattle.energy.specs.Lists.{count, filter, run, between}
-use Rattle.energy.proofs.Tests.{eq-true, eq-false, to-T}
+use Rattle.energy.proofs.Tests.{to-T}
 use Rattle.rules.specs.Ledger.{Ledger, contractOf, rise, endOf}
 use Rattle.rules.specs.Segment.{periodOf, stageOf, sameStage, alike, heads, active, Segment, segmentsOf, segmentsFrom, segments}
 use Rattle.rules.specs.Statement.{lineOf, lines}
@@ -20,10 +21,9 @@ use Rattle.rules.specs.declared.contract.Contract.{Contract}
 use Rattle.rules.specs.declared.entries.Instruction.{Instruction}
 use Rattle.rules.specs.declared.statement.Line.{Line}
 use Rattle.rules.specs.declared.statement.Stage.{Stage}
-use Rattle.rules.specs.declared.statement.Stage.the-variants.{Up, Steady, Down}
 use Rattle.rules.proofs.Chain.{together}
 use Rattle.rules.proofs.Lists.{kept-was, in-run, count-yes, count-no, count-ext, count-none, count-append, count-filter, count-map}
-use Rattle.rules.proofs.Cuts.{headTest, rankOf, rank-mono, alike-rank, heads-rank}
+use Rattle.rules.proofs.Cuts.{stage-same, headTest, rankOf, rank-mono, alike-rank, heads-rank}
 
 -- ---- of the minutes where a number that never falls has one value, one is the first
 
@@ -33,18 +33,18 @@ module _ (f : ℕ → ℕ) (mono : (x y : ℕ) → x ≤ y → f x ≤ f y) (A v
 
   starts-no : (x : ℕ) → f x ≢ v → starts x ≡ false
   unfolding starts
-  starts-no x h = ap (λ b. headTest f A x && b) (eq-false (f x) v h) ∙ and-false (headTest f A x)
+  starts-no x h = ap (λ b. headTest f A x && b) (ne-eqb (f x) v h) ∙ and-false (headTest f A x)
 
   starts-yes : (a : ℕ) → f (suc a) ≡ v → f a ≢ v → starts (suc a) ≡ true
   unfolding starts headTest
   starts-yes a h k =
-      ap₂ (λ b c. (eqb (suc a) A || not b) && c) (eq-false (f (suc a - 1)) (f (suc a)) (λ e. k (ap f (omega arith) ∙ e ∙ h))) (eq-true (f (suc a)) v h)
+      ap₂ (λ b c. (eqb (suc a) A || not b) && c) (ne-eqb (f (suc a - 1)) (f (suc a)) (λ e. k (ap f (omega arith) ∙ e ∙ h))) (eq-eqb (f (suc a)) v h)
       ∙ ap (λ b. b && true) (or-true (eqb (suc a) A))
 
   starts-on : (a : ℕ) → A ≤ a → f (suc a) ≡ v → f a ≡ v → starts (suc a) ≡ false
   unfolding starts headTest
   starts-on a h k l =
-      ap₂ (λ b c. (b || not c) && eqb (f (suc a)) v) (eq-false (suc a) A (λ e. omega arith)) (eq-true (f (suc a - 1)) (f (suc a)) (ap f (omega arith) ∙ l ∙ sym k))
+      ap₂ (λ b c. (b || not c) && eqb (f (suc a)) v) (ne-eqb (suc a) A (λ e. omega arith)) (eq-eqb (f (suc a - 1)) (f (suc a)) (ap f (omega arith) ∙ l ∙ sym k))
 
   count-past : (n a : ℕ) → A ≤ a → v ≤ f a → count starts (run (suc a) n) ≡ 0
   unfolding run
@@ -78,7 +78,7 @@ module _ (f : ℕ → ℕ) (mono : (x y : ℕ) → x ≤ y → f x ≤ f y) (A v
   count-starts (suc n) m h k e = go (ℕ-discrete (f A) v)
     where
       at-first : f A ≡ v → starts A ≡ true
-      at-first d = ap₂ (λ a b. (a || not (eqb (f (A - 1)) (f A))) && b) (eq-true A A refl) (eq-true (f A) v d)
+      at-first d = ap₂ (λ a b. (a || not (eqb (f (A - 1)) (f A))) && b) (eq-eqb A A refl) (eq-eqb (f A) v d)
 
       go : Dec (f A ≡ v) → count starts (A ∷ run (suc A) n) ≡ 1
       go (yes d) = count-yes starts A (run (suc A) n) (at-first d) ∙ ap suc (count-past n A (le-refl A) (omega arith))
@@ -112,7 +112,7 @@ unfolding segmentsOf hit
 hits-of k n i m h l =
     count-map (hit k n i m) (segmentFrom k n i) (heads k i)
     ∙ count-ext (λ x. hit k n i m (segmentFrom k n i x)) (λ x. alike k i x m) (heads k i)
-    (λ x. unfold alike in ap (λ b. b && eqb (periodOf x) (periodOf m) && sameStage (stageOf k i x) (stageOf k i m)) (eq-true n n refl))
+    (λ x. unfold alike in ap (λ b. b && eqb (periodOf x) (periodOf m) && sameStage (stageOf k i x) (stageOf k i m)) (eq-eqb n n refl))
     ∙ heads-once k i m h l
 
 -- another instruction's segments have another number
@@ -121,7 +121,7 @@ unfolding segmentsOf hit
 hits-other k n n′ i i′ m d =
     count-map (hit k n i m) (segmentFrom k n′ i′) (heads k i′)
     ∙ count-none (λ x. hit k n i m (segmentFrom k n′ i′ x)) (heads k i′)
-    (λ x. ap (λ b. b && eqb (periodOf x) (periodOf m) && sameStage (stageOf k i′ x) (stageOf k i m)) (eq-false n′ n d))
+    (λ x. ap (λ b. b && eqb (periodOf x) (periodOf m) && sameStage (stageOf k i′ x) (stageOf k i m)) (ne-eqb n′ n d))
 
 hits-later : (k : Contract) (n n′ : ℕ) (i : Instruction) (is : List Instruction) (m : ℕ) → n < n′ → count (hit k n i m) (segmentsFrom k n′ is) ≡ 0
 unfolding segmentsFrom count
@@ -186,11 +186,6 @@ head-active k i m h =
     let r = in-run (endOf k i - rise k i) (rise k i) m (q .0) in
     (r .0, omega (arith, r .0, r .1), q .1)
 
-same-self : (s : Stage) → sameStage s s ≡ true
-same-self Up = refl
-same-self Steady = refl
-same-self Down = refl
-
 nonempty : (g : Ledger) (l : Line) → List·Memᴰ l (lines g) → MinuteOf g l
 unfolding lines lineOf segments
 nonempty g l h =
@@ -208,8 +203,8 @@ nonempty g l h =
       active = record { given = f .given; begun = a .0; before-end = a .1 };
       itsLine =
           together (eqb (s .number) (suc (f .place))) (eqb (periodOf (s .head)) (periodOf (s .head)) ∷ sameStage stage stage ∷ [])
-          (to-T (eq-true (s .number) (suc (f .place)) (omega arith)))
-          (to-T (eq-true (periodOf (s .head)) (periodOf (s .head)) refl), (to-T (same-self stage), tt));
+          (to-T (eq-eqb (s .number) (suc (f .place)) (omega arith)))
+          (to-T (eq-eqb (periodOf (s .head)) (periodOf (s .head)) refl), (to-T (stage-same stage), tt));
     })
 
 pub partition : Partition·theorem

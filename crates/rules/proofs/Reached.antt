@@ -8,8 +8,9 @@ use native.Mathlib.Omega.{arith}
 use lib.IntN.{ℤ}
 use lib.Dec.{T, eqb, leb, ltb, lt→ltb, eqb→eq}
 use lib.ListN.{length, length-append}
+use borrow.Author.Tests.{leb-false, ltb-false}
 use Rattle.energy.specs.Lists.{all, any, concatMap, first, isEmpty, later, pass}
-use Rattle.energy.proofs.Tests.{T-and, and-T, to-T, off-T, off-not, off-leb, off-ltb, passes, passed, all-snoc}
+use Rattle.energy.proofs.Tests.{T-and, and-T, to-T, off-T, off-not, passes, passed, all-snoc}
 use Rattle.rules.specs.Ledger.{Ledger, ledgerOf, contractOf, noContract, contractIn, windowIn, instructionIn, defaultIn, readingIn, readingOf, isContract, spanOf, within}
 use Rattle.rules.specs.Refusal.{from-to, inRange, rampTooLong, isReading, refusal, joined, takenAfter, taken}
 use Rattle.rules.specs.Reached.{windowsSound, instructionsSound, defaultSound, agreedTests, Untouched, Agreed, Reached, Reached·theorem}
@@ -102,7 +103,7 @@ kept P l p = subst P (sym (append-nil l)) p
 
 -- one entry more fits a table that has room
 fits : {A : Type 0} (n : ℕ) (l : List A) (a : A) → leb n (length l) ≡ false → length (l ++ (a ∷ [])) ≤ n
-fits n l a e = omega (arith, length-append l (a ∷ []), off-leb n (length l) e)
+fits n l a e = omega (arith, length-append l (a ∷ []), leb-false n (length l) e)
 
 module _ {size : ℕ} {g : Ledger} (a : Agreed size g) where
   abbrev k : Contract
@@ -179,7 +180,7 @@ module _ {size : ℕ} {g : Ledger} (a : Agreed size g) where
       let windowed : Bool = any (λ w. within w (d .minute .0)) (g .windows) in
       let one : T (defaultSound k (g .windows) d) =
       and-T (ok && below) windowed
-      (and-T ok below (h .operands) (lt→ltb (d .minute .0) (spanOf k) (off-leb (spanOf k) (d .minute .0) (h .inside))))
+      (and-T ok below (h .operands) (lt→ltb (d .minute .0) (spanOf k) (leb-false (spanOf k) (d .minute .0) (h .inside))))
       (off-not windowed (h .windowed)) in
       keep (defaultᶜ d) refl
       (record {
@@ -205,7 +206,7 @@ module _ {size : ℕ} {g : Ledger} (a : Agreed size g) where
       go {m} true e kw q =
           let same : r .minute .0 ≡ m = eqb→eq (r .minute .0) m (to-T e) in
           let range = T-and (from-to 0 44640 (r .minute .0)) (isReading (r .kw .0)) (h .operands) in (
-            subst (λ x. x < spanOf k) same (off-leb (spanOf k) (r .minute .0) (h .inside)),
+            subst (λ x. x < spanOf k) same (leb-false (spanOf k) (r .minute .0) (h .inside)),
             subst (λ x. T (isReading x)) (Option·some-injective (r .kw .0) kw q) (range .1),
           )
       go {m} false e kw q = a .readings m kw q
@@ -225,7 +226,7 @@ with-contract {size} {g} k u h =
     under size k (grown g (contractᶜ k)) (ap (λ l. l ++ (k ∷ [])) (u .contracts))
     (rw (ws, is, ds) (record { operands = h .operands; ramps = off-T (rampTooLong (contractᶜ k)) (h .ramps); windows = tt; instructions = tt; defaults = tt }))
     (record { windows = omega (arith, ap length ws); instructions = omega (arith, ap length is); defaults = omega (arith, ap length ds) })
-    (off-ltb size (spanOf k) (h .memory))
+    (ltb-false size (spanOf k) (h .memory))
     (λ m kw q. absurd (Option·none-ne-some kw (sym (u .readings m) ∙ q)))
 
 -- ---- any command

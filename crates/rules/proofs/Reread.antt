@@ -21,7 +21,7 @@ use Rattle.rules.specs.declared.entries.Command.{Command}
 use Rattle.rules.specs.declared.entries.Command.the-variants.{Contract as contractᶜ, Window as windowᶜ, Instruction as instructionᶜ, Default as defaultᶜ, Reading as readingᶜ, Close as closeᶜ}
 use Rattle.rules.specs.declared.file.Read.{Read}
 use Rattle.rules.specs.declared.file.Read.the-variants.{Got, End, Refused}
-use Rattle.rules.proofs.Bytes.{operands-back, length-operands}
+use Rattle.rules.proofs.Operands.{operands-back, length-operands}
 use Rattle.rules.proofs.Chain.{apart}
 use Rattle.rules.proofs.Terms.{ranges, bounds}
 

@@ -8,8 +8,8 @@ use native.Mathlib.Decide.{ℕ-discrete, decLe, decLt}
 use native.Mathlib.Nat.{le-refl}
 use native.Mathlib.Omega.{arith}
 use lib.Dec.{T, eqb→eq}
+use borrow.Author.Tests.{eq-eqb, ne-eqb}
 use Rattle.energy.specs.Lists.{filter, run, between}
-use Rattle.energy.proofs.Tests.{eq-true, eq-false}
 use Rattle.rules.specs.Ledger.{Ledger, ledgerOf, contractOf, upMinutes, rise, endOf}
 use Rattle.rules.specs.Refusal.{taken}
 use Rattle.rules.specs.Segment.{alike, heads, active, Segment, segmentsOf, segmentsFrom, segments}
@@ -41,7 +41,7 @@ unfolding headTest
 head-above r mono A x m h l t = go (ℕ-discrete (r (x - 1)) (r x))
   where
     go : Dec (r (x - 1) ≡ r x) → r m < r x
-    go (yes e) = absurd (subst (λ b. T b) (ap₂ (λ a b. a || not b) (eq-false x A (λ q. omega arith)) (eq-true (r (x - 1)) (r x) e)) t)
+    go (yes e) = absurd (subst (λ b. T b) (ap₂ (λ a b. a || not b) (ne-eqb x A (λ q. omega arith)) (eq-eqb (r (x - 1)) (r x) e)) t)
     go (no d) = omega (arith, d, mono m (x - 1) (omega arith), mono (x - 1) x (omega arith))
 
 -- a head is in its segment
@@ -50,7 +50,7 @@ unfolding active between
 head-has k i x h =
     let a = head-active k i x h in
     was-kept (alike k i x) (run (rise k i) (endOf k i - rise k i)) (run-has (endOf k i - rise k i) (rise k i) x (a .0) (omega (arith, a .1)))
-    (alike-rank k i x x ∙ eq-true (rankOf k i x) (rankOf k i x) refl)
+    (alike-rank k i x x ∙ eq-eqb (rankOf k i x) (rankOf k i x) refl)
 
 -- and the first of it
 head-first : (k : Contract) (i : Instruction) (x m : ℕ) → List·Memᴰ x (heads k i) → List·Memᴰ m (filter (alike k i x) (active k i)) → x ≤ m

@@ -20,6 +20,7 @@ use Rattle.rules.specs.declared.statement.Stage.{Stage}
 use Rattle.rules.specs.declared.statement.Stage.the-variants.{Up, Steady, Down}
 use Rattle.rules.specs.declared.statement.Rate.the-variants.{Utilisation, Optional}
 use Rattle.rules.proofs.Lists.{kept-was}
+use Rattle.rules.proofs.Cuts.{same-stage}
 use Rattle.rules.proofs.Tables.{windows-cons}
 use Rattle.rules.proofs.Reached.{parts-of, reached}
 use Rattle.rules.proofs.Partition.{segment-from}
@@ -54,17 +55,6 @@ module _ (m n : ℕ) (e : periodOf m ≡ periodOf n) where
   same-live g h = same-any (live g) (g .windows) h
 
 -- ---- minutes alike have the same rate
-
-same-stage : (s t : Stage) → T (sameStage s t) → s ≡ t
-same-stage Up Up h = refl
-same-stage Up Steady h = absurd h
-same-stage Up Down h = absurd h
-same-stage Steady Up h = absurd h
-same-stage Steady Steady h = refl
-same-stage Steady Down h = absurd h
-same-stage Down Up h = absurd h
-same-stage Down Steady h = absurd h
-same-stage Down Down h = refl
 
 anchored : (g : Ledger) (i : Instruction) (s : Stage) (m n : ℕ) → inLive g m ≡ inLive g n → inLive g (anchor (contractOf g) i s m) ≡ inLive g (anchor (contractOf g) i s n)
 anchored g i Up m n e = refl

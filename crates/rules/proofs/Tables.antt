@@ -4,8 +4,9 @@ use mathlib.Core.Bool.{Bool, true, false, not, _&&_, _||_}
 use mathlib.Core.List.{List, [], _∷_, _++_}
 use Prim.Native.Nat.{ℕ, _+_, _%_, _≤_, _<_}
 use lib.Dec.{T, eqb, leb, ltb, leb→le, le→leb, eqb→eq}
+use borrow.Author.Tests.{leb-false, ltb-false}
 use Rattle.energy.specs.Lists.{all, any, last}
-use Rattle.energy.proofs.Tests.{T-and, and-T, off-T, off-not, off-or, off-leb, off-ltb, all-mono, any-snoc}
+use Rattle.energy.proofs.Tests.{T-and, and-T, off-T, off-not, off-or, all-mono, any-snoc}
 use Rattle.rules.specs.Ledger.{spanOf, expiry, endOf, within}
 use Rattle.rules.specs.Refusal.{from-to, inRange, badWindow, recovered}
 use Rattle.rules.specs.Reached.{windowsSound, instructionsSound, defaultSound}
@@ -50,7 +51,7 @@ windows-cons k e w ws t =
       record {
         start = eqb→eq (w .start .0 % 30) 0 (off-not (eqb (w .start .0 % 30) 0) (wrong′ .1));
         end = eqb→eq (w .end .0 % 30) 0 (off-not (eqb (w .end .0 % 30) 0) (wrong .1));
-        order = off-leb (w .end .0) (w .start .0) (wrong′ .0);
+        order = leb-false (w .end .0) (w .start .0) (wrong′ .0);
         inside = leb→le (w .end .0) (spanOf k) (p .1 .1 .0);
         after = leb→le e (w .start .0) (p .1 .1 .1 .1 .0);
         verdict = bounds 0 1 (w .verdict) (r .1 .1 .0) .1;
@@ -77,10 +78,10 @@ one-window k e w operands shape inside verdict after =
     (together (inRange (windowᶜ w)) (windowTests k e w) operands (
       off-T (badWindow (windowᶜ w)) shape,
       (
-        le→leb (w .end .0) (spanOf k) (off-ltb (spanOf k) (w .end .0) inside),
+        le→leb (w .end .0) (spanOf k) (ltb-false (spanOf k) (w .end .0) inside),
         (
           off-T (eqb (k .service) 0 && eqb (w .verdict) 1) verdict,
-          (le→leb e (w .start .0) (off-ltb (w .start .0) e after), tt),
+          (le→leb e (w .start .0) (ltb-false (w .start .0) e after), tt),
         ),
       ),
     ))
@@ -150,10 +151,10 @@ unfolding instructionsSound
 one-instruction k e i operands inside ceased after =
     and-T (chain (inRange (instructionᶜ i)) (instructionTests k e i)) true
     (together (inRange (instructionᶜ i)) (instructionTests k e i) operands (
-      le→leb (endOf k i) (spanOf k) (off-ltb (spanOf k) (endOf k i) inside),
+      le→leb (endOf k i) (spanOf k) (ltb-false (spanOf k) (endOf k i) inside),
       (
-        le→leb (expiry k i) (i .cease .0) (off-ltb (i .cease .0) (expiry k i) ceased),
-        (le→leb e (i .issue .0) (off-ltb (i .issue .0) e after), tt),
+        le→leb (expiry k i) (i .cease .0) (ltb-false (i .cease .0) (expiry k i) ceased),
+        (le→leb e (i .issue .0) (ltb-false (i .issue .0) e after), tt),
       ),
     ))
     tt

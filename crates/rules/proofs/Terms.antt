@@ -10,8 +10,9 @@ use mir.Val.{Fits}
 use native.Mathlib.Nat.{le-div-iff-mul-le}
 use native.Mathlib.Omega.{arith}
 use lib.IntN.{ℤ, pos, negsuc, natAbs}
+use borrow.Author.Tests.{ltb-false}
 use Rattle.energy.specs.Number.{ceiling}
-use Rattle.energy.proofs.Tests.{T-and, off-or, off-ltb}
+use Rattle.energy.proofs.Tests.{T-and, off-or}
 use Rattle.rules.specs.Ledger.{kwOf, upMinutes, downMinutes}
 use Rattle.rules.specs.Refusal.{from-to, from-toℤ, inRange, rampTooLong}
 use Rattle.rules.specs.declared.contract.Contract.{Contract}
@@ -95,6 +96,6 @@ terms k t s =
     let q = off-or (ltb (k .response .0) (upMinutes k)) (ltb 240 (downMinutes k)) (not-on (rampTooLong (contractᶜ k)) s) in
     record {
       ranges = r;
-      up = (ceiling-some (kwOf k) (k .rampup) (omega arith) (r .rampup .0), off-ltb (k .response .0) (upMinutes k) (q .0));
-      down = (ceiling-some (kwOf k) (k .rampdown) (omega arith) (r .rampdown .0), off-ltb 240 (downMinutes k) (q .1));
+      up = (ceiling-some (kwOf k) (k .rampup) (omega arith) (r .rampup .0), ltb-false (k .response .0) (upMinutes k) (q .0));
+      down = (ceiling-some (kwOf k) (k .rampdown) (omega arith) (r .rampdown .0), ltb-false 240 (downMinutes k) (q .1));
     }

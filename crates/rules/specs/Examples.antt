@@ -137,6 +137,10 @@ reduced =
     megawatts (10 ∷ 12 ∷ 16 ∷ 22 ∷ [])
     ((15 ∷ 10 ∷ 8 ∷ 5 ∷ 3 ∷ 3 ∷ 3 ∷ 3 ∷ 3 ∷ 3 ∷ 3 ∷ []) ++ times 15 (2 ∷ 5 ∷ []) ++ times 25 (2 ∷ []) ++ (2 ∷ 4 ∷ 6 ∷ 8 ∷ 10 ∷ 12 ∷ []))
 
+-- Appendix 2's contract and window
+abbrev pub opening : List Command
+opening = agree guide ∷ offer 0 180 accepted ∷ []
+
 -- a contract, a window from 0 to 180, an instruction issued at 5 that ceases at 85, readings, and the close
 abbrev pub month : List ℕ → ℕ → List Command → List Command
 month terms verdict read = agree terms ∷ offer 0 180 verdict ∷ call 5 85 ∷ (read ++ (closeᶜ ∷ []))

@@ -1,21 +1,19 @@
--- "Twelve checked figures": F1 to F12, with the whole lengths of the table of commands; and corners of the rules, where the "plausible wrong turns" and
--- others like them would give something else.
+-- "Twelve checked figures": F1 to F12, and the whole lengths of the table of commands.
 use mathlib.Core.Path.{_≡_}
 use mathlib.Core.Bool.{true, false}
 use mathlib.Core.List.{List, [], _∷_, _++_, map}
 use mathlib.Core.Option.{none, some}
-use Prim.Native.Nat.{ℕ, _+_}
+use Prim.Native.Nat.{ℕ}
 use lib.IntN.{ℤ, pos}
-use lib.Dec.{eqb}
 use lib.ListN.{length, set, replicate}
 use Rattle.energy.specs.Energy.{kwh, payment}
-use Rattle.energy.specs.Lists.{first, filter}
+use Rattle.energy.specs.Lists.{first}
 use Rattle.rules.specs.Ledger.{contractOf, upMinutes, downMinutes, endOf}
 use Rattle.rules.specs.Refusal.{refusal, taken}
 use Rattle.rules.specs.Segment.{live}
 use Rattle.rules.specs.Statement.{lines, statementOf, windowsPaid, penalty, periodPence, nothing, settleRefusal}
 use Rattle.rules.specs.File.{table, whole, bytesOf, wordFrom}
-use Rattle.rules.specs.Examples.{minus, agree, guide, service, recovery, response, rampup, rampdown, flexible, accepted, rejected, offer, call, fault, readings, periods, faults, generated, month, appendix2, appendix3, ledger}
+use Rattle.rules.specs.Examples.{minus, agree, guide, service, recovery, rampup, rampdown, flexible, accepted, rejected, offer, call, fault, periods, faults, generated, opening, month, appendix2, appendix3, ledger}
 use Rattle.rules.specs.declared.entries.Command.{Command}
 use Rattle.rules.specs.declared.statement.Stage.{Stage}
 use Rattle.rules.specs.declared.statement.Stage.the-variants.{Up, Steady, Down}
@@ -45,10 +43,6 @@ pays n p = record { periods = n; pence = record { 0 = pos p } }
 -- Appendix 2's contract with another recovery, two windows after its instruction, and the instruction
 abbrev pub afterwards : ℕ → List Command
 afterwards r = agree (set guide recovery r) ∷ offer 150 180 accepted ∷ offer 180 210 accepted ∷ call 5 85 ∷ []
-
--- Appendix 2 until its instruction
-abbrev pub begun : List Command
-begun = agree guide ∷ offer 0 180 accepted ∷ []
 
 -- the twelve figures
 pub record Figures : Type 0 where
@@ -92,8 +86,8 @@ pub record Figures : Type 0 where
   -- F7: with none, neither is
   pub F7-live : map (live (ledger (afterwards 0))) (ledger (afterwards 0) .windows) ≡ true ∷ true ∷ []
   -- F8: P 1, and P 30 for 31 faulted windows, of 32
-  pub F8-one : penalty (ledger (begun ++ (fault 0 1 1 ∷ []))) ≡ 1
-  pub F8-pence : periodPence (ledger (begun ++ (fault 0 1 1 ∷ []))) ≡ pos 5346
+  pub F8-one : penalty (ledger (opening ++ (fault 0 1 1 ∷ []))) ≡ 1
+  pub F8-pence : periodPence (ledger (opening ++ (fault 0 1 1 ∷ []))) ≡ pos 5346
   pub F8-many : windowsPaid (ledger (agree guide ∷ (periods 32 0 ++ faults 31 0))) ≡ replicate 31 (pays 0 0) ++ (pays 1 3780 ∷ [])
   -- F9: high byte first
   pub F9-write : bytesOf 4 15000 ≡ 0x00 ∷ 0x00 ∷ 0x3A ∷ 0x98 ∷ []
@@ -102,73 +96,12 @@ pub record Figures : Type 0 where
   pub F10-plus : payment (pos 50) 30 ≡ pos 2
   pub F10-minus : payment (minus 50) 30 ≡ minus 1
   -- F11: cease at the response's expiry is taken and gives three lines, a minute earlier gets 19
-  pub F11-25 : refusal false 1440 (ledger begun) (call 5 25) ≡ none
-  pub F11-lines : length (lines (ledger (begun ++ (call 5 25 ∷ [])))) ≡ 3
-  pub F11-24 : refusal false 1440 (ledger begun) (call 5 24) ≡ some 19
+  pub F11-25 : refusal false 1440 (ledger opening) (call 5 25) ≡ none
+  pub F11-lines : length (lines (ledger (opening ++ (call 5 25 ∷ [])))) ≡ 3
+  pub F11-24 : refusal false 1440 (ledger opening) (call 5 24) ≡ some 19
   -- F12: F1 under a flexible contract, with its window rejected
   pub F12 :
       first (row 0 0 Up Optional (pos 0) (pos 0) (pos 0) (pos 0)) (lines (ledger (month (set guide service flexible) rejected generated)))
       ≡ row 1 1 Up Optional (pos 600) (pos 500) (pos 500) (pos 27500)
   -- the table's whole lengths: contract, window, instruction, default, reading, close
   pub lengths : map whole table ≡ 32 ∷ 6 ∷ 5 ∷ 5 ∷ 7 ∷ 1 ∷ []
-
--- ---- corners
-
--- Appendix 2's contract but for a recovery of 60, an instruction issued at 3, and a period's window
-abbrev pub recovering : ℕ → ℕ → List Command
-recovering cease start = agree (set guide recovery 60) ∷ offer start (start + 30) accepted ∷ call 3 cease ∷ []
-
--- what is paid for the windows of a list of commands
-abbrev pub paying : List Command → List Available
-paying cs = windowsPaid (ledger cs)
-
--- period, stage and rate of each line
-abbrev pub rated : List Command → List (ℕ × Stage × Rate)
-rated cs = map (λ (l : Line). (l .period, l .stage, l .rate)) (lines (ledger cs))
-
--- the line of period 2 that Appendix 2's instruction gives without a window, with these base readings and the same kW in each minute of the period
-abbrev pub second : List ℤ → ℤ → List Line
-second base kw =
-    filter (λ (l : Line). eqb (l .period) 2) (lines (ledger (agree guide ∷ call 5 85 ∷ (readings 2 base ++ readings 30 (replicate 30 kw)))))
-
--- edges and wrong turns
-pub record Corners : Type 0 where
-  -- the base load is no whole number of kW: 30 minutes of −5 quarters are −0.625 kWh
-  pub base : second (pos 2 ∷ pos 1 ∷ pos 1 ∷ pos 1 ∷ []) (pos 0) ≡ row 1 2 Steady Optional (pos 6000) (minus 1) (minus 1) (minus 55) ∷ []
-  -- the most that can be missing in a period
-  pub most :
-      second (replicate 4 (pos 500000)) (minus 500000)
-      ≡ row 1 2 Steady Optional (pos 6000) (minus 500000) (minus 500000) (minus 27500000) ∷ []
-  -- a ramp up before a live window that e is in, and a ramp down after one that cease − 1 is in
-  pub ramps :
-      rated (agree guide ∷ offer 30 90 accepted ∷ call 10 90 ∷ [])
-      ≡ (1, Up, Utilisation) ∷ (2, Steady, Utilisation) ∷ (3, Steady, Utilisation) ∷ (4, Down, Utilisation) ∷ []
-  -- e and cease − 1 in no live window: each ramp minute goes by itself
-  pub rampsOutside :
-      rated (agree (set (set guide rampup 300) response 40) ∷ offer 0 30 accepted ∷ call 3 60 ∷ [])
-      ≡ (1, Up, Utilisation) ∷ (2, Up, Optional) ∷ (2, Steady, Optional) ∷ (3, Down, Optional) ∷ []
-  -- a ramp down of 40 minutes, and a steady minute that goes by itself
-  pub rampsAfter :
-      rated (agree (set guide rampdown 300) ∷ offer 30 60 accepted ∷ call 5 60 ∷ [])
-      ≡ (1, Up, Optional) ∷ (1, Steady, Optional) ∷ (2, Steady, Utilisation) ∷ (3, Down, Utilisation) ∷ (4, Down, Utilisation) ∷ []
-  -- an instruction in an excluded window is paid the optional rate
-  pub rampsExcluded :
-      rated (agree (set guide recovery 10) ∷ offer 120 180 accepted ∷ call 65 85 ∷ call 101 121 ∷ [])
-      ≡ (3, Up, Optional) ∷ (3, Down, Optional) ∷ (4, Down, Optional) ∷ (4, Up, Optional) ∷ (5, Up, Optional) ∷ (5, Down, Optional) ∷ []
-  -- excluded is strict at both ends: f is 90 and 89, and f + recovery + response 151 and 150
-  pub atEnd : paying (recovering 84 90) ≡ pays 1 5400 ∷ []
-  pub afterEnd : paying (recovering 83 90) ≡ pays 0 0 ∷ []
-  pub inRecovery : paying (recovering 65 150) ≡ pays 0 0 ∷ []
-  pub afterRecovery : paying (recovering 64 150) ≡ pays 1 5400 ∷ []
-  -- reaches 1, 2 and 3, in the second of six periods
-  pub reach1 : paying (begun ++ (fault 31 2 1 ∷ [])) ≡ pays 5 26730 ∷ []
-  pub reach2 : paying (begun ++ (fault 31 2 2 ∷ [])) ≡ pays 0 0 ∷ []
-  pub reach3 : paying (begun ++ (fault 59 3 3 ∷ [])) ≡ pays 1 5346 ∷ []
-  -- a delivery default leaves its periods unpaid and is not in P
-  pub delivery : paying (begun ++ (fault 31 4 1 ∷ [])) ≡ pays 5 27000 ∷ []
-  -- two defaults in one window are 1 in P
-  pub once : paying (begun ++ (fault 0 1 1 ∷ fault 30 1 1 ∷ [])) ≡ pays 4 21384 ∷ []
-  -- P is for the whole month, and a window that is not live counts for nothing
-  pub month : paying (agree guide ∷ (periods 2 0 ++ (fault 0 1 1 ∷ []))) ≡ pays 0 0 ∷ pays 1 5346 ∷ []
-  pub notLive :
-      paying (agree (set guide service flexible) ∷ offer 0 30 rejected ∷ offer 30 60 accepted ∷ fault 0 1 1 ∷ []) ≡ pays 0 0 ∷ pays 1 5400 ∷ []

@@ -9,7 +9,7 @@ pub mod Lines
 pub mod File
 pub mod Examples
 pub mod Figures
+pub mod Corners
 pub mod Refused
-pub mod Lines
 pub mod Bounds
 pub mod Reread

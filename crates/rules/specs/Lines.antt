@@ -1,4 +1,4 @@
--- "From instruction to segment" and "The lists of demand 3": what holds of the lines that the rules give.
+-- "From instruction to segment" and "The lists of demand 3": which minutes a line has, its one rate, the order of lines and their number.
 use mathlib.Core.Path.{_≡_}
 use mathlib.Core.Bool.{Bool, _&&_}
 use mathlib.Core.List.{List, [], _∷_, List·Memᴰ}
@@ -81,7 +81,7 @@ Rising·theorem = (size : ℕ) (cs : List Command) → Rising (ledgerOf (taken s
 
 -- ---- how many
 
--- a line starts with a stage or, inside one, with a period, and minute 0 is never active
+-- a line starts with a stage or, inside one, with a period, and minute 0 is never active. In all there is one line less than the 1,680 allowed for
 pub record LineBound (g : Ledger) : Type 0 where
   pub most : length (lines g) ≤ 48 * contractOf g .days - 1 + 3 * length (g .instructions)
   pub elevenDays : contractOf g .days ≤ 11 → length (lines g) ≤ 719

@@ -3,7 +3,7 @@
 use mathlib.Core.Path.{_≡_}
 use mathlib.Core.Bool.{Bool, true, false, not}
 use mathlib.Core.List.{List, [], _∷_, _++_, map}
-use Prim.Native.Nat.{ℕ, min}
+use Prim.Native.Nat.{ℕ, _*_, min}
 use lib.IntN.{pos}
 use lib.Dec.{eqb}
 use lib.ListN.{set, take, replicate}
@@ -12,7 +12,7 @@ use Rattle.rules.specs.Ledger.{ledgerOf, readingIn}
 use Rattle.rules.specs.Refusal.{refusal, answerOf, taken}
 use Rattle.rules.specs.Statement.{settleRefusal}
 use Rattle.rules.specs.File.{readAt, write}
-use Rattle.rules.specs.Examples.{minus, agree, guide, days, kind, service, contracted, rampup, rampdown, response, recovery, availability, utilisation, optional, flexible, accepted, rejected, offer, call, fault, metered, readings, periods, calls, appendix2, sample, sampleBytes}
+use Rattle.rules.specs.Examples.{minus, agree, guide, days, kind, service, contracted, rampup, rampdown, response, recovery, availability, utilisation, optional, flexible, accepted, rejected, offer, call, fault, metered, readings, periods, calls, opening, appendix2, sample, sampleBytes}
 use Rattle.rules.specs.declared.entries.Command.{Command}
 use Rattle.rules.specs.declared.entries.Command.the-variants.{Contract as contractᶜ, Close as closeᶜ}
 use Rattle.rules.specs.declared.answer.Answer.{Answer}
@@ -46,6 +46,9 @@ pub record Finding : Type 0 where
   pub position : ℕ
   pub found : Read
 
+infix 71 _enters_
+infix 71 _settles-into_
+infix 71 _at_
 -- a setting enters a command
 abbrev pub _enters_ : Setting → Command → Answer → Case
 s enters c = λ a. record { setting = s; command = c; answer = a }
@@ -64,18 +67,15 @@ module _ {A B : Type 0} where
   abbrev pub _gets_ : (A → B) → A → B
   f gets a = f a
 
-infix 71 _enters_
-infix 71 _settles-into_
-infix 71 _at_
 -- ---- settings
 
 -- with meter memory of a day
 abbrev pub day : List Command → Setting
 day cs = record { size = 1440; commands = cs; now = 1440 }
 
--- over some days
-abbrev pub over : ℕ → ℕ → List Command → Setting
-over n size cs = record { size = size; commands = agree (set guide days n) ∷ cs; now = size }
+-- Appendix 2's contract over n days and commands after it, with meter memory of its span
+abbrev pub over : ℕ → List Command → Setting
+over n cs = record { size = 1440 * n; commands = agree (set guide days n) ∷ cs; now = 1440 * n }
 
 -- the same, and then meter memory of another size
 abbrev pub lent : ℕ → Setting → Setting
@@ -85,12 +85,13 @@ lent n s = record { size = s .size; commands = s .commands; now = n }
 abbrev pub shut : Setting → Setting
 shut s = record { size = s .size; commands = s .commands ++ (closeᶜ ∷ []); now = s .now }
 
+-- the empty book
 abbrev pub empty : Setting
 empty = day []
 
 -- Appendix 2's contract and window
 abbrev pub begun : Setting
-begun = day (agree guide ∷ offer 0 180 accepted ∷ [])
+begun = day opening
 
 -- Appendix 2's contract with a recovery of 60, and its instruction, which ends at 91
 abbrev pub resting : Setting
@@ -98,15 +99,15 @@ resting = day (agree (set guide recovery 60) ∷ offer 150 180 accepted ∷ call
 
 -- n windows in 3 days
 abbrev pub windows : ℕ → Setting
-windows n = over 3 4320 (periods n 0)
+windows n = over 3 (periods n 0)
 
 -- 64 instructions in 2 days, the last one ending with the span
 abbrev pub called : Setting
-called = over 2 2880 (calls 63 3 ++ (call 1641 2874 ∷ []))
+called = over 2 (calls 63 3 ++ (call 1641 2874 ∷ []))
 
 -- n defaults in Appendix 2's window
 abbrev pub faulty : ℕ → Setting
-faulty n = day (agree guide ∷ offer 0 180 accepted ∷ replicate n (fault 0 1 1))
+faulty n = day (opening ++ replicate n (fault 0 1 1))
 
 -- a reading in minute 7
 abbrev pub read : Setting
@@ -160,8 +161,9 @@ operandCases =
     ∷ lent 44640 empty enters agree (31 ∷ 1 ∷ 1 ∷ 500000 ∷ 500000 ∷ 500000 ∷ 240 ∷ 1200 ∷ 1000000 ∷ 1000000 ∷ 1000000 ∷ []) gets Taken
     ∷ begun enters offer 44641 210 accepted gets Refused 3
     ∷ begun enters offer 44640 210 accepted gets Refused 5
+    ∷ begun enters offer 180 0 accepted gets Refused 5
     ∷ begun enters offer 180 44641 accepted gets Refused 3
-    ∷ over 31 44640 [] enters offer 0 44640 accepted gets Taken
+    ∷ over 31 [] enters offer 0 44640 accepted gets Taken
     ∷ begun enters offer 180 210 2 gets Refused 3
     ∷ begun enters call 2 85 gets Refused 3
     ∷ begun enters call 3 85 gets Taken
@@ -188,18 +190,18 @@ operandCases =
     ∷ begun enters metered 0 (pos 500001) gets Refused 3
     ∷ []
 
--- 4: U is 21 and 20 with a response of 20; V is 245 and 240. 5: start and end, and multiples of 30
+-- 4: U is 21 and 20 with a response of 20; V is 241 and 240. 5: start and end, and multiples of 30
 abbrev pub inputCases : List Case
 inputCases =
     empty enters agree (set guide rampup 599) gets Refused 4
     ∷ empty enters agree (set guide rampup 600) gets Taken
-    ∷ empty enters agree (set guide rampdown 49) gets Refused 4
+    ∷ empty enters agree (set (set guide contracted 12050) rampdown 50) gets Refused 4
     ∷ empty enters agree (set guide rampdown 50) gets Taken
     ∷ begun enters offer 210 180 accepted gets Refused 5
     ∷ begun enters offer 180 180 accepted gets Refused 5
     ∷ begun enters offer 180 210 accepted gets Taken
-    ∷ begun enters offer 181 210 accepted gets Refused 5
-    ∷ begun enters offer 180 209 accepted gets Refused 5
+    ∷ begun enters offer 195 210 accepted gets Refused 5
+    ∷ begun enters offer 180 225 accepted gets Refused 5
     ∷ []
 
 -- ---- from the state
@@ -270,8 +272,8 @@ tableCases =
     ∷ read enters metered 8 (pos 1) gets Taken
     ∷ windows 128 enters offer 3840 3870 accepted gets Refused 23
     ∷ windows 127 enters offer 3810 3840 accepted gets Taken
-    ∷ over 2 2880 (calls 64 3) enters call 1667 1687 gets Refused 23
-    ∷ over 2 2880 (calls 63 3) enters call 1641 1661 gets Taken
+    ∷ over 2 (calls 64 3) enters call 1667 1687 gets Refused 23
+    ∷ over 2 (calls 63 3) enters call 1641 1661 gets Taken
     ∷ faulty 128 enters fault 0 1 1 gets Refused 23
     ∷ faulty 127 enters fault 0 1 1 gets Taken
     ∷ []

@@ -1,13 +1,11 @@
 -- `energy::money::delivered_kwh` meets its contract. Raised by 500,000 kWh the quarters are no longer negative. Assumes nothing.
-use mathlib.Core.Path.{_≡_, _∙_}
-use Prim.Native.Nat.{ℕ, _≤_}
 use native.Mathlib.Omega.{arith}
-use lib.IntN.{ℤ, pos, natAbs, _+ℤ_, _-ℤ_}
+use lib.IntN.{ℤ, pos, _+ℤ_, _-ℤ_}
 use mir.Syntax.{w32, w64}
-use mir.Val.{SFits, toZ}
+use mir.Val.{SFits}
 use mir.Facts.{toZ-ofZ}
 use mir.ValLaws.{toZ-pos}
-use Rattle.energy.proofs.Integers.{add-parts, fits-parts, nonNeg-parts}
+use Rattle.energy.proofs.Integers.{fits-parts, fits-sum, nonNeg-parts}
 use Rattle.energy.proofs.Rounding.{Raised, Lowered, raised}
 use Rattle.energy.proofs.money.delivered_kwh.Statement.{statement}
 use Rattle.energy.proofs.money.delivered_kwh.Tie as tie
@@ -23,7 +21,7 @@ record Fit (c : tie.Start) : Type 0 where
 fit : (c : tie.Start) → Fit c
 fit c = record {
   fq = c .fits .q;
-  fz = fits-parts w32 (z c) (omega (arith, add-parts (c .args .q) (pos 120000000)));
+  fz = fits-sum w32 (c .args .q) (pos 120000000) (omega arith);
   by = raised (c .args .q) 240 500000 (omega arith) (omega arith);
 }
 

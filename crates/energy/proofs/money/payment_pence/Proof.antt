@@ -1,16 +1,15 @@
 -- `energy::money::payment_pence` meets its contract. Raised by 500,000,000 pence the amount is no longer negative. Assumes nothing.
 use mathlib.Core.Path.{_≡_}
-use Prim.Native.Nat.{ℕ, _≤_}
 use native.Mathlib.Nat.{mul-le-mul}
 use native.Mathlib.Omega.{arith}
-use lib.IntN.{ℤ, pos, natAbs, _+ℤ_, _-ℤ_, _*ℤ_}
+use lib.IntN.{ℤ, pos, _+ℤ_, _-ℤ_, _*ℤ_}
 use borrow.Author.Needs.{needs}
 use mir.Syntax.{w64}
 use mir.Val.{SFits, toZ}
 use mir.Facts.{toZ-ofZ}
 use mir.ValLaws.{toZ-pos}
 use Rattle.energy.specs.Number.{Within}
-use Rattle.energy.proofs.Integers.{add-parts, mul-parts, fits-parts, nonNeg-parts}
+use Rattle.energy.proofs.Integers.{mul-parts, fits-parts, fits-sum, nonNeg-parts}
 use Rattle.energy.proofs.Rounding.{Raised, Lowered, raised}
 use Rattle.energy.proofs.money.payment_pence.Statement.{statement}
 use Rattle.energy.proofs.money.payment_pence.Tie as tie
@@ -39,7 +38,7 @@ fit c =
       fk = fits-parts w64 (c .args .k .0) (omega arith);
       rate = toZ-pos w64 (c .args .rate) (omega arith);
       fn = fits-parts w64 (n c) (omega arith);
-      fz = fits-parts w64 (z c) (omega (arith, add-parts (n c) (pos 500000000000)));
+      fz = fits-sum w64 (n c) (pos 500000000000) (omega arith);
       by = raised (n c) 1000 500000000 (omega arith) small;
     }
 

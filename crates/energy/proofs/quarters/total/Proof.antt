@@ -1,9 +1,8 @@
 -- `energy::quarters::total` meets its contract. The sum so far is the sum over the minutes passed. Assumes nothing.
 use mathlib.Core.Path.{_≡_, refl, sym, _∙_, ap}
-use Prim.Native.Nat.{ℕ, _+_, _-_, _*_, _≤_}
+use Prim.Native.Nat.{ℕ, _+_, _-_, _≤_}
 use native.Mathlib.Omega.{arith}
-use lib.IntN.{ℤ, pos, _+ℤ_}
-use lib.ListN.{getD}
+use lib.IntN.{ℤ, _+ℤ_}
 use borrow.Author.Needs.{needs}
 use mir.Syntax.{w32}
 use mir.Val.{SFits, toZ, ofZ}
@@ -28,7 +27,9 @@ abbrev part : Loop → ℕ → ℤ
 part c i = sumOf (cell (c .before .args .meter .now)) (between (c .before .args .from) i)
 
 part-fits : (c : Loop) (i : ℕ) → i ≤ c .before .args .to → SFits w32 (part c i)
-part-fits c i h = fits-parts w32 (part c i) (omega (arith, sum-within (cell (c .before .args .meter .now)) 500000 (c .before .args .from) i (λ m a b. c .before .pre .read m a (omega arith))))
+part-fits c i h =
+    let s = c .before in
+    fits-parts w32 (part c i) (omega (arith, sum-within (cell (s .args .meter .now)) 500000 (s .args .from) i (λ m a b. s .pre .read m a (omega arith))))
 
 so-far : (c : Loop) → toZ w32 (c .loop .sum) ≡ part c (c .loop .i)
 so-far c = let f = part-fits c (c .loop .i) (omega arith) in rw (c .loop .inv .2) (simp toZ-ofZ refl)
@@ -43,11 +44,15 @@ shared-slice-copy-out-x : tie.Need-shared-slice-copy-out-x Inv-loop μ-loop
 shared-slice-copy-out-x c = search needs
 
 -- after a turn, the sum over one minute more
-turn : (c : tie.After-x Inv-loop μ-loop) → toZ w32 (c .before .before .loop .sum) +ℤ toZ w32 (ofZ w32 (cell (c .before .before .before .args .meter .now) (c .before .before .loop .i))) ≡ part (c .before .before) (c .before .before .loop .i + 1)
+turn : (c : tie.After-x Inv-loop μ-loop)
+    → toZ w32 (c .before .before .loop .sum) +ℤ toZ w32 (ofZ w32 (cell (c .before .before .before .args .meter .now) (c .before .before .loop .i)))
+    ≡ part (c .before .before) (c .before .before .loop .i + 1)
 turn c =
     let l = c .before .before in
-    let x : SFits w32 (getD (l .before .args .meter .now) (l .loop .i) (pos 0)) = record { sfits = c .x .given } in
-    simp toZ-ofZ (ap (λ z. z +ℤ cell (l .before .args .meter .now) (l .loop .i)) (so-far l)) ∙ sym (sum-snoc (cell (l .before .args .meter .now)) (l .before .args .from) (l .loop .i) (l .loop .inv .0))
+    let a = l .before .args in
+    let i = l .loop .i in
+    let x : SFits w32 (cell (a .meter .now) i) = record { sfits = c .x .given } in
+    simp toZ-ofZ (ap (λ z. z +ℤ cell (a .meter .now) i) (so-far l)) ∙ sym (sum-snoc (cell (a .meter .now)) (a .from) i (l .loop .inv .0))
 
 add-sum : tie.Need-add-sum Inv-loop μ-loop
 add-sum c = rw (turn c) (part-fits (c .before .before) (c .before .before .loop .i + 1) (omega arith))

@@ -1,11 +1,11 @@
 -- `energy::ramp::ramp_minutes` meets its contract. The sum fits 64 bits, and the quotient is at most kw + 1. Assumes nothing.
 use mathlib.Core.Path.{_≡_, refl, sym}
-use Prim.Native.Nat.{_+_, _-_, _/_}
-use native.Mathlib.Nat.{div-zero}
+use Prim.Native.Nat.{_+_, _-_}
+use native.Mathlib.Nat.{div-zero, lt-of-le-of-lt}
 use native.Mathlib.Omega.{arith}
 use borrow.Author.Needs.{needs}
 use Rattle.energy.specs.Number.{ceiling}
-use Rattle.energy.proofs.Rounding.{ceiling-most}
+use Rattle.energy.proofs.Rounding.{raised-most}
 use Rattle.energy.proofs.ramp.ramp_minutes.Statement.{statement}
 use Rattle.energy.proofs.ramp.ramp_minutes.Tie as tie
 
@@ -26,8 +26,7 @@ div-result : tie.Need-div-result
 div-result c = search needs
 
 cast-result : tie.Need-cast-result
-unfolding ceiling
-cast-result c = omega (arith, ceiling-most (c .before .args .kw) (c .before .args .ramp) (omega arith))
+cast-result c = record { fits = lt-of-le-of-lt (raised-most (c .before .args .kw) _ (c .before .args .ramp) (omega arith)) (omega arith) }
 
 returns-2 : tie.Need-returns-2
 unfolding ceiling

@@ -1,5 +1,4 @@
 -- `energy::round::half_up` meets its contract. Assumes nothing.
-use native.Mathlib.Omega.{arith}
 use borrow.Author.Needs.{needs}
 use Rattle.energy.proofs.Rounding.{half-up}
 use Rattle.energy.proofs.round.half_up.Statement.{statement}

@@ -1,0 +1,3 @@
+pub mod Digits
+pub mod Appending
+pub mod Appendix2

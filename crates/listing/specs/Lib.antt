@@ -1,0 +1,4 @@
+pub mod Rows
+pub mod Row
+pub mod Digits
+pub mod Appendix2
