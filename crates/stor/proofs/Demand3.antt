@@ -38,7 +38,7 @@ use Rattle.rules.specs.declared.answer.Answer.the-variants.{Taken, Refused}
 use Rattle.settlement.specs.declared.Settlement.{Settlement}
 use Rattle.book.proofs.Follow.{Follows, Clear, clear}
 use Rattle.book.proofs.Put.{put}
-use Rattle.rules.proofs.Partition.{once, nonempty}
+use Rattle.rules.proofs.Partition.{partition}
 use Rattle.rules.proofs.Bounds.{bounds}
 
 and-left : (a b : Bool) → T (a && b) → T a
@@ -249,8 +249,7 @@ right g =
     record {
       ruled = refl;
       ruledLines = refl;
-      once = once g;
-      nonempty = nonempty g;
+      partition = partition g;
       energy = bounds g .energy;
       money = bounds g .money;
     }

@@ -8,14 +8,12 @@ use Prim.Native.Nat.{ℕ, suc, _*_, _≤_, _<_}
 use lib.IntN.{ℤ, pos, _*ℤ_}
 use lib.Dec.{T}
 use lib.ListN.{length, take, drop, getElem?, replicate}
-use Rattle.energy.specs.Lists.{count}
-use Rattle.rules.specs.Ledger.{Ledger, ledgerOf, contractOf}
+use Rattle.rules.specs.Ledger.{Ledger, ledgerOf}
 use Rattle.rules.specs.Refusal.{refusal, taken, answerOf}
 use Rattle.rules.specs.Segment.{needed}
 use Rattle.rules.specs.Statement.{lines, statementOf, exactEnergy, exactAmount, allowance, Differ}
-use Rattle.rules.specs.Lines.{belongs, Active, MinuteOf}
+use Rattle.rules.specs.Lines.{Partition}
 use Rattle.rules.specs.File.{readAt, commandsIn}
-use Rattle.rules.specs.declared.entries.Instruction.{Instruction}
 use Rattle.rules.specs.declared.entries.Command.{Command}
 use Rattle.rules.specs.declared.statement.Line.{Line}
 use Rattle.rules.specs.declared.answer.Answer.{Answer}
@@ -44,8 +42,7 @@ pub record StatementRight (g : Ledger) (s : Settlement) (ls : List Line) : Type 
   pub ruled : s .statement ≡ statementOf g
   pub ruledLines : ls ≡ lines g
   -- each active minute of every instruction taken belongs to exactly one line, and no line is without one
-  pub once : (n : ℕ) (i : Instruction) (m : ℕ) → Active g n i m → count (belongs (contractOf g) (suc n) i m) ls ≡ 1
-  pub nonempty : (l : Line) → List·Memᴰ l ls → MinuteOf g l
+  pub partition : Partition g ls
   -- total capped energy is within half a kWh for each line of the exact sum, in 240ths of a kWh
   pub energy : Differ (pos 240 *ℤ s .statement .capped .0) (exactEnergy g) (120 * length ls)
   -- the total paid is within half a penny for each line and paid period, and half a kWh for each line at its rate, in 1,200,000ths of a penny
