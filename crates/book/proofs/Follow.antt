@@ -1,166 +1,353 @@
--- The book follows the commands taken: what it and the meter memory hold is the ledger of those commands.
-use mathlib.Core.Path.{_≡_, refl, sym, ap, ap₂, _∙_, subst, fun-ext}
-use mathlib.Core.Bool.{Bool, true, false, cond, not, _&&_, _||_, true≢false, false≢true}
-use mathlib.Core.List.{List, [], _∷_, _++_, append-nil}
-use mathlib.Core.Option.{Option, none, some, Option·none-ne-some}
-use Prim.Native.Nat.{ℕ, zero, suc, _+_, _-_, _*_, _≤_, _<_, min}
-use native.Mathlib.Omega.{arith}
+-- The book follows the commands taken: what it and meter memory hold is the ledger of those commands. Once for every command: one that is taken keeps the
+-- book sound and adds exactly its entry; one that is refused changes nothing.
+use mathlib.Core.Path.{_≡_, refl, sym, ap, ap₂, _∙_, subst, subst⁻¹}
+use mathlib.Core.Bool.{Bool, true, false, cond, not, _&&_, true≢false}
+use mathlib.Core.List.{List, [], _∷_, _++_}
+use mathlib.Core.Option.{Option, none, some}
+use Prim.Native.Nat.{ℕ, suc, _+_, _-_, _≤_, _<_}
 use native.Mathlib.Numerals.{add-one}
-use lib.IntN.{ℤ, pos, negsuc}
-use lib.Dec.{T, leb, ltb, eqb, ltb→lt, lt→ltb, nltb→le, nleb→lt, eqb→eq, eqb-refl}
-use lib.ListN.{length, take, drop, set, getD, length-set, length-append, length-take}
-use lib.Seq.{take-suc-set, length-take-le, getD-set-same, getD-set-other}
-use Rattle.energy.specs.Lists.{any, concatMap, later}
-use Rattle.rules.specs.Ledger.{Ledger, ledgerOf, contractIn, windowIn, instructionIn, defaultIn, isClose, readingIn, readingOf, spanOf, contractOf}
-use Rattle.rules.specs.Refusal.{Condition, conditions, lowest, refusal, taken, joined, isReading}
-use Rattle.book.specs.Book.{ledgerIn, putBook, putMeter, cell, missing}
-use Rattle.book.specs.Enter.{enterBook}
-use Rattle.book.specs.Sound.{sound}
+use native.Mathlib.Omega.{arith}
+use borrow.Author.Tests.{leb-true, leb-false, ltb-false, eqb-true, le-leb}
+use lib.IntN.{ℤ}
+use lib.Dec.{T, leb, ltb, leb→le, leb·suc-zero, eqb→eq}
+use lib.ListN.{length, take, drop, set, getD, replicate, length-set, length-append, length-drop, length-replicate}
+use lib.Seq.{drop-cons, drop-set-lt, length-take-le}
+use Rattle.energy.specs.Lists.{all, any, pass, first, isEmpty, concatMap}
+use Rattle.energy.proofs.Tests.{to-T, of-T, T-and, and-T, Passes, passes, passed}
+use Rattle.rules.specs.Ledger.{Ledger, ledgerOf, noContract, contractOf, spanOf, readingOf}
+use Rattle.rules.specs.Refusal.{refusal, from-to, isReading, joined, answerOf}
+use Rattle.rules.specs.Reached.{Reached, untouched, agreed, Untouched, Agreed, agreedTests}
+use Rattle.rules.specs.declared.contract.Contract.{Contract}
 use Rattle.rules.specs.declared.entries.Window.{Window}
+use Rattle.rules.specs.declared.entries.Instruction.{Instruction}
+use Rattle.rules.specs.declared.entries.Default.{Default}
 use Rattle.rules.specs.declared.entries.Reading.{Reading}
 use Rattle.rules.specs.declared.entries.Command.{Command}
 use Rattle.rules.specs.declared.entries.Command.the-variants.{Contract as contractᶜ, Window as windowᶜ, Instruction as instructionᶜ, Default as defaultᶜ, Reading as readingᶜ, Close as closeᶜ}
+use Rattle.rules.proofs.Reached.{step, start}
+use Rattle.rules.proofs.Taken.{grown, ledgerOf-snoc, Allowed, allowed}
+use Rattle.rules.proofs.FileLength.{span-fits}
+use Rattle.book.specs.Book.{emptyBook, ledgerIn, putBook, putMeter, cell, missing}
+use Rattle.book.specs.Sound.{sound, Shaped, tableTests, emptyTests, noContractTests, isNoWindow, isNoInstruction, isNoDefault}
+use Rattle.book.specs.Enter.{enterBook, enteredBy, Entered}
 use Rattle.book.specs.declared.Book.{Book}
+use Rattle.book.proofs.Holds.{holds-contract, holds-window, holds-instruction, holds-default, holds-reading, holds-close}
 
-T→eq : (b : Bool) → T b → b ≡ true
-T→eq true t = refl
-T→eq false t = absurd t
+-- ---- a sound book
 
-eqb-off : {b : Bool} → b ≡ false → T b → ⊥
-eqb-off e t = subst (λ x. T x) e t
+-- the tables, apart from what is in them: so many entries are in use, and the others are zeros
+pub record TablesOf (ws : List Window) (nw : ℕ) (is : List Instruction) (ni : ℕ) (ds : List Default) (nd : ℕ) : Type 0 where
+  pub windows : nw ≤ 128
+  pub instructions : ni ≤ 64
+  pub defaults : nd ≤ 128
+  pub noWindows : T (all isNoWindow (drop nw ws))
+  pub noInstructions : T (all isNoInstruction (drop ni is))
+  pub noDefaults : T (all isNoDefault (drop nd ds))
 
--- ---- the ledger of one command more
+abbrev pub Tables : Book → Type 0
+Tables b = TablesOf (b .windows) (b .nwindows) (b .instructions) (b .ninstructions) (b .defaults) (b .ndefaults)
 
-pub concatMap-append : {A B : Type 0} (f : A → List B) (s t : List A) → concatMap f (s ++ t) ≡ concatMap f s ++ concatMap f t
-unfolding concatMap
-concatMap-append f [] t = refl
-concatMap-append f (x ∷ s) t = ap (λ r. f x ++ r) (concatMap-append f s t) ∙ sym (mathlib.Core.List.append-assoc (f x) (concatMap f s) (concatMap f t))
-
-any-append : {A : Type 0} (f : A → Bool) (s : List A) (a : A) → any f (s ++ (a ∷ [])) ≡ (any f s || f a)
-unfolding any
-any-append f [] a = or-false (f a)
-  where
-    or-false : (b : Bool) → (b || false) ≡ b
-    or-false true = refl
-    or-false false = refl
-any-append f (x ∷ s) a = step (f x) (any-append f s a)
-  where
-    step : (b : Bool) → any f (s ++ (a ∷ [])) ≡ (any f s || f a) → (b || any f (s ++ (a ∷ []))) ≡ (b || any f s || f a)
-    step true e = refl
-    step false e = e
-
-pub later-assoc : {A : Type 0} (a b c : Option A) → later (later a b) c ≡ later a (later b c)
-unfolding later
-later-assoc a b none = refl
-later-assoc a b (some z) = refl
-
-pub later-none : {A : Type 0} (b : Option A) → later none b ≡ b
-unfolding later
-later-none none = refl
-later-none (some z) = refl
-
-readingOf-snoc : (t : List Command) (c : Command) (m : ℕ) → readingOf (t ++ (c ∷ [])) m ≡ later (readingOf t m) (readingIn c m)
-unfolding readingOf later
-readingOf-snoc [] c m = sym (later-none (readingIn c m))
-readingOf-snoc (x ∷ t) c m = ap (λ o. later (readingIn x m) o) (readingOf-snoc t c m) ∙ sym (later-assoc (readingIn x m) (readingOf t m) (readingIn c m))
-
--- what a taken command adds to a ledger
-abbrev pub grown : Ledger → Command → Ledger
-grown g c =
+tables-of : (b : Book) → T (pass (tableTests b)) → Tables b
+unfolding tableTests
+tables-of b t =
+    let p = passes (tableTests b) t in
     record {
-      contracts = g .contracts ++ contractIn c;
-      windows = g .windows ++ windowIn c;
-      instructions = g .instructions ++ instructionIn c;
-      defaults = g .defaults ++ defaultIn c;
-      closed = g .closed || isClose c;
-      reading = λ m. later (g .reading m) (readingIn c m);
+      windows = leb→le (b .nwindows) 128 (p .0);
+      instructions = leb→le (b .ninstructions) 64 (p .1 .0);
+      defaults = leb→le (b .ndefaults) 128 (p .1 .1 .0);
+      noWindows = p .1 .1 .1 .0;
+      noInstructions = p .1 .1 .1 .1 .0;
+      noDefaults = p .1 .1 .1 .1 .1 .0;
     }
 
-single : {B : Type 0} (f : Command → List B) (c : Command) → concatMap f (c ∷ []) ≡ f c
-unfolding concatMap
-single f c = append-nil (f c)
+tables-pass : (b : Book) → Tables b → T (pass (tableTests b))
+unfolding tableTests
+tables-pass b t =
+    passed (tableTests b) (
+      to-T (le-leb (b .nwindows) 128 (t .windows)),
+      (
+        to-T (le-leb (b .ninstructions) 64 (t .instructions)),
+        (to-T (le-leb (b .ndefaults) 128 (t .defaults)), (t .noWindows, (t .noInstructions, (t .noDefaults, tt)))),
+      ),
+    )
 
-pub ledgerOf-snoc : (t : List Command) (c : Command) → ledgerOf (t ++ (c ∷ [])) ≡ grown (ledgerOf t) c
-unfolding ledgerOf
-ledgerOf-snoc t c i =
-    record {
-      contracts = (concatMap-append contractIn t (c ∷ []) ∙ ap (λ r. concatMap contractIn t ++ r) (single contractIn c)) i;
-      windows = (concatMap-append windowIn t (c ∷ []) ∙ ap (λ r. concatMap windowIn t ++ r) (single windowIn c)) i;
-      instructions = (concatMap-append instructionIn t (c ∷ []) ∙ ap (λ r. concatMap instructionIn t ++ r) (single instructionIn c)) i;
-      defaults = (concatMap-append defaultIn t (c ∷ []) ∙ ap (λ r. concatMap defaultIn t ++ r) (single defaultIn c)) i;
-      closed = any-append isClose t c i;
-      reading = λ m. readingOf-snoc t c m i;
-    }
+-- the tests of what is in them, with a contract or without
+abbrev pub contents : Book → Bool → List Bool
+contents b c = cond c (agreedTests (b .contract) (take (b .nwindows) (b .windows)) (take (b .ninstructions) (b .instructions)) (take (b .ndefaults) (b .defaults))) (emptyTests b)
 
--- ---- no condition holds
+pub record Sound (b : Book) : Type 0 where
+  pub tables : Tables b
+  pub contents : T (pass (contents b (b .agreed)))
 
-abbrev pub Clear : List Condition → Type 0
-Clear [] = Unit {0}
-Clear (c ∷ cs) = (c .holds ≡ false) × Clear cs
+pub sound-parts : (b : Book) → sound b ≡ true → Sound b
+unfolding sound
+sound-parts b e =
+    let q = T-and (pass (tableTests b)) (pass (contents b (b .agreed))) (to-T e) in
+    record { tables = tables-of b (q .0); contents = q .1 }
 
-pub clear : (cs : List Condition) → lowest cs ≡ none → Clear cs
-unfolding lowest
-clear [] e = tt
-clear (c ∷ cs) e = go (λ h. clear cs h) (c .holds) refl
+pub is-sound : (b : Book) → Sound b → sound b ≡ true
+unfolding sound
+is-sound b s = of-T (sound b) (and-T (pass (tableTests b)) (pass (contents b (b .agreed))) (tables-pass b (s .tables)) (s .contents))
+
+-- ---- a book with a contract, and its ledger
+
+-- what the ledger calls its contract
+pub contract-is : (b : Book) (meter : List ℤ) → b .agreed ≡ true → contractOf (ledgerIn b meter) ≡ b .contract
+unfolding contractOf ledgerIn first
+contract-is b meter s = ap (λ x. first noContract (cond x (b .contract ∷ []) [])) s
+
+-- a contract has been taken where a command other than a contract is
+was-agreed : (s : Bool) (k : Contract) → (isEmpty (cond s (k ∷ []) []) && true) ≡ false → s ≡ true
+unfolding isEmpty
+was-agreed true k e = refl
+was-agreed false k e = absurd (true≢false e)
+
+-- none has where a contract is
+not-agreed : (s : Bool) (k : Contract) → (not (isEmpty (cond s (k ∷ []) [])) && true) ≡ false → s ≡ false
+unfolding isEmpty
+not-agreed true k e = absurd (true≢false e)
+not-agreed false k e = refl
+
+-- a book without a contract has no days
+no-days : (b : Book) → T (pass (emptyTests b)) → b .contract .days ≡ 0
+unfolding emptyTests noContractTests
+no-days b t = eqb→eq (b .contract .days) 0 (passes (noContractTests (b .contract)) (passes (emptyTests b) t .0) .0)
+
+-- tables of a reached ledger are sound
+pub reached-sound : (b : Book) (meter : List ℤ) {size : ℕ} → b .agreed ≡ true → Tables b → Reached size (ledgerIn b meter) → sound b ≡ true
+unfolding ledgerIn
+reached-sound b meter s t (untouched u) = absurd (full (b .agreed) s (u .contracts))
   where
-    go : (lowest cs ≡ none → Clear cs) → (b : Bool) → c .holds ≡ b → (c .holds ≡ false) × Clear cs
-    go rest true h = absurd (Option·none-ne-some (c .number) (sym e ∙ ap (λ b. elim b as (λ x. Option ℕ) [ true ↦ some (c .number) | false ↦ lowest cs ]) h))
-    go rest false h = (h, rest (ap (λ b. elim b as (λ x. Option ℕ) [ true ↦ some (c .number) | false ↦ lowest cs ]) (sym h) ∙ e))
+    full : (x : Bool) → x ≡ true → cond x (b .contract ∷ []) [] ≡ [] → ⊥
+    full true e h = let z : _≡_ {A = ℕ} 0 1 = ap length (sym h) in omega arith
+    full false e h = true≢false (sym e)
+reached-sound b meter s t (agreed a) =
+    is-sound b
+    (record {
+      tables = t;
+      contents =
+          subst⁻¹ (λ x. T (pass (contents b x))) s
+          (subst (λ k. T (pass (agreedTests k (take (b .nwindows) (b .windows)) (take (b .ninstructions) (b .instructions)) (take (b .ndefaults) (b .defaults)))))
+          (contract-is b meter s) (a .tests));
+    })
 
--- ---- the book agrees with the commands taken
+-- ---- the book and the commands taken
 
--- what ties book and meter memory to the commands taken
 pub record Follows (size : ℕ) (t : List Command) (b : Book) (meter : List ℤ) : Type 0 where
   pub ledger : ledgerIn b meter ≡ ledgerOf t
+  pub reached : Reached size (ledgerOf t)
   pub left : sound b ≡ true
+  pub shaped : Shaped b
   pub memory : length meter ≡ size
-  pub fits : spanOf (contractOf (ledgerOf t)) ≤ size
-  pub windowCells : length (b .windows) ≡ 128
-  pub instructionCells : length (b .instructions) ≡ 64
-  pub defaultCells : length (b .defaults) ≡ 128
 
--- appending to a table: what its first n + 1 entries are then
-pub put-cell : {A : Type 0} (l : List A) (n : ℕ) (a : A) → n < length l → take (n + 1) (set l n a) ≡ take n l ++ (a ∷ [])
-put-cell l n a h = ap (λ k. take k (set l n a)) (add-one n) ∙ take-suc-set l n a h
+-- what is left to show of a command that is taken: what the book holds after it, a contract, its tables and their lengths
+pub record Put (c : Command) (b : Book) (meter : List ℤ) : Type 0 where
+  pub holds : ledgerIn (putBook b c) (putMeter meter c) ≡ grown (ledgerIn b meter) c
+  pub agreed : putBook b c .agreed ≡ true
+  pub tables : Tables (putBook b c)
+  pub shaped : Shaped (putBook b c)
+  pub memory : length (putMeter meter c) ≡ length meter
 
-true-or : (b : Bool) → (b || false) ≡ b
-true-or true = refl
-true-or false = refl
-
--- a window
-pub put-window : (b : Book) (meter : List ℤ) (w : Window) → b .nwindows < length (b .windows)
-    → ledgerIn (putBook b (windowᶜ w)) (putMeter meter (windowᶜ w)) ≡ grown (ledgerIn b meter) (windowᶜ w)
-unfolding ledgerIn later
-put-window b meter w h i =
-    record {
-      contracts = sym (append-nil (cond (b .agreed) (b .contract ∷ []) [])) i;
-      windows = put-cell (b .windows) (b .nwindows) w h i;
-      instructions = sym (append-nil (take (b .ninstructions) (b .instructions))) i;
-      defaults = sym (append-nil (take (b .ndefaults) (b .defaults))) i;
-      closed = sym (true-or (b .closed)) i;
-      reading = ledgerIn b meter .reading;
-    }
-
--- a reading, in a minute of the span without one
-pub put-reading-at : (b : Book) (meter : List ℤ) (r : Reading) (m : ℕ)
-    → r .minute .0 < spanOf (b .contract)
-    → spanOf (b .contract) ≤ length meter
-    → T (isReading (r .kw .0))
-    → ledgerIn b (set meter (r .minute .0) (r .kw .0)) .reading m ≡ later (ledgerIn b meter .reading m) (readingIn (readingᶜ r) m)
-unfolding ledgerIn later
-put-reading-at b meter r m h k ok = go (eqb (r .minute .0) m) refl
+-- entries past the n first are zeros, and one more is taken into use
+rest-zero : {A : Type 0} (f : A → Bool) (l : List A) (n : ℕ) (a : A) → n < length l → T (all f (drop n l)) → T (all f (drop (n + 1) (set l n a)))
+rest-zero {A} f l n a h t =
+    subst (λ x. T (all f x)) (sym (ap (λ k. drop k (set l n a)) (add-one n) ∙ drop-set-lt (suc n) l n a (omega arith)))
+    (go (drop n l) (drop (suc n) l) (drop-cons l n a h) t)
   where
-    span : ℕ
-    span = spanOf (b .contract)
+    go : (u v : List A) → u ≡ getD l n a ∷ v → T (all f u) → T (all f v)
+    go u v e t = T-and (f (getD l n a)) (all f v) (unfold all in subst (λ x. T (all f x)) e t) .1
 
-    go : (e : Bool) → eqb (r .minute .0) m ≡ e
-        → cond (ltb m span) (cell (getD (set meter (r .minute .0) (r .kw .0)) m missing)) none
-        ≡ later (cond (ltb m span) (cell (getD meter m missing)) none) (cond e (some (r .kw .0)) none)
-    go true e =
-        let q : r .minute .0 ≡ m = eqb→eq (r .minute .0) m (subst (λ x. T x) (sym e) tt) in
-        ap (λ x. cond x (cell (getD (set meter (r .minute .0) (r .kw .0)) m missing)) none) (T→eq (ltb m span) (lt→ltb m span (subst (λ x. x < span) q h)))
-        ∙ ap cell (ap (λ x. getD (set meter (r .minute .0) (r .kw .0)) x missing) (sym q) ∙ getD-set-same meter (r .minute .0) (r .kw .0) missing (omega arith))
-        ∙ ap (λ x. cond x (some (r .kw .0)) none) (T→eq (isReading (r .kw .0)) ok)
-    go false e =
-        ap (λ x. cond (ltb m span) (cell x) none)
-        (getD-set-other meter (r .minute .0) m (r .kw .0) missing (λ q. eqb-off e (subst (λ x. T (eqb (r .minute .0) x)) (sym q) (eqb-refl (r .minute .0)))))
+module _ {size : ℕ} {t : List Command} {b : Book} {meter : List ℤ} (f : Follows size t b meter) where
+  abbrev g : Ledger
+  g = ledgerIn b meter
+
+  tables : Tables b
+  tables = sound-parts b (f .left) .tables
+
+  -- meter memory holds the span
+  fits : b .agreed ≡ true → spanOf (b .contract) ≤ length meter
+  fits s =
+      subst (λ k. spanOf k ≤ length meter) (contract-is b meter s)
+      (subst⁻¹ (λ n. spanOf (contractOf g) ≤ n) (f .memory) (span-fits (subst⁻¹ (Reached size) (f .ledger) (f .reached))))
+
+  used : {A : Type 0} (xs : List A) (n k : ℕ) → length xs ≡ k → n ≤ k → length (take n xs) ≡ n
+  used xs n k e h = length-take-le n xs (omega arith)
+
+  put-window : (w : Window) → Allowed size g (windowᶜ w) → Put (windowᶜ w) b meter
+  unfolding ledgerIn
+  put-window w a =
+      let n : length (take (b .nwindows) (b .windows)) ≡ b .nwindows = used (b .windows) (b .nwindows) 128 (f .shaped .windows) (tables .windows) in
+      let room : b .nwindows < 128 = omega (arith, leb-false 128 (length (take (b .nwindows) (b .windows))) (a .room)) in
+      let inside : b .nwindows < length (b .windows) = omega (arith, f .shaped .windows) in
+      record {
+        holds = holds-window b meter w inside;
+        agreed = was-agreed (b .agreed) (b .contract) (a .agreed);
+        tables =
+            record {
+              windows = omega arith;
+              instructions = tables .instructions;
+              defaults = tables .defaults;
+              noWindows = rest-zero isNoWindow (b .windows) (b .nwindows) w inside (tables .noWindows);
+              noInstructions = tables .noInstructions;
+              noDefaults = tables .noDefaults;
+            };
+        shaped = record { windows = length-set (b .windows) (b .nwindows) w ∙ f .shaped .windows; instructions = f .shaped .instructions; defaults = f .shaped .defaults };
+        memory = refl;
+      }
+
+  put-instruction : (x : Instruction) → Allowed size g (instructionᶜ x) → Put (instructionᶜ x) b meter
+  unfolding ledgerIn
+  put-instruction x a =
+      let n : length (take (b .ninstructions) (b .instructions)) ≡ b .ninstructions = used (b .instructions) (b .ninstructions) 64 (f .shaped .instructions) (tables .instructions) in
+      let room : b .ninstructions < 64 = omega (arith, leb-false 64 (length (take (b .ninstructions) (b .instructions))) (a .room)) in
+      let inside : b .ninstructions < length (b .instructions) = omega (arith, f .shaped .instructions) in
+      record {
+        holds = holds-instruction b meter x inside;
+        agreed = was-agreed (b .agreed) (b .contract) (a .agreed);
+        tables =
+            record {
+              windows = tables .windows;
+              instructions = omega arith;
+              defaults = tables .defaults;
+              noWindows = tables .noWindows;
+              noInstructions = rest-zero isNoInstruction (b .instructions) (b .ninstructions) x inside (tables .noInstructions);
+              noDefaults = tables .noDefaults;
+            };
+        shaped = record { windows = f .shaped .windows; instructions = length-set (b .instructions) (b .ninstructions) x ∙ f .shaped .instructions; defaults = f .shaped .defaults };
+        memory = refl;
+      }
+
+  put-default : (d : Default) → Allowed size g (defaultᶜ d) → Put (defaultᶜ d) b meter
+  unfolding ledgerIn
+  put-default d a =
+      let n : length (take (b .ndefaults) (b .defaults)) ≡ b .ndefaults = used (b .defaults) (b .ndefaults) 128 (f .shaped .defaults) (tables .defaults) in
+      let room : b .ndefaults < 128 = omega (arith, leb-false 128 (length (take (b .ndefaults) (b .defaults))) (a .room)) in
+      let inside : b .ndefaults < length (b .defaults) = omega (arith, f .shaped .defaults) in
+      record {
+        holds = holds-default b meter d inside;
+        agreed = was-agreed (b .agreed) (b .contract) (a .agreed);
+        tables =
+            record {
+              windows = tables .windows;
+              instructions = tables .instructions;
+              defaults = omega arith;
+              noWindows = tables .noWindows;
+              noInstructions = tables .noInstructions;
+              noDefaults = rest-zero isNoDefault (b .defaults) (b .ndefaults) d inside (tables .noDefaults);
+            };
+        shaped = record { windows = f .shaped .windows; instructions = f .shaped .instructions; defaults = length-set (b .defaults) (b .ndefaults) d ∙ f .shaped .defaults };
+        memory = refl;
+      }
+
+  put-close : Allowed size g closeᶜ → Put closeᶜ b meter
+  unfolding ledgerIn
+  put-close a =
+      record {
+        holds = holds-close b meter;
+        agreed = was-agreed (b .agreed) (b .contract) (a .agreed);
+        tables = tables;
+        shaped = record { windows = f .shaped .windows; instructions = f .shaped .instructions; defaults = f .shaped .defaults };
+        memory = refl;
+      }
+
+  put-reading : (r : Reading) → Allowed size g (readingᶜ r) → Put (readingᶜ r) b meter
+  unfolding ledgerIn
+  put-reading r a =
+      let s : b .agreed ≡ true = was-agreed (b .agreed) (b .contract) (a .agreed) in
+      let below : r .minute .0 < spanOf (b .contract) =
+      leb-false (spanOf (b .contract)) (r .minute .0) (subst (λ k. leb (spanOf k) (r .minute .0) ≡ false) (contract-is b meter s) (a .inside)) in
+      let ranged : T (isReading (r .kw .0)) = T-and (from-to 0 44640 (r .minute .0)) (isReading (r .kw .0)) (a .operands) .1 in
+      record {
+        holds = holds-reading b meter r below (fits s) ranged;
+        agreed = s;
+        tables = tables;
+        shaped = f .shaped;
+        memory = length-set meter (r .minute .0) (r .kw .0);
+      }
+
+  put-contract : (k : Contract) → Allowed size g (contractᶜ k) → Put (contractᶜ k) b meter
+  unfolding ledgerIn
+  put-contract k a =
+      let s : b .agreed ≡ false = not-agreed (b .agreed) (b .contract) (a .only) in
+      let none : b .contract .days ≡ 0 = no-days b (subst (λ x. T (pass (contents b x))) s (sound-parts b (f .left) .contents)) in
+      let span : spanOf k ≤ length meter = omega (arith, ltb-false size (spanOf k) (a .memory), f .memory) in
+      record {
+        holds = holds-contract b meter k s none;
+        agreed = refl;
+        tables = tables;
+        shaped = record { windows = f .shaped .windows; instructions = f .shaped .instructions; defaults = f .shaped .defaults };
+        memory = length-append (replicate (spanOf k) missing) (drop (spanOf k) meter) ∙ ap₂ _+_ (length-replicate (spanOf k) missing) (length-drop (spanOf k) meter) ∙ omega arith;
+      }
+
+  -- any command that is taken
+  put-any : (c : Command) → Allowed size g c → Put c b meter
+  put-any (contractᶜ k) a = put-contract k a
+  put-any (windowᶜ w) a = put-window w a
+  put-any (instructionᶜ x) a = put-instruction x a
+  put-any (defaultᶜ d) a = put-default d a
+  put-any (readingᶜ r) a = put-reading r a
+  put-any closeᶜ a = put-close a
+
+  -- the book keeps following
+  pub put-follows : (c : Command) → refusal false size (ledgerOf t) c ≡ none → Follows size (t ++ (c ∷ [])) (putBook b c) (putMeter meter c)
+  put-follows c e =
+      let p : Put c b meter = put-any c (subst⁻¹ (λ l. Allowed size l c) (f .ledger) (allowed size (ledgerOf t) c e)) in
+      let l : ledgerIn (putBook b c) (putMeter meter c) ≡ ledgerOf (t ++ (c ∷ [])) = p .holds ∙ ap (λ l. grown l c) (f .ledger) ∙ sym (ledgerOf-snoc t c) in
+      let r : Reached size (ledgerOf (t ++ (c ∷ []))) = subst⁻¹ (Reached size) (ledgerOf-snoc t c) (step size (ledgerOf t) c (f .reached) e) in
+      record {
+        ledger = l;
+        reached = r;
+        left = reached-sound (putBook b c) (putMeter meter c) (p .agreed) (p .tables) (subst⁻¹ (Reached size) l r);
+        shaped = p .shaped;
+        memory = p .memory ∙ f .memory;
+      }
+
+-- ---- entering
+
+-- for a book that follows the commands taken, the book's refusal is theirs
+same-refusal : {size : ℕ} {t : List Command} {b : Book} {meter : List ℤ} (c : Command) → Follows size t b meter
+    → refusal (not (sound b)) (length meter) (ledgerIn b meter) c ≡ refusal false size (ledgerOf t) c
+same-refusal c f = rw (f .left, f .memory, f .ledger)
+
+-- entering keeps book and commands together, taken or refused
+pub follow : {size : ℕ} {t : List Command} {b : Book} {meter : List ℤ} (c : Command) → Follows size t b meter
+    → Follows size (joined (refusal false size (ledgerOf t) c) t c) (enterBook b meter c .entry .book) (enterBook b meter c .meter)
+unfolding enterBook
+follow {size} {t} {b} {meter} c f =
+    subst⁻¹ (λ o. Follows size (joined (refusal false size (ledgerOf t) c) t c) (enteredBy o b meter c .entry .book) (enteredBy o b meter c .meter)) (same-refusal c f)
+    (go (refusal false size (ledgerOf t) c) refl)
+  where
+    go : (o : Option ℕ) → refusal false size (ledgerOf t) c ≡ o → Follows size (joined o t c) (enteredBy o b meter c .entry .book) (enteredBy o b meter c .meter)
+    go none e = put-follows f c e
+    go (some n) e = f
+
+-- and is answered as the rules say
+pub answers : {size : ℕ} {t : List Command} {b : Book} {meter : List ℤ} (c : Command) → Follows size t b meter
+    → enterBook b meter c .entry .answer ≡ answerOf (refusal false size (ledgerOf t) c)
+unfolding enterBook
+answers {size} {t} {b} {meter} c f = ap (λ o. enteredBy o b meter c .entry .answer) (same-refusal c f) ∙ go (refusal false size (ledgerOf t) c)
+  where
+    go : (o : Option ℕ) → enteredBy o b meter c .entry .answer ≡ answerOf o
+    go none = refl
+    go (some n) = refl
+
+-- ---- the empty book
+
+pub starts : (meter : List ℤ) → Follows (length meter) [] emptyBook meter
+unfolding ledgerIn ledgerOf emptyBook sound pass emptyTests tableTests noContractTests all any concatMap readingOf
+starts meter =
+    record {
+      ledger = λ i.
+          record {
+            contracts = [];
+            windows = [];
+            instructions = [];
+            defaults = [];
+            closed = false;
+            reading = λ m. ap (λ (x : Bool). cond x (cell (getD meter m missing)) none) (leb·suc-zero m) i;
+          };
+      reached = start (length meter);
+      left = refl;
+      shaped = record { windows = refl; instructions = refl; defaults = refl };
+      memory = refl;
+    }

@@ -1,2 +1,12 @@
+pub mod Holds
 pub mod Follow
-pub mod Put
+pub mod Determined
+pub mod Left
+pub mod Kept
+pub mod Tables
+pub mod Search
+pub mod Cells
+pub mod Numbers
+pub mod Walks
+pub mod Tested
+pub mod Entered

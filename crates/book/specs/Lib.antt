@@ -1,3 +1,4 @@
 pub mod Book
 pub mod Sound
 pub mod Enter
+pub mod Numbers

@@ -1,4 +1,15 @@
 // The book of one unit: what has been entered, by value, and one method for each entry.
+mod agreement;
+mod columns;
+mod defaults;
+mod empty;
+mod enter;
+mod instructions;
+mod meter;
+mod refusals;
+mod sound;
+mod windows;
+
 use rules::answer::Answer;
 use rules::contract::Contract;
 use rules::entries::Default;

@@ -43,7 +43,7 @@ impl Row {
         self.number(n / 10).put(b'0' + (n % 10) as u8)
     }
 
-    // A number with a sign. The least one has no opposite in its type, so 1 is taken off before the turn and added after it.
+    // A number with a sign. The least one has no opposite in its type, so n + 1 is turned round, and the 1 that lacks comes after.
     pub fn signed(self, n: i64) -> Row
         ensures { λ r. ⌜ r ≡ putAll self (signedDigits n) ⌝ }
     {

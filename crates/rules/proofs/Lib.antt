@@ -5,9 +5,10 @@ pub mod Terms
 pub mod Taken
 pub mod Tables
 pub mod Reached
+pub mod Partition
+pub mod Replay
 pub mod Cuts
 pub mod Count
-pub mod Partition
 pub mod Rising
 pub mod Steady
 pub mod LineBound
@@ -19,3 +20,5 @@ pub mod Refused
 pub mod Bounds
 pub mod Operands
 pub mod Reread
+pub mod FileLength
+pub mod Rewritten

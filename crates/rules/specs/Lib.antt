@@ -13,3 +13,5 @@ pub mod Corners
 pub mod Refused
 pub mod Bounds
 pub mod Reread
+pub mod FileLength
+pub mod Rewritten

@@ -36,8 +36,9 @@ use Rattle.rules.specs.declared.statement.Line.{Line}
 use Rattle.rules.specs.declared.answer.Answer.{Answer}
 use Rattle.rules.specs.declared.answer.Answer.the-variants.{Taken, Refused}
 use Rattle.settlement.specs.declared.Settlement.{Settlement}
-use Rattle.book.proofs.Follow.{Follows, Clear, clear}
-use Rattle.book.proofs.Put.{put}
+use Rattle.rules.proofs.Taken.{Clear, clear}
+use Rattle.rules.proofs.FileLength.{span-fits}
+use Rattle.book.proofs.Follow.{Follows, follow, answers, starts}
 use Rattle.rules.proofs.Partition.{partition}
 use Rattle.rules.proofs.Bounds.{bounds}
 
@@ -59,25 +60,6 @@ unfolding outcomes afterAll
 at-outcome file s [] x rest = refl
 at-outcome file s (y ∷ before) x rest = at-outcome file (after file s y) before x rest
 
--- entering keeps book and commands together, taken or refused
-pub follow : {size : ℕ} {t : List Command} {b : Book} {meter : List ℤ} (c : Command) → Follows size t b meter
-    → Follows size (joined (refusal false size (ledgerOf t) c) t c) (enterBook b meter c .entry .book) (enterBook b meter c .meter)
-unfolding enterBook
-follow {size} {t} {b} {meter} c f = go (refusal false size (ledgerOf t) c) refl
-  where
-    same : refusal (not (sound b)) (length meter) (ledgerIn b meter) c ≡ refusal false size (ledgerOf t) c
-    same = rw (f .left, f .memory, f .ledger)
-
-    by : Option ℕ → Entered
-    by r = enteredBy r b meter c
-
-    go : (r : Option ℕ) → refusal false size (ledgerOf t) c ≡ r
-        → Follows size (joined (refusal false size (ledgerOf t) c) t c)
-        (enteredBy (refusal (not (sound b)) (length meter) (ledgerIn b meter) c) b meter c .entry .book)
-        (enteredBy (refusal (not (sound b)) (length meter) (ledgerIn b meter) c) b meter c .meter)
-    go none e = rw (same, e) (put size t b meter c f e)
-    go (some n) e = rw (same, e) f
-
 -- along a list of steps
 follows : (file : List ℕ) {size : ℕ} (t : List Command) (s : State) (steps : List Step) → Follows size t (s .book) (s .meter)
     → Follows size (takenAfter size t (entries file (s .at) steps)) (afterAll file s steps .book) (afterAll file s steps .meter)
@@ -95,32 +77,6 @@ follows file {size} t s (read ∷ xs) f = go (λ t′ s′ f′. follows file t�
     go all (refusedʳ n) = all t s f
     go all End = all t s f
 follows file t s (settle memory ∷ xs) f = follows file t s xs f
-
--- ---- the empty book
-
-not-below-zero : (m : ℕ) → ltb m 0 ≡ false
-not-below-zero m = leb·suc-zero m
-
-pub starts : (meter : List ℤ) → Follows (length meter) [] emptyBook meter
-unfolding ledgerIn ledgerOf emptyBook sound pass agreedTests emptyTests tableTests noContractTests all any windowsSound instructionsSound concatMap readingOf contractOf first
-starts meter =
-    record {
-      ledger = λ i.
-          record {
-            contracts = [];
-            windows = [];
-            instructions = [];
-            defaults = [];
-            closed = false;
-            reading = λ m. ap (λ (x : Bool). cond x (cell (getD meter m missing)) none) (not-below-zero m) i;
-          };
-      left = refl;
-      memory = refl;
-      fits = omega arith;
-      windowCells = refl;
-      instructionCells = refl;
-      defaultCells = refl;
-    }
 
 -- ---- a reading in every needed minute
 
@@ -258,7 +214,7 @@ right g =
 pub settlement-right : {size : ℕ} (t : List Command) (b : Book) (meter : List ℤ) (memory : List Line) → Follows size t b meter
     → SettlementRight t memory (settleBook b meter memory)
 unfolding settleBook
-settlement-right {size} t b meter memory f = subst⁻¹ (λ r. SettlementRight t memory r) same (settledRight size t memory (f .fits) (right (ledgerOf t)))
+settlement-right {size} t b meter memory f = subst⁻¹ (λ r. SettlementRight t memory r) same (settledRight size t memory (span-fits (f .reached)) (right (ledgerOf t)))
   where
     same : settledBy (settleRefusal (not (sound b)) (length meter) (length memory) (ledgerIn b meter)) (ledgerIn b meter) memory
         ≡ settledBy (settleRefusal false size (length memory) (ledgerOf t)) (ledgerOf t) memory
@@ -301,18 +257,8 @@ run-at file s (read ∷ xs) = go (λ s′. run-at file s′ xs) (readAt file (s 
     go all (refusedʳ n) = all s
     go all End = all s
 
--- what entering is answered, by the rules
-pub answers : {size : ℕ} (t : List Command) (b : Book) (meter : List ℤ) (c : Command) → Follows size t b meter
-    → enterBook b meter c .entry .answer ≡ answerOf (refusal false size (ledgerOf t) c)
-unfolding enterBook
-answers {size} t b meter c f = rw (f .left, f .memory, f .ledger) (go (refusal false size (ledgerOf t) c))
-  where
-    go : (r : Option ℕ) → enteredBy r b meter c .entry .answer ≡ answerOf r
-    go none = refl
-    go (some n) = refl
-
 says-read : {size : ℕ} (t : List Command) (s : State) (r : Read) → Follows size t (s .book) (s .meter) → readingSays s r ≡ readAnswer size t r
-says-read t s (Got c next) f = ap entered (answers t (s .book) (s .meter) c f)
+says-read t s (Got c next) f = ap entered (answers c f)
 says-read t s (refusedʳ n) f = refl
 says-read t s End f = refl
 
@@ -361,7 +307,7 @@ demand3 file meter steps =
       commands = λ before rest c e.
           let s : State = afterAll file (start meter) before in
           ap (λ l. getElem? (outcomes file (start meter) l) (length before)) e ∙ at-outcome file (start meter) before (enter c) rest
-          ∙ ap (λ a. some (entered a)) (answers (taken (length meter) (entries file 0 before)) (s .book) (s .meter) c (follows file [] (start meter) before (starts meter)));
+          ∙ ap (λ a. some (entered a)) (answers c (follows file [] (start meter) before (starts meter)));
       reads = λ before rest e.
           let s : State = afterAll file (start meter) before in
           let t : List Command = taken (length meter) (entries file 0 before) in

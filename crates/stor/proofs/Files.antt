@@ -20,13 +20,14 @@ use Rattle.rules.specs.declared.file.Read.the-variants.{Refused as refusedʳ}
 use Rattle.book.specs.Book.{emptyBook}
 use Rattle.book.specs.Enter.{enterBook, Entered}
 use Rattle.book.specs.declared.Book.{Book}
-use Rattle.book.proofs.Follow.{Follows}
+use Rattle.book.proofs.Follow.{Follows, follow, answers, starts}
+use Rattle.unitfile.proofs.Steps.{got-within}
 use Rattle.settlement.specs.Settle.{settleBook, Settled}
 use Rattle.stor.specs.Steps.{Step, read, entries, readsOn, position, onwards}
 use Rattle.stor.specs.Demand3.{SettlementRight}
 use Rattle.stor.specs.Files.{LoadedFile, carriesOn, loadsOn, loadFrom, load, settlesFile, settleFile, readRefusal, FileRight, File·theorem}
 use Rattle.stor.specs.declared.file.Loaded.{Loaded}
-use Rattle.stor.proofs.Demand3.{follow, starts, answers, settlement-right}
+use Rattle.stor.proofs.Demand3.{settlement-right}
 use Rattle.stor.proofs.Pieces.{past-end}
 
 -- entering from a position on, behind the commands t: some commands more are taken, and what stands behind them decides
@@ -58,7 +59,7 @@ module _ (file : List ℕ) {size : ℕ} {t : List Command} {b : Book} {meter : L
         whole = w;
       }
 
-module _ (ends-later : (s : List ℕ) (at : ℕ) (c : Command) (next : ℕ) → readAt s at ≡ Got c next → (at < next) × (next ≤ length s)) (file : List ℕ) {size : ℕ} where
+module _ (file : List ℕ) {size : ℕ} where
   -- a command more, behind which the rest ran
   step : (n at : ℕ) (t : List Command) (c : Command) (next : ℕ) (l : LoadedFile) → readAt file at ≡ Got c next → refusal false size (ledgerOf t) c ≡ none
       → Ran file size n next (t ++ (c ∷ [])) l → Ran file size (suc n) at t l
@@ -96,23 +97,23 @@ module _ (ends-later : (s : List ℕ) (at : ℕ) (c : Command) (next : ℕ) → 
           → Ran file size (suc n) at t (carriesOn (loadFrom n file next) at (answerOf o) (e c))
       entering rest c next got none r g =
           step n at t c next (loadFrom n file next (e c .entry .book) (e c .meter)) got r
-          (rest next (t ++ (c ∷ [])) (e c .entry .book) (e c .meter) (omega (arith, ends-later file at c next got)) g)
+          (rest next (t ++ (c ∷ [])) (e c .entry .book) (e c .meter) (omega (arith, got-within file at got)) g)
       entering rest c next got (some x) r g =
           stopped file g (suc n) at (Refused x) (sym (ap answerOf r) ∙ ap (λ w. answerOf (readRefusal size t w)) (sym got)) (λ a. absurd (let z : _≡_ {A = ℕ} 0 1 = cc in omega arith))
 
       go : Rest → (r : Read) → readAt file at ≡ r → Ran file size (suc n) at t (loadsOn (λ next b m. loadFrom n file next b m) at b meter r)
       go rest (Got c next) got =
-          subst⁻¹ (λ a. Ran file size (suc n) at t (carriesOn (loadFrom n file next) at a (e c))) (answers t b meter c f)
+          subst⁻¹ (λ a. Ran file size (suc n) at t (carriesOn (loadFrom n file next) at a (e c))) (answers c f)
           (entering rest c next got (refusal false size (ledgerOf t) c) refl (follow c f))
       go rest (refusedʳ x) got =
           stopped file f (suc n) at (Refused x) (ap (λ w. answerOf (readRefusal size t w)) (sym got)) (λ a. absurd (let z : _≡_ {A = ℕ} 0 1 = cc in omega arith))
       go rest End got = stopped file f (suc n) at Taken (ap (λ w. answerOf (readRefusal size t w)) (sym got)) (λ a. sym (ap (readOn (λ next. commandsFrom n file next)) got))
 
-pub file-right : ((s : List ℕ) (at : ℕ) (c : Command) (next : ℕ) → readAt s at ≡ Got c next → (at < next) × (next ≤ length s)) → File·theorem
+pub file-right : File·theorem
 unfolding File·theorem load settleFile taken commandsIn
-file-right ends-later file meter memory =
+file-right file meter memory =
     let l : LoadedFile = loadFrom (length file) file 0 emptyBook meter in
-    let r : Ran file (length meter) (length file) 0 [] l = ran ends-later file (length file) 0 [] emptyBook meter (omega arith) (starts meter) in
+    let r : Ran file (length meter) (length file) 0 [] l = ran file (length file) 0 [] emptyBook meter (omega arith) (starts meter) in
     record {
       reads = r .reads;
       allTaken = ap (takenAfter (length meter) []) (r .entered) ∙ r .taken ∙ sym (r .entered);

@@ -1,7 +1,9 @@
 pub mod Demand3
 pub mod Appendix2
+pub mod RoundTrip
 pub mod Pieces
 pub mod Files
+pub mod Turns
 pub mod WrittenLaid
 pub mod WrittenParts
 pub mod WrittenBook

@@ -1,11 +1,12 @@
 -- Pieces of a file, entered one after the other, do what the whole file does.
-use mathlib.Core.Path.{_≡_, refl, sym, ap, _∙_, subst}
+use mathlib.Core.Path.{_≡_, refl, sym, ap, _∙_, subst, subst⁻¹}
+use mathlib.Core.Logic.{⊎-elim}
 use mathlib.Core.Bool.{Bool, true, false, not, true≢false}
 use mathlib.Core.Option.{Option, none, some, Option·none-ne-some}
 use mathlib.Core.List.{List, [], _∷_, _++_}
 use Prim.Native.Nat.{ℕ, zero, suc, _+_, _-_, _≤_, _<_}
 use native.Mathlib.Omega.{arith}
-use borrow.Author.Tests.{le-leb}
+use borrow.Author.Tests.{le-leb, eq-eqb}
 use lib.IntN.{ℤ}
 use lib.Dec.{T, eqb, leb}
 use lib.ListN.{length, drop, length-append, length-drop}
@@ -24,6 +25,8 @@ use Rattle.book.specs.Book.{ledgerIn}
 use Rattle.book.specs.Sound.{sound}
 use Rattle.book.specs.Enter.{enterBook, enteredBy, Entered}
 use Rattle.book.specs.declared.Book.{Book}
+use Rattle.unitfile.proofs.Steps.{got-within, refused-number}
+use Rattle.unitfile.proofs.Pieces.{piece-got, piece-unknown, shift, read-drop}
 use Rattle.stor.specs.Files.{LoadedFile, endedAt, carriesOn, loadsOn, loadFrom, load, unfinished, later, Pieces, Pieces·theorem}
 use Rattle.stor.specs.declared.file.Loaded.{Loaded}
 
@@ -38,12 +41,6 @@ past-end s at h = rw (le-leb (length s) at h)
 carried : (go go′ : Book → List ℤ → LoadedFile) (at : ℕ) (a : Answer) (e : Entered) → ((b : Book) (m : List ℤ) → go b m ≡ go′ b m) → carriesOn go at a e ≡ carriesOn go′ at a e
 carried go go′ at Taken e h = h (e .entry .book) (e .meter)
 carried go go′ at (Refused n) e h = refl
-
--- what is read, with its position that much later
-abbrev shiftedBy : ℕ → Read → Read
-shiftedBy k (Got c next) = Got c (k + next)
-shiftedBy k (refusedʳ n) = refusedʳ n
-shiftedBy k End = End
 
 -- the book never answers 2
 lowest-not : (cs : List Condition) → T (all (λ c. not (eqb (c .number) 2)) cs) → (x : ℕ) → lowest cs ≡ some x → eqb x 2 ≡ false
@@ -73,136 +70,139 @@ book-not-two b m c x e t = go (refusal (not (sound b)) (length m) (ledgerIn b m)
         let same : y ≡ x = cc in
         subst (λ v. T v) (lowest-not (conditions (not (sound b)) (length m) (ledgerIn b m) c) (unfold all in tt) y f) (subst (λ v. T (eqb v 2)) (sym same) t)
 
-module _ (ends-later : (s : List ℕ) (at : ℕ) (c : Command) (next : ℕ) → readAt s at ≡ Got c next → (at < next) × (next ≤ length s))
-    (got-append : (p q : List ℕ) (at : ℕ) (c : Command) (next : ℕ) → readAt p at ≡ Got c next → readAt (p ++ q) at ≡ Got c next)
-    (refused-append : (p q : List ℕ) (at x : ℕ) → readAt p at ≡ refusedʳ x → eqb x 2 ≡ false → readAt (p ++ q) at ≡ refusedʳ x)
-    (shift : (k : ℕ) (s : List ℕ) (at : ℕ) → k ≤ length s → readAt s (k + at) ≡ shiftedBy k (readAt (drop k s) at)) where
-  enough : (n k : ℕ) (s : List ℕ) (at : ℕ) (b : Book) (m : List ℤ) → length s ≤ at + n → length s ≤ at + k → loadFrom n s at b m ≡ loadFrom k s at b m
+-- 1 in a piece is 1 in the whole
+kept-refused : (p q : List ℕ) (at x : ℕ) → readAt p at ≡ refusedʳ x → eqb x 2 ≡ false → readAt (p ++ q) at ≡ refusedʳ x
+kept-refused p q at x e t =
+    ⊎-elim (λ one. subst⁻¹ (λ n. readAt (p ++ q) at ≡ refusedʳ n) one (piece-unknown p q at (subst (λ n. readAt p at ≡ refusedʳ n) one e)))
+    (λ two. absurd (true≢false (sym (eq-eqb x 2 two) ∙ t)))
+    (refused-number p at e)
+
+enough : (n k : ℕ) (s : List ℕ) (at : ℕ) (b : Book) (m : List ℤ) → length s ≤ at + n → length s ≤ at + k → loadFrom n s at b m ≡ loadFrom k s at b m
+unfolding loadFrom
+enough zero zero s at b m h i = refl
+enough zero (suc k) s at b m h i = sym (ap (loadsOn (λ next b m. loadFrom k s next b m) at b m) (past-end s at (omega arith)))
+enough (suc n) zero s at b m h i = ap (loadsOn (λ next b m. loadFrom n s next b m) at b m) (past-end s at (omega arith))
+enough (suc n) (suc k) s at b m h i = go (λ next b m. enough n k s next b m) (readAt s at) refl
+  where
+    go : ((next : ℕ) (b : Book) (m : List ℤ) → length s ≤ next + n → length s ≤ next + k → loadFrom n s next b m ≡ loadFrom k s next b m)
+        → (r : Read) → readAt s at ≡ r → loadsOn (λ next b m. loadFrom n s next b m) at b m r ≡ loadsOn (λ next b m. loadFrom k s next b m) at b m r
+    go rest (Got c next) e =
+        let l : (at < next) × (next ≤ length s) = got-within s at e in
+        carried (loadFrom n s next) (loadFrom k s next) at (enterBook b m c .entry .answer) (enterBook b m c) (λ b′ m′. rest next b′ m′ (omega arith) (omega arith))
+    go rest (refusedʳ x) e = refl
+    go rest End e = refl
+
+-- all commands from a position on, with turns enough
+unfoldable pub from : List ℕ → ℕ → Book → List ℤ → LoadedFile
+from s at b m = loadFrom (length s) s at b m
+
+pub from-step : (s : List ℕ) (at : ℕ) (b : Book) (m : List ℤ) → from s at b m ≡ loadsOn (λ next b m. from s next b m) at b m (readAt s at)
+unfolding from loadFrom
+from-step s at b m = enough (length s) (suc (length s)) s at b m (omega arith) (omega arith)
+
+-- the commands behind k bytes, of the bytes behind them
+shifted : (n k : ℕ) (s : List ℕ) (at : ℕ) (b : Book) (m : List ℤ) → k ≤ length s → loadFrom n s (k + at) b m ≡ later k (loadFrom n (drop k s) at b m)
+unfolding loadFrom
+shifted zero k s at b m h = refl
+shifted (suc n) k s at b m h = rw (read-drop s k at) (go (λ next b m. shifted n k s next b m h) (readAt (drop k s) at))
+  where
+    Rest : Type 0
+    Rest = (next : ℕ) (b : Book) (m : List ℤ) → loadFrom n s (k + next) b m ≡ later k (loadFrom n (drop k s) next b m)
+
+    goAnswer : Rest → (c : Command) (next : ℕ) (a : Answer)
+        → carriesOn (loadFrom n s (k + next)) (k + at) a (enterBook b m c) ≡ later k (carriesOn (loadFrom n (drop k s) next) at a (enterBook b m c))
+    goAnswer rest c next Taken = rest next (enterBook b m c .entry .book) (enterBook b m c .meter)
+    goAnswer rest c next (Refused x) = refl
+
+    go : Rest → (r : Read)
+        → loadsOn (λ next b m. loadFrom n s next b m) (k + at) b m (shift k r) ≡ later k (loadsOn (λ next b m. loadFrom n (drop k s) next b m) at b m r)
+    go rest (Got c next) = goAnswer rest c next (enterBook b m c .entry .answer)
+    go rest (refusedʳ x) = refl
+    go rest End = refl
+
+-- the reader never leaves the bytes
+inside : (n : ℕ) (p : List ℕ) (at : ℕ) (b : Book) (m : List ℤ) → at ≤ length p → loadFrom n p at b m .loaded .at ≤ length p
+unfolding loadFrom
+inside zero p at b m h = h
+inside (suc n) p at b m h = go (λ next b m. inside n p next b m) (readAt p at) refl
+  where
+    Rest : Type 0
+    Rest = (next : ℕ) (b : Book) (m : List ℤ) → next ≤ length p → loadFrom n p next b m .loaded .at ≤ length p
+
+    goAnswer : Rest → (c : Command) (next : ℕ) → next ≤ length p → (a : Answer) → carriesOn (loadFrom n p next) at a (enterBook b m c) .loaded .at ≤ length p
+    goAnswer rest c next l Taken = rest next (enterBook b m c .entry .book) (enterBook b m c .meter) l
+    goAnswer rest c next l (Refused x) = h
+
+    go : Rest → (r : Read) → readAt p at ≡ r → loadsOn (λ next b m. loadFrom n p next b m) at b m r .loaded .at ≤ length p
+    go rest (Got c next) e = goAnswer rest c next (got-within p at e .1) (enterBook b m c .entry .answer)
+    go rest (refusedʳ x) e = h
+    go rest End e = h
+
+module _ (p q : List ℕ) where
+  -- the whole, from where a piece stopped
+  abbrev onwards : LoadedFile → LoadedFile
+  onwards l = from (p ++ q) (l .loaded .at) (l .loaded .book) (l .meter)
+
+  -- where the piece is unfinished, the whole goes on from there
+  goes-on : (n at : ℕ) (b : Book) (m : List ℤ) → T (unfinished (loadFrom n p at b m .loaded .answer))
+      → from (p ++ q) at b m ≡ from (p ++ q) (loadFrom n p at b m .loaded .at) (loadFrom n p at b m .loaded .book) (loadFrom n p at b m .meter)
   unfolding loadFrom
-  enough zero zero s at b m h i = refl
-  enough zero (suc k) s at b m h i = sym (ap (loadsOn (λ next b m. loadFrom k s next b m) at b m) (past-end s at (omega arith)))
-  enough (suc n) zero s at b m h i = ap (loadsOn (λ next b m. loadFrom n s next b m) at b m) (past-end s at (omega arith))
-  enough (suc n) (suc k) s at b m h i = go (λ next b m. enough n k s next b m) (readAt s at) refl
-    where
-      go : ((next : ℕ) (b : Book) (m : List ℤ) → length s ≤ next + n → length s ≤ next + k → loadFrom n s next b m ≡ loadFrom k s next b m)
-          → (r : Read) → readAt s at ≡ r → loadsOn (λ next b m. loadFrom n s next b m) at b m r ≡ loadsOn (λ next b m. loadFrom k s next b m) at b m r
-      go rest (Got c next) e =
-          let l : (at < next) × (next ≤ length s) = ends-later s at c next e in
-          carried (loadFrom n s next) (loadFrom k s next) at (enterBook b m c .entry .answer) (enterBook b m c) (λ b′ m′. rest next b′ m′ (omega arith) (omega arith))
-      go rest (refusedʳ x) e = refl
-      go rest End e = refl
-
-  -- all commands from a position on, with turns enough
-  from : List ℕ → ℕ → Book → List ℤ → LoadedFile
-  from s at b m = loadFrom (length s) s at b m
-
-  from-step : (s : List ℕ) (at : ℕ) (b : Book) (m : List ℤ) → from s at b m ≡ loadsOn (λ next b m. from s next b m) at b m (readAt s at)
-  unfolding from loadFrom
-  from-step s at b m = enough (length s) (suc (length s)) s at b m (omega arith) (omega arith)
-
-  -- the commands behind k bytes, of the bytes behind them
-  shifted : (n k : ℕ) (s : List ℕ) (at : ℕ) (b : Book) (m : List ℤ) → k ≤ length s → loadFrom n s (k + at) b m ≡ later k (loadFrom n (drop k s) at b m)
-  unfolding loadFrom
-  shifted zero k s at b m h = refl
-  shifted (suc n) k s at b m h = rw (shift k s at h) (go (λ next b m. shifted n k s next b m h) (readAt (drop k s) at))
+  goes-on zero at b m t = refl
+  goes-on (suc n) at b m t = go (λ next b m. goes-on n next b m) (readAt p at) refl t
     where
       Rest : Type 0
-      Rest = (next : ℕ) (b : Book) (m : List ℤ) → loadFrom n s (k + next) b m ≡ later k (loadFrom n (drop k s) next b m)
+      Rest = (next : ℕ) (b : Book) (m : List ℤ) → T (unfinished (loadFrom n p next b m .loaded .answer)) → from (p ++ q) next b m ≡ onwards (loadFrom n p next b m)
 
-      goAnswer : Rest → (c : Command) (next : ℕ) (a : Answer)
-          → carriesOn (loadFrom n s (k + next)) (k + at) a (enterBook b m c) ≡ later k (carriesOn (loadFrom n (drop k s) next) at a (enterBook b m c))
-      goAnswer rest c next Taken = rest next (enterBook b m c .entry .book) (enterBook b m c .meter)
-      goAnswer rest c next (Refused x) = refl
+      goAnswer : Rest → (c : Command) (next : ℕ) (a : Answer) → enterBook b m c .entry .answer ≡ a
+          → T (unfinished (carriesOn (loadFrom n p next) at a (enterBook b m c) .loaded .answer))
+          → carriesOn (λ b m. from (p ++ q) next b m) at a (enterBook b m c) ≡ onwards (carriesOn (loadFrom n p next) at a (enterBook b m c))
+      goAnswer rest c next Taken e t = rest next (enterBook b m c .entry .book) (enterBook b m c .meter) t
+      goAnswer rest c next (Refused x) e t = absurd (book-not-two b m c x e t)
 
-      go : Rest → (r : Read)
-          → loadsOn (λ next b m. loadFrom n s next b m) (k + at) b m (shiftedBy k r) ≡ later k (loadsOn (λ next b m. loadFrom n (drop k s) next b m) at b m r)
-      go rest (Got c next) = goAnswer rest c next (enterBook b m c .entry .answer)
-      go rest (refusedʳ x) = refl
-      go rest End = refl
+      go : Rest → (r : Read) → readAt p at ≡ r → T (unfinished (loadsOn (λ next b m. loadFrom n p next b m) at b m r .loaded .answer))
+          → from (p ++ q) at b m ≡ onwards (loadsOn (λ next b m. loadFrom n p next b m) at b m r)
+      go rest (Got c next) e t =
+          from-step (p ++ q) at b m ∙ ap (loadsOn (λ next b m. from (p ++ q) next b m) at b m) (piece-got p q at e)
+          ∙ goAnswer rest c next (enterBook b m c .entry .answer) refl t
+      go rest (refusedʳ x) e t = refl
+      go rest End e t = refl
 
-  -- the reader never leaves the bytes
-  inside : (n : ℕ) (p : List ℕ) (at : ℕ) (b : Book) (m : List ℤ) → at ≤ length p → loadFrom n p at b m .loaded .at ≤ length p
+  -- where it is not, the whole ends as the piece does
+  ends-there : (n at : ℕ) (b : Book) (m : List ℤ) → unfinished (loadFrom n p at b m .loaded .answer) ≡ false → from (p ++ q) at b m ≡ loadFrom n p at b m
   unfolding loadFrom
-  inside zero p at b m h = h
-  inside (suc n) p at b m h = go (λ next b m. inside n p next b m) (readAt p at) refl
+  ends-there zero at b m t = absurd (true≢false t)
+  ends-there (suc n) at b m t = go (λ next b m. ends-there n next b m) (readAt p at) refl t
     where
       Rest : Type 0
-      Rest = (next : ℕ) (b : Book) (m : List ℤ) → next ≤ length p → loadFrom n p next b m .loaded .at ≤ length p
+      Rest = (next : ℕ) (b : Book) (m : List ℤ) → unfinished (loadFrom n p next b m .loaded .answer) ≡ false → from (p ++ q) next b m ≡ loadFrom n p next b m
 
-      goAnswer : Rest → (c : Command) (next : ℕ) → next ≤ length p → (a : Answer) → carriesOn (loadFrom n p next) at a (enterBook b m c) .loaded .at ≤ length p
-      goAnswer rest c next l Taken = rest next (enterBook b m c .entry .book) (enterBook b m c .meter) l
-      goAnswer rest c next l (Refused x) = h
+      goAnswer : Rest → (c : Command) (next : ℕ) (a : Answer) → unfinished (carriesOn (loadFrom n p next) at a (enterBook b m c) .loaded .answer) ≡ false
+          → carriesOn (λ b m. from (p ++ q) next b m) at a (enterBook b m c) ≡ carriesOn (loadFrom n p next) at a (enterBook b m c)
+      goAnswer rest c next Taken t = rest next (enterBook b m c .entry .book) (enterBook b m c .meter) t
+      goAnswer rest c next (Refused x) t = refl
 
-      go : Rest → (r : Read) → readAt p at ≡ r → loadsOn (λ next b m. loadFrom n p next b m) at b m r .loaded .at ≤ length p
-      go rest (Got c next) e = goAnswer rest c next (ends-later p at c next e .1) (enterBook b m c .entry .answer)
-      go rest (refusedʳ x) e = h
-      go rest End e = h
+      go : Rest → (r : Read) → readAt p at ≡ r → unfinished (loadsOn (λ next b m. loadFrom n p next b m) at b m r .loaded .answer) ≡ false
+          → from (p ++ q) at b m ≡ loadsOn (λ next b m. loadFrom n p next b m) at b m r
+      go rest (Got c next) e t =
+          from-step (p ++ q) at b m ∙ ap (loadsOn (λ next b m. from (p ++ q) next b m) at b m) (piece-got p q at e)
+          ∙ goAnswer rest c next (enterBook b m c .entry .answer) t
+      go rest (refusedʳ x) e t = from-step (p ++ q) at b m ∙ ap (loadsOn (λ next b m. from (p ++ q) next b m) at b m) (kept-refused p q at x e t)
+      go rest End e t = absurd (true≢false t)
 
-  module _ (p q : List ℕ) where
-    -- the whole, from where a piece stopped
-    abbrev onwards : LoadedFile → LoadedFile
-    onwards l = from (p ++ q) (l .loaded .at) (l .loaded .book) (l .meter)
-
-    -- where the piece is unfinished, the whole goes on from there
-    goes-on : (n at : ℕ) (b : Book) (m : List ℤ) → T (unfinished (loadFrom n p at b m .loaded .answer))
-        → from (p ++ q) at b m ≡ from (p ++ q) (loadFrom n p at b m .loaded .at) (loadFrom n p at b m .loaded .book) (loadFrom n p at b m .meter)
-    unfolding loadFrom
-    goes-on zero at b m t = refl
-    goes-on (suc n) at b m t = go (λ next b m. goes-on n next b m) (readAt p at) refl t
-      where
-        Rest : Type 0
-        Rest = (next : ℕ) (b : Book) (m : List ℤ) → T (unfinished (loadFrom n p next b m .loaded .answer)) → from (p ++ q) next b m ≡ onwards (loadFrom n p next b m)
-
-        goAnswer : Rest → (c : Command) (next : ℕ) (a : Answer) → enterBook b m c .entry .answer ≡ a
-            → T (unfinished (carriesOn (loadFrom n p next) at a (enterBook b m c) .loaded .answer))
-            → carriesOn (λ b m. from (p ++ q) next b m) at a (enterBook b m c) ≡ onwards (carriesOn (loadFrom n p next) at a (enterBook b m c))
-        goAnswer rest c next Taken e t = rest next (enterBook b m c .entry .book) (enterBook b m c .meter) t
-        goAnswer rest c next (Refused x) e t = absurd (book-not-two b m c x e t)
-
-        go : Rest → (r : Read) → readAt p at ≡ r → T (unfinished (loadsOn (λ next b m. loadFrom n p next b m) at b m r .loaded .answer))
-            → from (p ++ q) at b m ≡ onwards (loadsOn (λ next b m. loadFrom n p next b m) at b m r)
-        go rest (Got c next) e t =
-            from-step (p ++ q) at b m ∙ ap (loadsOn (λ next b m. from (p ++ q) next b m) at b m) (got-append p q at c next e)
-            ∙ goAnswer rest c next (enterBook b m c .entry .answer) refl t
-        go rest (refusedʳ x) e t = refl
-        go rest End e t = refl
-
-    -- where it is not, the whole ends as the piece does
-    ends-there : (n at : ℕ) (b : Book) (m : List ℤ) → unfinished (loadFrom n p at b m .loaded .answer) ≡ false → from (p ++ q) at b m ≡ loadFrom n p at b m
-    unfolding loadFrom
-    ends-there zero at b m t = absurd (true≢false t)
-    ends-there (suc n) at b m t = go (λ next b m. ends-there n next b m) (readAt p at) refl t
-      where
-        Rest : Type 0
-        Rest = (next : ℕ) (b : Book) (m : List ℤ) → unfinished (loadFrom n p next b m .loaded .answer) ≡ false → from (p ++ q) next b m ≡ loadFrom n p next b m
-
-        goAnswer : Rest → (c : Command) (next : ℕ) (a : Answer) → unfinished (carriesOn (loadFrom n p next) at a (enterBook b m c) .loaded .answer) ≡ false
-            → carriesOn (λ b m. from (p ++ q) next b m) at a (enterBook b m c) ≡ carriesOn (loadFrom n p next) at a (enterBook b m c)
-        goAnswer rest c next Taken t = rest next (enterBook b m c .entry .book) (enterBook b m c .meter) t
-        goAnswer rest c next (Refused x) t = refl
-
-        go : Rest → (r : Read) → readAt p at ≡ r → unfinished (loadsOn (λ next b m. loadFrom n p next b m) at b m r .loaded .answer) ≡ false
-            → from (p ++ q) at b m ≡ loadsOn (λ next b m. loadFrom n p next b m) at b m r
-        go rest (Got c next) e t =
-            from-step (p ++ q) at b m ∙ ap (loadsOn (λ next b m. from (p ++ q) next b m) at b m) (got-append p q at c next e)
-            ∙ goAnswer rest c next (enterBook b m c .entry .answer) t
-        go rest (refusedʳ x) e t = from-step (p ++ q) at b m ∙ ap (loadsOn (λ next b m. from (p ++ q) next b m) at b m) (refused-append p q at x e t)
-        go rest End e t = absurd (true≢false t)
-
-  pub pieces : Pieces·theorem
-  unfolding Pieces·theorem load from
-  pieces p q b m =
-      let k : ℕ = loadFrom (length p) p 0 b m .loaded .at in
-      let inP : k ≤ length p = inside (length p) p 0 b m (omega arith) in
-      let inAll : k ≤ length (p ++ q) = simp length-append (omega arith) in
-      let b′ : Book = loadFrom (length p) p 0 b m .loaded .book in
-      let m′ : List ℤ = loadFrom (length p) p 0 b m .meter in
-      let zeroed : k + 0 ≡ k = omega arith in
-      record {
-        goesOn = λ t.
-            goes-on p q (length p) 0 b m t ∙ ap (λ x. loadFrom (length (p ++ q)) (p ++ q) x b′ m′) (sym zeroed)
-            ∙ shifted (length (p ++ q)) k (p ++ q) 0 b′ m′ inAll
-            ∙ ap (λ s. later k (loadFrom (length (p ++ q)) s 0 b′ m′)) (drop-append-le k p q inP)
-            ∙ ap (later k) (enough (length (p ++ q)) (length (drop k p ++ q)) (drop k p ++ q) 0 b′ m′ (simp (length-append, length-drop) (omega arith)) (omega arith));
-        ends = λ t. ends-there p q (length p) 0 b m t;
-      }
+pub pieces : Pieces·theorem
+unfolding Pieces·theorem load from
+pieces p q b m =
+    let k : ℕ = loadFrom (length p) p 0 b m .loaded .at in
+    let inP : k ≤ length p = inside (length p) p 0 b m (omega arith) in
+    let inAll : k ≤ length (p ++ q) = simp length-append (omega arith) in
+    let b′ : Book = loadFrom (length p) p 0 b m .loaded .book in
+    let m′ : List ℤ = loadFrom (length p) p 0 b m .meter in
+    let zeroed : k + 0 ≡ k = omega arith in
+    record {
+      goesOn = λ t.
+          goes-on p q (length p) 0 b m t ∙ ap (λ x. loadFrom (length (p ++ q)) (p ++ q) x b′ m′) (sym zeroed)
+          ∙ shifted (length (p ++ q)) k (p ++ q) 0 b′ m′ inAll
+          ∙ ap (λ s. later k (loadFrom (length (p ++ q)) s 0 b′ m′)) (drop-append-le k p q inP)
+          ∙ ap (later k) (enough (length (p ++ q)) (length (drop k p ++ q)) (drop k p ++ q) 0 b′ m′ (simp (length-append, length-drop) (omega arith)) (omega arith));
+      ends = λ t. ends-there p q (length p) 0 b m t;
+    }

@@ -5,3 +5,4 @@ pub mod Layout
 pub mod Write
 pub mod RoundTrip
 pub mod Files
+pub mod Turn

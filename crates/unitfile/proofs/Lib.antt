@@ -1,7 +1,9 @@
-pub mod Words
-pub mod Signs
-pub mod Operands
-pub mod Rows
-pub mod Puts
-pub mod Commands
+mod Words
+mod Signs
+mod Operands
+mod Rows
+mod Encoding
 pub mod Found
+pub mod Steps
+pub mod Pieces
+pub mod Puts

@@ -1,5 +1,5 @@
 -- Laws of operands and their widths, one operand after the other.
-use mathlib.Core.Path.{_≡_, refl, sym, _∙_, ap}
+use mathlib.Core.Path.{_≡_, refl, _∙_, ap}
 use mathlib.Core.List.{List, [], _∷_, _++_, append-assoc}
 use Prim.Native.Nat.{ℕ, zero, suc, _+_, _-_, _^_, _≤_, _<_}
 use native.Mathlib.Nat.{not-suc-le-zero, le-of-suc-le-suc, le-of-lt, add-assoc, add-sub-cancel-left}
@@ -29,6 +29,11 @@ total-within ws zero n h = omega arith
 total-within [] (suc k) n h = omega arith
 total-within (w ∷ ws) (suc k) zero h = absurd (not-suc-le-zero h)
 total-within (w ∷ ws) (suc k) (suc n) h = omega (arith, total-within ws k n (le-of-suc-le-suc h))
+
+-- the next operand ends where all of them end, or before
+pub next-ends : (ws : List ℕ) (at place k count size : ℕ) → k < length ws → k < count → place ≡ at + total (take k ws) → at + total (take count ws) ≤ size
+    → place + getD ws k 0 ≤ size
+next-ends ws at place k count size h j stands room = omega (arith, total-more ws k h, total-within ws (k + 1) count (omega arith))
 
 -- ---- the operands read
 

@@ -112,3 +112,10 @@ row-narrow b = go (widthsOf b table) (widths-pass narrowTest b table tt tt)
     go (some ws) t =
         let both = T-and (leb (length ws) 11) (all (λ w. leb w 4) ws) t in
         record { few = leb→le _ _ (both .0); narrow = λ k. rw getD-padded (narrow-at ws k (both .1)) }
+
+-- no command is longer than the contract's 32 bytes
+pub widths-most : (b : ℕ) (ws : List ℕ) → widthsOf b table ≡ some ws → total ws ≤ 31
+unfolding else all table total
+widths-most b ws e =
+    let most : T (leb (total (else (widthsOf b table) [])) 31) = widths-pass (λ ws. leb (total ws) 31) b table tt tt in
+    leb→le (total ws) 31 (rw e at most)

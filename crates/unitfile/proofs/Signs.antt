@@ -1,7 +1,7 @@
 -- Laws of signed numbers that are written without their sign.
 use mathlib.Core.Path.{_≡_, refl}
 use mathlib.Core.Bool.{true, false}
-use Prim.Native.Nat.{ℕ, _+_, _-_, _^_, _≤_}
+use Prim.Native.Nat.{_-_, _^_, _≤_}
 use native.Mathlib.Omega.{arith}
 use lib.Dec.{T}
 use lib.IntN.{ℤ, pos, negsuc, natAbs, _+ℤ_}

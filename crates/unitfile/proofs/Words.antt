@@ -2,7 +2,7 @@
 use mathlib.Core.Path.{_≡_, refl, sym, _∙_}
 use mathlib.Core.List.{List, [], _∷_, _++_}
 use Prim.Native.Nat.{ℕ, zero, suc, _+_, _-_, _*_, _/_, _%_, _^_, _≤_, _<_, zero-le}
-use native.Mathlib.Nat.{le-refl, not-suc-le-zero, le-of-suc-le-suc, sub-self, sub-zero, div-one, pow-suc, pow-succ', mul-assoc, mul-le-mul-right, mul-le-mul-left, lt-of-lt-of-le, pow-le-pow-right, div-div-eq-div-mul}
+use native.Mathlib.Nat.{not-suc-le-zero, le-of-suc-le-suc, sub-self, sub-zero, div-one, pow-suc, pow-succ', mul-assoc, mul-le-mul-right, mul-le-mul-left, lt-of-lt-of-le, pow-le-pow-right, div-div-eq-div-mul}
 use native.Mathlib.Numerals.{add-one}
 use native.Mathlib.Omega.{arith}
 use lib.Dec.{lit<}
@@ -43,40 +43,32 @@ drop-set [] i a h = absurd (not-suc-le-zero h)
 drop-set (x ∷ l) zero a h = refl
 drop-set (x ∷ l) (suc i) a h = drop-set l i a (le-of-suc-le-suc h)
 
--- from i on, the bytes are the number's lowest, and the rest is what the number has above them
-pub record Lowest (number size : ℕ) (out : List ℕ) (rest i : ℕ) : Type 0 where
-  pub inside : i ≤ size
+-- the last bytes, as many as are below the next one, are the number's lowest, and the rest is what the number has above them
+pub record Lowest (number size : ℕ) (out : List ℕ) (rest below : ℕ) : Type 0 where
+  pub inside : below ≤ size
   pub long : length out ≡ size
-  pub written : drop i out ≡ bytesOf (size - i) number
-  pub left : rest ≡ number / 256 ^ (size - i)
+  pub written : drop (size - below) out ≡ bytesOf below number
+  pub left : rest ≡ number / 256 ^ below
 
-pub lowest-none : (number : ℕ) (out : List ℕ) → Lowest number (length out) out number (length out)
+pub lowest-none : (number : ℕ) (out : List ℕ) → Lowest number (length out) out number 0
 unfolding bytesOf
-lowest-none number out =
-    record {
-      inside = le-refl (length out);
-      long = refl;
-      written = rw (drop-length out, sub-self (length out));
-      left = rw (sub-self (length out)) (sym (div-one number));
-    }
+lowest-none number out = record { inside = zero-le; long = refl; written = rw sub-zero (drop-length out); left = sym (div-one number) }
 
-one-more : (size i : ℕ) → 0 < i → i ≤ size → size - (i - 1) ≡ suc (size - i)
-one-more size i h k = omega arith
-
-pub lowest-more : (number size : ℕ) (out : List ℕ) (rest i : ℕ) → 0 < i → Lowest number size out rest i → Lowest number size (set out (i - 1) (rest % 256)) (rest / 256) (i - 1)
+pub lowest-more : (number size : ℕ) (out : List ℕ) (rest below : ℕ) → below < size → Lowest number size out rest below
+    → Lowest number size (set out (size - 1 - below) (rest % 256)) (rest / 256) (below + 1)
 unfolding bytesOf
-lowest-more number size out rest i h l =
-    let inside = l .inside in
-    let long = l .long in
-    let more = one-more size i h inside in
-    let next : suc (i - 1) ≡ i = omega arith in
-    let below : i - 1 < length out = omega arith in
+lowest-more number size out rest below h l =
+    let place : size - (below + 1) ≡ size - 1 - below = omega arith in
+    let next : suc (size - 1 - below) ≡ size - below = omega arith in
+    let within : size - 1 - below < length out = omega (arith, l .long) in
     record {
       inside = omega arith;
-      long = length-set out (i - 1) (rest % 256) ∙ long;
-      written = rw (more, drop-set out (i - 1) (rest % 256) below, next, l .written, l .left);
-      left = rw (more, pow-suc 256 (size - i), l .left, div-div-eq-div-mul);
+      long = length-set out (size - 1 - below) (rest % 256) ∙ l .long;
+      written = rw (place, add-one below, drop-set out (size - 1 - below) (rest % 256) within, next, l .written, l .left);
+      left = rw (add-one below, pow-suc 256 below, l .left, div-div-eq-div-mul);
     }
 
-pub lowest-all : (number size : ℕ) (out : List ℕ) (rest i : ℕ) → i ≤ 0 → Lowest number size out rest i → out ≡ bytesOf size number
-lowest-all number size out rest i h l = let done : i ≡ 0 = omega arith in rw (done, sub-zero size) at (l .written)
+pub lowest-all : (number size : ℕ) (out : List ℕ) (rest below : ℕ) → size ≤ below → Lowest number size out rest below → out ≡ bytesOf size number
+lowest-all number size out rest below h l =
+    let all : below ≡ size = omega (arith, l .inside) in
+    rw (all, sub-self size) at (l .written)

@@ -1,3 +1,4 @@
 pub mod Table
 pub mod Operands
 pub mod Write
+pub mod Reader

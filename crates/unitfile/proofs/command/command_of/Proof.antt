@@ -3,8 +3,6 @@ use borrow.Author.Tests.{ne-eqb}
 use Rattle.rules.specs.File.{commandOf}
 use Rattle.unitfile.proofs.command.command_of.Statement.{statement}
 use Rattle.unitfile.proofs.command.command_of.Tie as tie
-use Rattle.unitfile.proofs.command.command_of.Reads as reads
-use Rattle.unitfile.proofs.command.command_of.Lts as lts
 
 contract-of-requires : tie.Need-contract-of-requires
 contract-of-requires c κs = rw (c .match .keys1) at (c .before .pre)

@@ -6,7 +6,6 @@ use Rattle.rules.specs.File.{table, widthsOf, commandOf}
 use Rattle.unitfile.specs.Table.{widthsFor}
 use Rattle.unitfile.proofs.command.reading_of.Statement.{statement}
 use Rattle.unitfile.proofs.command.reading_of.Tie as tie
-use Rattle.unitfile.proofs.command.signed.Reads as signed-reads
 
 array-read-t7 : tie.Need-array-read-t7
 array-read-t7 c = search needs

@@ -3,14 +3,10 @@ use mathlib.Core.Path.{_≡_}
 use Prim.Native.Nat.{_+_, _-_, _≤_, _<_}
 use native.Mathlib.Omega.{arith}
 use borrow.Author.Needs.{needs}
-use lib.ListN.{length, getD, take, length-take}
-use Rattle.rules.specs.File.{total}
-use Rattle.unitfile.proofs.Operands.{Passed, passed-none, passed-more, total-more, total-within}
+use lib.ListN.{length, getD, length-take}
+use Rattle.unitfile.proofs.Operands.{Passed, passed-none, passed-more, next-ends}
 use Rattle.unitfile.proofs.decode.operands_at.Statement.{statement}
 use Rattle.unitfile.proofs.decode.operands_at.Tie as tie
-use Rattle.unitfile.proofs.decode.operands_at.Reads as reads
-use Rattle.unitfile.proofs.decode.operands_at.Lts as lts
-use Rattle.unitfile.proofs.number.number_in.Reads as number-in-reads
 
 abbrev Inv-loop : tie.InvT-loop
 Inv-loop s at count widths v₀ place₀ k₀ v place k = (k ≤ count) × Passed s at widths v place k
@@ -37,7 +33,7 @@ ends : (c : tie.In-loop Inv-loop μ-loop)
 ends c =
     let l = c .before .loop in
     let a = c .before .before .before .args in
-    omega (arith, c .before .before .before .pre .1, l .inv .1 .stands, total-more (a .t4) (l .k) (inside c), total-within (a .t4) (l .k + 1) (a .count) (omega arith))
+    next-ends (a .t4) (a .at) (l .place) (l .k) (a .count) (length (a .s .now)) (inside c) (omega arith) (l .inv .1 .stands) (c .before .before .before .pre .1)
 
 add-next : tie.Need-add-next Inv-loop μ-loop
 add-next c = omega (arith, ends c)

@@ -1,5 +1,5 @@
 -- `decode::read_at` meets its contract: each of its answers is one of the four things that can be found at a position.
-use mathlib.Core.Path.{_≡_, sym, ap}
+use mathlib.Core.Path.{_≡_, sym}
 use mathlib.Core.List.{List}
 use mathlib.Core.Option.{some}
 use Prim.Native.Nat.{ℕ, _+_, _-_, _≤_, _<_}
@@ -9,7 +9,7 @@ use lib.ListN.{length, getD, take, drop}
 use lib.Seq.{getD-drop}
 use Rattle.rules.specs.File.{table, widthsOf, total, operands, commandOf, readAt}
 use Rattle.rules.specs.declared.entries.Command.{Command}
-use Rattle.rules.specs.declared.file.Read.the-variants.{Got, Refused, End}
+use Rattle.rules.specs.declared.file.Read.the-variants.{Got, Refused}
 use Rattle.unitfile.specs.Table.{padded, rowFor, widthsFor}
 use Rattle.unitfile.specs.Operands.{Narrow, Sized}
 use Rattle.unitfile.specs.declared.table.Row.{Row}

@@ -1,8 +1,6 @@
 -- `encode::length_of` meets its contract: the row of the command's byte has its length.
-use mathlib.Core.Path.{_∙_, ap}
 use borrow.Author.Needs.{needs}
-use Rattle.unitfile.specs.Table.{rowFor}
-use Rattle.unitfile.proofs.Commands.{encoded}
+use Rattle.unitfile.proofs.Encoding.{encoded}
 use Rattle.unitfile.proofs.encode.length_of.Statement.{statement}
 use Rattle.unitfile.proofs.encode.length_of.Tie as tie
 

@@ -1,17 +1,14 @@
 -- `encode::put_operands` meets its contract: the operands passed so far are put, and the next one goes after their widths.
-use mathlib.Core.Path.{_≡_, _∙_, sym}
+use mathlib.Core.Path.{_≡_}
 use Prim.Native.Nat.{_+_, _-_, _≤_, _<_}
 use native.Mathlib.Nat.{le-of-lt}
 use native.Mathlib.Omega.{arith}
 use borrow.Author.Needs.{needs}
-use lib.ListN.{length, getD, take}
-use Rattle.rules.specs.File.{total}
-use Rattle.unitfile.proofs.Operands.{total-more, total-within}
-use Rattle.unitfile.proofs.Puts.{Put, put-nothing, put-long, put-more}
+use lib.ListN.{length, getD}
+use Rattle.unitfile.proofs.Operands.{total-within, next-ends}
+use Rattle.unitfile.proofs.Encoding.{Put, put-nothing, put-long, put-more}
 use Rattle.unitfile.proofs.encode.put_operands.Statement.{statement}
 use Rattle.unitfile.proofs.encode.put_operands.Tie as tie
-use Rattle.unitfile.proofs.encode.put_operands.Reads as reads
-use Rattle.unitfile.proofs.encode.put_operands.Lts as lts
 
 abbrev Inv-loop : tie.InvT-loop
 Inv-loop out₀ at count widths v place₀ k₀ out place k = (k ≤ count) × Put out₀ at widths v out place k
@@ -35,7 +32,7 @@ ends : (c : tie.In-loop Inv-loop μ-loop)
 ends c =
     let l = c .before .loop in
     let a = c .before .before .before .args in
-    omega (arith, c .before .before .before .pre .1, l .inv .1 .stands, total-more (a .t4) (l .k) (inside c), total-within (a .t4) (l .k + 1) (a .count) (omega arith))
+    next-ends (a .t4) (a .at) (l .place) (l .k) (a .count) (length (a .out .now)) (inside c) (omega arith) (l .inv .1 .stands) (c .before .before .before .pre .1)
 
 long : (c : tie.In-loop Inv-loop μ-loop) → length (c .before .loop .out) ≡ length (c .before .before .before .args .out .now)
 long c = put-long _ _ _ _ _ _ _ (c .before .loop .inv .1) (le-of-lt (inside c)) (le-of-lt (has c)) (omega (arith, ends c))

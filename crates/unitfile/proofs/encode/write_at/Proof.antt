@@ -2,7 +2,7 @@
 use mathlib.Core.Path.{_≡_, refl, sym, _∙_, ap}
 use mathlib.Core.Bool.{true, false}
 use mathlib.Core.List.{List}
-use Prim.Native.Nat.{ℕ, _+_, _≤_, _<_}
+use Prim.Native.Nat.{ℕ, _+_, _≤_}
 use native.Mathlib.Omega.{arith}
 use borrow.Author.Needs.{needs}
 use borrow.Author.Tests.{not-true, not-false, leb-true}
@@ -15,13 +15,11 @@ use Rattle.unitfile.specs.Operands.{Narrow}
 use Rattle.unitfile.specs.Write.{putAt, writeAt}
 use Rattle.unitfile.specs.declared.encode.Written.the-variants.{Next, Refused}
 use Rattle.unitfile.specs.declared.table.Row.{Row}
-use Rattle.unitfile.proofs.Commands.{encoded}
-use Rattle.unitfile.proofs.Puts.{length-put, put-cons}
+use Rattle.unitfile.proofs.Encoding.{encoded}
+use Rattle.unitfile.proofs.Puts.{put-cons}
 use Rattle.unitfile.proofs.Rows.{row-narrow}
 use Rattle.unitfile.proofs.encode.write_at.Statement.{statement}
 use Rattle.unitfile.proofs.encode.write_at.Tie as tie
-use Rattle.unitfile.proofs.encode.write_at.Reads as reads
-use Rattle.unitfile.proofs.encode.write_at.Lts as lts
 
 -- a command, its row, and memory
 module _ (command : Command) (m : List ℕ) (at : ℕ) (row : Row) (is : row ≡ rowFor (byteOf command)) where

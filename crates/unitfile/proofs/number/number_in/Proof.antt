@@ -1,6 +1,6 @@
 -- `number::number_in` meets its contract: the number is what the bytes passed so far say.
 use mathlib.Core.Path.{_≡_, _∙_, ap}
-use Prim.Native.Nat.{_-_, _^_, _≤_, _<_}
+use Prim.Native.Nat.{_+_, _^_, _<_}
 use native.Mathlib.Nat.{lt-of-lt-of-le, pow-le-pow-right}
 use native.Mathlib.Omega.{arith}
 use borrow.Author.Needs.{needs}
@@ -11,15 +11,12 @@ use Rattle.rules.specs.File.{wordFrom}
 use Rattle.unitfile.proofs.Words.{word-more, word-below}
 use Rattle.unitfile.proofs.number.number_in.Statement.{statement}
 use Rattle.unitfile.proofs.number.number_in.Tie as tie
-use Rattle.unitfile.proofs.number.number_in.Reads as reads
-use Rattle.unitfile.proofs.number.number_in.Lts as lts
-use Rattle.unitfile.proofs.number.wide.Reads as wide-reads
 
 abbrev Inv-loop : tie.InvT-loop
-Inv-loop bytes number₀ i₀ number i = (i ≤ length bytes) × (number ≡ wordFrom 0 (take i bytes))
+Inv-loop bytes number₀ i₀ left₀ number i left = (i + left ≡ length bytes) × (number ≡ wordFrom 0 (take i bytes))
 
 abbrev μ-loop : tie.MeasureT-loop
-μ-loop bytes number₀ i₀ number i = length bytes - i
+μ-loop bytes number₀ i₀ left₀ number i left = left
 
 loop-holds : tie.Need-loop-holds Inv-loop μ-loop
 unfolding wordFrom
@@ -31,6 +28,9 @@ small c =
     rw (c .before .loop .inv .1)
     (lt-of-lt-of-le (word-below (c .before .loop .i) (c .before .before .before .args .bytes .now) (λ k. c .before .before .shared-slice-known .given k .fits))
     (pow-le-pow-right (lit< tt) {i = c .before .loop .i} {j = 3} (omega arith)))
+
+sub-left : tie.Need-sub-left Inv-loop μ-loop
+sub-left c = search needs
 
 mul-number : tie.Need-mul-number Inv-loop μ-loop
 mul-number c = omega (arith, small c)
@@ -66,6 +66,7 @@ number-in-spec =
     Inv-loop
     μ-loop
     loop-holds
+    sub-left
     mul-number
     shared-slice-read-wide
     wide-requires

@@ -1,15 +1,15 @@
--- `number::put_number` meets its contract: from the byte at i on, the lent bytes are the number's lowest, and what is left is the number above them.
+-- `number::put_number` meets its contract: the bytes below the next one are the number's lowest, and what is left is the number above them.
+use Prim.Native.Nat.{_-_}
 use borrow.Author.Needs.{needs}
-use lib.ListN.{length}
 use Rattle.unitfile.proofs.Words.{Lowest, lowest-none, lowest-more, lowest-all}
 use Rattle.unitfile.proofs.number.put_number.Statement.{statement}
 use Rattle.unitfile.proofs.number.put_number.Tie as tie
 
 abbrev Inv-loop : tie.InvT-loop
-Inv-loop number out₀ rest₀ i₀ out rest i = Lowest number (length out₀) out rest i
+Inv-loop number out₀ size rest₀ below₀ out rest below = Lowest number size out rest below
 
 abbrev μ-loop : tie.MeasureT-loop
-μ-loop number out₀ rest₀ i₀ out rest i = i
+μ-loop number out₀ size rest₀ below₀ out rest below = size - below
 
 loop-holds : tie.Need-loop-holds Inv-loop μ-loop
 loop-holds c = lowest-none _ _
@@ -17,11 +17,17 @@ loop-holds c = lowest-none _ _
 sub-i : tie.Need-sub-i Inv-loop μ-loop
 sub-i c = search needs
 
+sub-i-2 : tie.Need-sub-i-2 Inv-loop μ-loop
+sub-i-2 c = search needs
+
 cast-out : tie.Need-cast-out Inv-loop μ-loop
 cast-out c = search needs
 
 slice-write-out : tie.Need-slice-write-out Inv-loop μ-loop
 slice-write-out c = search needs
+
+add-below : tie.Need-add-below Inv-loop μ-loop
+add-below c = search needs
 
 loop-less : tie.Need-loop-less Inv-loop μ-loop
 loop-less c = search needs
@@ -43,8 +49,10 @@ put-number-spec =
     μ-loop
     loop-holds
     sub-i
+    sub-i-2
     cast-out
     slice-write-out
+    add-below
     loop-less
     loop-again
     same-length

@@ -5,55 +5,40 @@ use native.Mathlib.Omega.{arith}
 use borrow.Author.Needs.{needs}
 use Rattle.unitfile.proofs.operand.contract_operands.Statement.{statement}
 use Rattle.unitfile.proofs.operand.contract_operands.Tie as tie
-use Rattle.unitfile.proofs.operand.contract_operands.Reads as reads
-use Rattle.unitfile.proofs.operand.contract_operands.Lts as lts
-use Rattle.unitfile.proofs.operand.magnitude.Reads as magnitude-reads
 
--- src/operand.rt:56:9
 cast-t5 : tie.Need-cast-t5
 cast-t5 c = search needs
 
--- src/operand.rt:57:9
 cast-t6 : tie.Need-cast-t6
 cast-t6 c = search needs
 
--- src/operand.rt:58:9
 cast-t7 : tie.Need-cast-t7
 cast-t7 c = search needs
 
--- src/operand.rt:59:9
 magnitude-requires : tie.Need-magnitude-requires
 magnitude-requires c κs = search needs
 
--- src/operand.rt:60:9
 cast-t9 : tie.Need-cast-t9
 cast-t9 c = search needs
 
--- src/operand.rt:61:9
 cast-t10 : tie.Need-cast-t10
 cast-t10 c = search needs
 
--- src/operand.rt:62:9
 cast-t11 : tie.Need-cast-t11
 cast-t11 c = search needs
 
--- src/operand.rt:63:9
 cast-t12 : tie.Need-cast-t12
 cast-t12 c = search needs
 
--- src/operand.rt:64:9
 cast-t13 : tie.Need-cast-t13
 cast-t13 c = search needs
 
--- src/operand.rt:65:9
 cast-t14 : tie.Need-cast-t14
 cast-t14 c = search needs
 
--- src/operand.rt:66:9
 cast-t15 : tie.Need-cast-t15
 cast-t15 c = omega (arith, c .struct-known10 .given)
 
--- src/operand.rt:49:1
 returns : tie.Need-returns
 returns c =
     let f : SFits w64 (c .before .before .before .before .before .before .before .before .before .before .before .before .before .before .before .args .k .contracted .0) = search needs in

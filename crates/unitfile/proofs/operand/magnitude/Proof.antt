@@ -1,22 +1,20 @@
 -- `operand::magnitude` meets its contract.
-use mathlib.Core.Path.{_≡_, refl, _∙_}
+use mathlib.Core.Path.{_≡_}
 use mathlib.Core.Bool.{true}
-use Prim.Native.Nat.{_+_, _<_, _≤_, _^_}
+use Prim.Native.Nat.{_+_, _≤_, _^_}
 use native.Mathlib.Omega.{arith}
 use borrow.Author.Needs.{needs}
 use lib.Dec.{T}
 use lib.IntN.{ℤ, pos, natAbs, _+ℤ_, _-ℤ_}
 use lib.Signed.{ltZ, nonNeg}
 use mir.Syntax.{w64}
-use mir.Val.{SFits, toZ, ofZ}
+use mir.Val.{SFits}
 use mir.Facts.{toZ-ofZ}
 use Rattle.energy.specs.Number.{up, down}
 use Rattle.energy.proofs.Integers.{add-parts, diff-parts, abs-parts, fits-parts, parts-fit, exact, nonNeg-parts, ltZ-true}
 use Rattle.unitfile.proofs.Signs.{cast-up}
 use Rattle.unitfile.proofs.operand.magnitude.Statement.{statement}
 use Rattle.unitfile.proofs.operand.magnitude.Tie as tie
-use Rattle.unitfile.proofs.operand.magnitude.Reads as reads
-use Rattle.unitfile.proofs.operand.magnitude.Lts as lts
 
 -- a number below 0, one more, and how far that is below 0
 module _ (z : ℤ) (fits : SFits w64 z) (below : ltZ z (pos 0) ≡ true) where

@@ -5,100 +5,74 @@ use Rattle.unitfile.specs.Table.{padded}
 use borrow.Author.Needs.{needs}
 use Rattle.unitfile.proofs.operand.operands_of.Statement.{statement}
 use Rattle.unitfile.proofs.operand.operands_of.Tie as tie
-use Rattle.unitfile.proofs.operand.operands_of.Reads as reads
-use Rattle.unitfile.proofs.operand.operands_of.Lts as lts
-use Rattle.unitfile.proofs.operand.contract_operands.Reads as contract-operands-reads
-use Rattle.unitfile.proofs.operand.unsigned.Reads as unsigned-reads
 
--- src/operand.rt:75:27
 enum-known-command : tie.Need-enum-known-command
 enum-known-command c = search needs
 
--- src/operand.rt:75:33
 contract-operands-requires : tie.Need-contract-operands-requires
 contract-operands-requires c κs = search needs
 
--- src/operand.rt:76:25
 enum-known-command-2 : tie.Need-enum-known-command-2
 enum-known-command-2 c = search needs
 
--- src/operand.rt:79:14
 cast-t15 : tie.Need-cast-t15
 cast-t15 c = search needs
 
--- src/operand.rt:79:30
 cast-t16 : tie.Need-cast-t16
 cast-t16 c = search needs
 
--- src/operand.rt:79:44
 cast-t17 : tie.Need-cast-t17
 cast-t17 c = search needs
 
--- src/operand.rt:81:30
 enum-known-command-3 : tie.Need-enum-known-command-3
 enum-known-command-3 c = search needs
 
--- src/operand.rt:84:14
 cast-t18 : tie.Need-cast-t18
 cast-t18 c = search needs
 
--- src/operand.rt:84:30
 cast-t19 : tie.Need-cast-t19
 cast-t19 c = search needs
 
--- src/operand.rt:86:26
 enum-known-command-4 : tie.Need-enum-known-command-4
 enum-known-command-4 c = search needs
 
--- src/operand.rt:88:14
 cast-t20 : tie.Need-cast-t20
 cast-t20 c = search needs
 
--- src/operand.rt:88:31
 cast-t21 : tie.Need-cast-t21
 cast-t21 c = search needs
 
--- src/operand.rt:88:46
 cast-t22 : tie.Need-cast-t22
 cast-t22 c = search needs
 
--- src/operand.rt:90:26
 enum-known-command-5 : tie.Need-enum-known-command-5
 enum-known-command-5 c = search needs
 
--- src/operand.rt:93:14
 cast-t23 : tie.Need-cast-t23
 cast-t23 c = search needs
 
--- src/operand.rt:93:31
 unsigned-requires : tie.Need-unsigned-requires
 unsigned-requires c κs = search needs
 
--- src/operand.rt:95:27
 enum-told : tie.Need-enum-told
 enum-told c = search needs
 
--- src/operand.rt:71:1
 returns : tie.Need-returns
 unfolding padded
 returns c = rw (c .before .before .command .given .1, c .contract-operands .ensures)
 
--- src/operand.rt:71:1
 returns-2 : tie.Need-returns-2
 unfolding padded
 returns-2 c = rw (c .before .before .before .before .before .before .command2 .given .1)
 
--- src/operand.rt:71:1
 returns-3 : tie.Need-returns-3
 unfolding padded
 returns-3 c = rw (c .before .before .before .before .before .command3 .given .1)
 
--- src/operand.rt:71:1
 returns-4 : tie.Need-returns-4
 unfolding padded
 returns-4 c = rw (c .before .before .before .before .before .command4 .given .1)
 
--- src/operand.rt:71:1
 returns-5 : tie.Need-returns-5
 unfolding padded
 returns-5 c =
@@ -106,7 +80,6 @@ returns-5 c =
     let f : SFits w64 (r .kw .0) = search needs in
     rw (c .before .before .before .before .before .before .command5 .given .1, c .unsigned .ensures, toZ-ofZ f)
 
--- src/operand.rt:71:1
 returns-6 : tie.Need-returns-6
 unfolding padded
 returns-6 c = rw (c .enum-told .given .1)

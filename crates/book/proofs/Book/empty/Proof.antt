@@ -1,0 +1,11 @@
+use mathlib.Core.Path.{refl}
+use Rattle.book.specs.Book.{emptyBook}
+use Rattle.book.proofs.Book.empty.Statement.{statement}
+use Rattle.book.proofs.Book.empty.Tie as tie
+
+returns : tie.Need-returns
+unfolding emptyBook
+returns c = refl
+
+pub empty-spec : {M : Type 1} → statement M
+empty-spec = tie.close (tie.spec returns)

@@ -1,0 +1,27 @@
+use borrow.Author.Needs.{needs}
+use mathlib.Core.Bool.{not}
+use mathlib.Core.List.{[], _∷_}
+use lib.Dec.{eqb}
+use Rattle.energy.specs.Lists.{pass}
+use Rattle.book.specs.Sound.{noContractTests, emptyTests}
+use Rattle.book.proofs.Tables.{chain-pass}
+use Rattle.book.proofs.Book.empty_sound.Statement.{statement}
+use Rattle.book.proofs.Book.empty_sound.Tie as tie
+
+is-no-contract-requires : tie.Need-is-no-contract-requires
+is-no-contract-requires c κs = search needs
+
+returns : tie.Need-returns
+unfolding emptyTests pass
+returns c =
+    let b = c .before .before .before .before .before .before .args .self in
+    rw (c .before .before .before .before .is-no-contract .ensures)
+    (chain-pass (pass (noContractTests (b .contract)))
+    (not (b .closed)
+    ∷ eqb (b .nwindows) 0
+    ∷ eqb (b .ninstructions) 0
+    ∷ eqb (b .ndefaults) 0
+    ∷ []))
+
+pub empty-sound-spec : {M : Type 1} → statement M
+empty-sound-spec = tie.close (tie.spec is-no-contract-requires returns)

@@ -1,0 +1,48 @@
+use borrow.Author.Needs.{needs}
+use mathlib.Core.Path.{_≡_, sym, _∙_}
+use mathlib.Core.Bool.{true}
+use borrow.Author.Tests.{not-true, not-false}
+use Rattle.energy.specs.Lists.{pass}
+use Rattle.energy.proofs.Tests.{to-T}
+use Rattle.book.specs.Sound.{tableTests, sound}
+use Rattle.book.proofs.Tested.{tables}
+use Rattle.book.proofs.Book.sound.Statement.{statement}
+use Rattle.book.proofs.Book.sound.Tie as tie
+
+tables-sound-requires : tie.Need-tables-sound-requires
+tables-sound-requires c κs = search needs
+
+returns : tie.Need-returns
+unfolding sound
+returns c = rw (sym (c .before .tables-sound .ensures) ∙ not-true _ (c .if1 .taken))
+
+-- past the first test the tables are in shape
+shaped : (c : tie.Else1) → pass (tableTests (c .before .before .args .self)) ≡ true
+shaped c = sym (c .before .tables-sound .ensures) ∙ not-false _ (c .if1 .left)
+
+agreed-sound-requires : tie.Need-agreed-sound-requires
+agreed-sound-requires c κs =
+    let t = tables (c .before .before .before .args .self) (to-T (shaped (c .before))) in
+    (t .windows, t .instructions, t .defaults)
+
+empty-sound-requires : tie.Need-empty-sound-requires
+empty-sound-requires c κs = search needs
+
+returns-2 : tie.Need-returns-2
+unfolding sound
+returns-2 c = rw (c .agreed-sound .ensures, shaped (c .before .before), c .before .if2 .taken)
+
+returns-3 : tie.Need-returns-3
+unfolding sound
+returns-3 c = rw (c .empty-sound .ensures, shaped (c .before .before), c .before .if2 .left)
+
+pub sound-spec : {M : Type 1} → statement M
+sound-spec =
+    tie.close
+    (tie.spec
+    tables-sound-requires
+    returns
+    agreed-sound-requires
+    empty-sound-requires
+    returns-2
+    returns-3)

@@ -1,0 +1,108 @@
+-- Entering by the refusal's number: what a refused command leaves, what a taken one does, and what is known of one that nothing refuses.
+use mathlib.Core.Path.{_≡_, refl, sym, ap, _∙_, subst}
+use mathlib.Core.Logic.{_≢_}
+use mathlib.Core.Bool.{Bool, true, false, not, _&&_, cond}
+use mathlib.Core.List.{List, [], _∷_}
+use mathlib.Core.Option.{Option, none, some}
+use Prim.Native.Nat.{ℕ, _≤_, _<_}
+use native.Mathlib.Omega.{arith}
+use lib.IntN.{ℤ}
+use lib.Dec.{T, leb, ltb, ltb→lt}
+use lib.ListN.{length, take}
+use lib.Seq.{length-take-le}
+use borrow.Author.Tests.{leb-false, ltb-false, not-false}
+use Rattle.energy.proofs.Tests.{T-and}
+use Rattle.rules.specs.Ledger.{spanOf}
+use Rattle.rules.specs.Refusal.{isReading, from-to, Condition, conditions, lowest, refusal, answerOf}
+use Rattle.rules.specs.Input.{orZero}
+use Rattle.rules.specs.declared.answer.Answer.the-variants.{Taken, Refused}
+use Rattle.rules.specs.declared.contract.Contract.{Contract}
+use Rattle.rules.specs.declared.entries.Window.{Window}
+use Rattle.rules.specs.declared.entries.Instruction.{Instruction}
+use Rattle.rules.specs.declared.entries.Default.{Default}
+use Rattle.rules.specs.declared.entries.Reading.{Reading}
+use Rattle.rules.specs.declared.entries.Command.{Command}
+use Rattle.rules.specs.declared.entries.Command.the-variants.{Contract as contractᶜ, Window as windowᶜ, Instruction as instructionᶜ, Default as defaultᶜ, Reading as readingᶜ}
+use Rattle.rules.proofs.Taken.{Allowed, allowed, clear}
+use Rattle.book.specs.Book.{ledgerIn, putBook, putMeter}
+use Rattle.book.specs.Enter.{enteredBy, enterBook}
+use Rattle.book.specs.Numbers.{refusalOf}
+use Rattle.book.specs.Sound.{sound}
+use Rattle.book.specs.declared.Book.{Book}
+use Rattle.book.proofs.Tested.{sound-tables}
+
+-- ---- numbers and refusals
+
+-- every condition has a number
+abbrev numbered : List Condition → Bool
+numbered [] = true
+numbered (c ∷ cs) = ltb 0 (c .number) && numbered cs
+
+-- where the number is 0 no condition holds
+zero-none : (cs : List Condition) → T (numbered cs) → orZero (lowest cs) ≡ 0 → lowest cs ≡ none
+unfolding lowest
+zero-none [] t e = refl
+zero-none (c ∷ cs) t e = go (c .holds) (λ q. zero-none cs (T-and (ltb 0 (c .number)) (numbered cs) t .1) q) e
+  where
+    go : (b : Bool) → (orZero (lowest cs) ≡ 0 → lowest cs ≡ none) → orZero (elim b as (λ x. Option ℕ) [ true ↦ some (c .number) | false ↦ lowest cs ]) ≡ 0
+        → _≡_ {A = Option ℕ} (elim b as (λ x. Option ℕ) [ true ↦ some (c .number) | false ↦ lowest cs ]) none
+    go true r q = absurd (omega (arith, ltb→lt 0 (c .number) (T-and (ltb 0 (c .number)) (numbered cs) t .0)))
+    go false r q = r q
+
+-- another number is the refusal
+some-number : (o : Option ℕ) (n : ℕ) → n ≡ orZero o → n ≢ 0 → o ≡ some n
+some-number none n e h = absurd (h e)
+some-number (some m) n e h = ap some (sym e)
+
+module _ (b : Book) (meter : List ℤ) (c : Command) (n : ℕ) (e : n ≡ refusalOf b meter c) where
+  unrefused : n ≡ 0 → refusal (not (sound b)) (length meter) (ledgerIn b meter) c ≡ none
+  unfolding refusalOf refusal conditions
+  unrefused z = zero-none (conditions (not (sound b)) (length meter) (ledgerIn b meter) c) tt (sym e ∙ z)
+
+  -- ---- what entering gives
+
+  pub refused-entry : n ≢ 0 → (record { answer = Refused n; book = b } ≡ enterBook b meter c .entry) × (meter ≡ enterBook b meter c .meter)
+  unfolding enterBook refusalOf
+  refused-entry h =
+      let r : refusal (not (sound b)) (length meter) (ledgerIn b meter) c ≡ some n = some-number (refusal (not (sound b)) (length meter) (ledgerIn b meter) c) n e h in
+      (rw r, rw r)
+
+  pub taken-entry : n ≡ 0 → (record { answer = Taken; book = putBook b c } ≡ enterBook b meter c .entry) × (putMeter meter c ≡ enterBook b meter c .meter)
+  unfolding enterBook
+  taken-entry z = (rw (unrefused z), rw (unrefused z))
+
+  -- ---- what is known of a command that nothing refuses
+
+  pub left-sound : n ≡ 0 → sound b ≡ true
+  unfolding refusal conditions
+  left-sound z = not-false (sound b) (clear (conditions (not (sound b)) (length meter) (ledgerIn b meter) c) (unrefused z) .1 .1 .1 .0)
+
+  pub free : n ≡ 0 → Allowed (length meter) (ledgerIn b meter) c
+  free z = allowed (length meter) (ledgerIn b meter) c (subst (λ s. refusal (not s) (length meter) (ledgerIn b meter) c ≡ none) (left-sound z) (unrefused z))
+
+-- a table that is not full has room
+room : {A : Type 0} (l : List A) (n cap : ℕ) → length l ≡ cap → n ≤ cap → leb cap (length (take n l)) ≡ false → n < cap
+room l n cap e h f = leb-false cap n (rw (length-take-le n l (rw e h)) at f)
+
+module _ (b : Book) (meter : List ℤ) (n : ℕ) where
+  pub window-room : (w : Window) → n ≡ refusalOf b meter (windowᶜ w) → n ≡ 0 → length (b .windows) ≡ 128 → b .nwindows < 128
+  unfolding ledgerIn
+  window-room w e z l = room (b .windows) (b .nwindows) 128 l (sound-tables b (left-sound b meter (windowᶜ w) n e z) .windows) (free b meter (windowᶜ w) n e z .room)
+
+  pub instruction-room : (i : Instruction) → n ≡ refusalOf b meter (instructionᶜ i) → n ≡ 0 → length (b .instructions) ≡ 64 → b .ninstructions < 64
+  unfolding ledgerIn
+  instruction-room i e z l = room (b .instructions) (b .ninstructions) 64 l (sound-tables b (left-sound b meter (instructionᶜ i) n e z) .instructions) (free b meter (instructionᶜ i) n e z .room)
+
+  pub default-room : (d : Default) → n ≡ refusalOf b meter (defaultᶜ d) → n ≡ 0 → length (b .defaults) ≡ 128 → b .ndefaults < 128
+  unfolding ledgerIn
+  default-room d e z l = room (b .defaults) (b .ndefaults) 128 l (sound-tables b (left-sound b meter (defaultᶜ d) n e z) .defaults) (free b meter (defaultᶜ d) n e z .room)
+
+  -- meter memory holds a contract's span
+  pub contract-fits : (k : Contract) → n ≡ refusalOf b meter (contractᶜ k) → n ≡ 0 → spanOf k ≤ length meter
+  contract-fits k e z = ltb-false (length meter) (spanOf k) (free b meter (contractᶜ k) n e z .memory)
+
+  -- and a reading's minute
+  pub reading-fits : (r : Reading) → n ≡ refusalOf b meter (readingᶜ r) → n ≡ 0 → (r .minute .0 < length meter) × T (isReading (r .kw .0))
+  reading-fits r e z =
+      let f = free b meter (readingᶜ r) n e z in
+      (omega (arith, leb-false _ (r .minute .0) (f .inside), ltb-false (length meter) _ (f .memory)), T-and (from-to 0 44640 (r .minute .0)) (isReading (r .kw .0)) (f .operands) .1)

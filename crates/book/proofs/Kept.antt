@@ -1,0 +1,72 @@
+-- Entering keeps a sound book sound, whatever the meter memory: so a list of commands needs the test for 11 only once.
+use mathlib.Core.Path.{_≡_, refl, sym, ap, _∙_, subst, subst⁻¹}
+use mathlib.Core.Bool.{Bool, true, false, cond, not, _&&_, true≢false}
+use mathlib.Core.List.{List, [], _∷_}
+use mathlib.Core.Option.{Option, none, some}
+use Prim.Native.Nat.{ℕ, _≤_}
+use native.Mathlib.Omega.{arith}
+use borrow.Author.Tests.{ltb-false}
+use lib.IntN.{ℤ}
+use lib.Dec.{ltb}
+use lib.ListN.{length}
+use Rattle.energy.specs.Lists.{isEmpty}
+use Rattle.rules.specs.Ledger.{Ledger, ledgerOf, contractOf, spanOf}
+use Rattle.rules.specs.Refusal.{refusal, spanFor}
+use Rattle.rules.specs.Reached.{Reached}
+use Rattle.rules.specs.File.{written}
+use Rattle.rules.specs.declared.entries.Command.{Command}
+use Rattle.rules.specs.declared.entries.Command.the-variants.{Contract as contractᶜ, Window as windowᶜ, Instruction as instructionᶜ, Default as defaultᶜ, Reading as readingᶜ, Close as closeᶜ}
+use Rattle.rules.proofs.Taken.{Allowed, allowed}
+use Rattle.rules.proofs.Rewritten.{rewritten}
+use Rattle.book.specs.Book.{ledgerIn}
+use Rattle.book.specs.Sound.{sound, Shaped}
+use Rattle.book.specs.Enter.{enterBook, enteredBy}
+use Rattle.book.specs.declared.Book.{Book}
+use Rattle.book.proofs.Follow.{Follows, follow, contract-is}
+use Rattle.book.proofs.Determined.{empty-contract}
+use Rattle.book.proofs.Left.{book-reached}
+
+-- a sound book follows the commands that it is written as
+pub follows-itself : (b : Book) (meter : List ℤ) → Shaped b → sound b ≡ true → spanOf (b .contract) ≤ length meter
+    → Follows (length meter) (written (ledgerIn b meter)) b meter
+follows-itself b meter s e h =
+    let g : Ledger = ledgerIn b meter in
+    let r : Reached (length meter) g = book-reached b meter (length meter) e h in
+    let same : g ≡ ledgerOf (written g) = sym (rewritten (length meter) g r .same) in
+    record { ledger = same; reached = subst (Reached (length meter)) same r; left = e; shaped = s; memory = refl }
+
+-- meter memory holds the span where a command is taken
+span-held : (b : Book) (meter : List ℤ) (c : Command) → sound b ≡ true → Allowed (length meter) (ledgerIn b meter) c → spanOf (b .contract) ≤ length meter
+span-held b meter c e a = go (b .agreed) refl
+  where
+    under : (c : Command) → b .agreed ≡ true → Allowed (length meter) (ledgerIn b meter) c → spanOf (contractOf (ledgerIn b meter)) ≤ length meter
+    under (contractᶜ k) s a = absurd (second (b .agreed) s (unfold ledgerIn in a .only))
+      where
+        second : (x : Bool) → x ≡ true → (not (isEmpty (cond x (b .contract ∷ []) [])) && true) ≡ false → ⊥
+        second true q h = unfold isEmpty in true≢false h
+        second false q h = true≢false (sym q)
+    under (windowᶜ w) s a = ltb-false (length meter) (spanOf (contractOf (ledgerIn b meter))) (a .memory)
+    under (instructionᶜ i) s a = ltb-false (length meter) (spanOf (contractOf (ledgerIn b meter))) (a .memory)
+    under (defaultᶜ d) s a = ltb-false (length meter) (spanOf (contractOf (ledgerIn b meter))) (a .memory)
+    under (readingᶜ r) s a = ltb-false (length meter) (spanOf (contractOf (ledgerIn b meter))) (a .memory)
+    under closeᶜ s a = ltb-false (length meter) (spanOf (contractOf (ledgerIn b meter))) (a .memory)
+
+    go : (x : Bool) → b .agreed ≡ x → spanOf (b .contract) ≤ length meter
+    go true s = subst (λ k. spanOf k ≤ length meter) (contract-is b meter s) (under c s a)
+    go false s = subst⁻¹ (λ k. spanOf k ≤ length meter) (empty-contract b e s) (omega arith)
+
+-- what entering leaves of a sound book
+pub record Kept (b : Book) : Type 0 where
+  pub left : sound b ≡ true
+  pub shaped : Shaped b
+
+pub kept : (b : Book) (meter : List ℤ) (c : Command) → Kept b → Kept (enterBook b meter c .entry .book)
+unfolding enterBook
+kept b meter c k = go (refusal (not (sound b)) (length meter) (ledgerIn b meter) c) refl
+  where
+    go : (o : Option ℕ) → refusal (not (sound b)) (length meter) (ledgerIn b meter) c ≡ o → Kept (enterBook b meter c .entry .book)
+    go none q =
+        let a : Allowed (length meter) (ledgerIn b meter) c = allowed (length meter) (ledgerIn b meter) c (ap (λ x. refusal (not x) (length meter) (ledgerIn b meter) c) (sym (k .left)) ∙ q) in
+        let f = follow c (follows-itself b meter (k .shaped) (k .left) (span-held b meter c (k .left) a)) in
+        record { left = f .left; shaped = f .shaped }
+    go (some n) q = subst⁻¹ (λ o. Kept (enteredBy o b meter c .entry .book)) q k

@@ -1,0 +1,174 @@
+-- 11 in both directions: the books that a list of commands leaves are the sound ones. A sound book is left by the commands that it is written as.
+use mathlib.Core.Path.{_≡_, refl, sym, ap, _∙_, subst, subst⁻¹}
+use mathlib.Core.Bool.{Bool, true, false, cond, not}
+use mathlib.Core.List.{List, [], _∷_, _++_}
+use mathlib.Core.Option.{Option, none, some, Option·none-ne-some}
+use Prim.Native.Nat.{ℕ, zero, suc, _≤_, _<_}
+use native.Mathlib.Nat.{le-refl}
+use native.Mathlib.Omega.{arith}
+use lib.IntN.{ℤ}
+use lib.Dec.{T, ltb, ltb→lt, eqb→eq}
+use lib.ListN.{length, take, getD, replicate, length-replicate, length-take}
+use Rattle.energy.specs.Lists.{pass}
+use Rattle.energy.proofs.Tests.{to-T, of-T, Passes, passes}
+use Rattle.rules.specs.Ledger.{Ledger, ledgerOf, contractOf, spanOf}
+use Rattle.rules.specs.Refusal.{refusal, isReading, joined, takenAfter, taken}
+use Rattle.rules.specs.Reached.{Reached, untouched, agreed, Untouched, Agreed, agreedTests}
+use Rattle.rules.specs.File.{written}
+use Rattle.rules.specs.Rewritten.{Rewritten}
+use Rattle.rules.specs.declared.entries.Command.{Command}
+use Rattle.rules.proofs.Rewritten.{rewritten}
+use Rattle.book.specs.Book.{emptyBook, ledgerIn, putBook, putMeter, putAll, cell, missing}
+use Rattle.book.specs.Sound.{sound, Shaped, Left, Left·theorem, emptyTests}
+use Rattle.book.specs.declared.Book.{Book}
+use Rattle.book.proofs.Holds.{none-below}
+use Rattle.book.proofs.Follow.{Follows, Tables, contents, sound-parts, contract-is, starts, put-follows}
+use Rattle.book.proofs.Determined.{SameHeld, determined, empty-contract}
+
+-- ---- what commands leave is sound
+
+putAll-snoc : (b : Book) (t : List Command) (c : Command) → putAll b (t ++ (c ∷ [])) ≡ putBook (putAll b t) c
+unfolding putAll
+putAll-snoc b [] c = refl
+putAll-snoc b (x ∷ t) c = putAll-snoc (putBook b x) t c
+
+-- commands taken, put into the empty book, with some meter memory that follows them
+pub record Leads (size : ℕ) (t : List Command) : Type 0 where
+  pub meter : List ℤ
+  pub follows : Follows size t (putAll emptyBook t) meter
+
+leads-on : (size : ℕ) (t cs : List Command) → Leads size t → Leads size (takenAfter size t cs)
+unfolding takenAfter
+leads-on size t [] l = l
+leads-on size t (c ∷ cs) l = leads-on size (joined (refusal false size (ledgerOf t) c) t c) cs (go (refusal false size (ledgerOf t) c) refl)
+  where
+    go : (o : Option ℕ) → refusal false size (ledgerOf t) c ≡ o → Leads size (joined o t c)
+    go none e =
+        record {
+          meter = putMeter (l .meter) c;
+          follows = subst⁻¹ (λ b. Follows size (t ++ (c ∷ [])) b (putMeter (l .meter) c)) (putAll-snoc emptyBook t c) (put-follows (l .follows) c e);
+        }
+    go (some n) e = l
+
+pub leads : (size : ℕ) (cs : List Command) → Leads size (taken size cs)
+unfolding taken putAll
+leads size cs =
+    leads-on size [] cs
+    (record {
+      meter = replicate size missing;
+      follows = subst (λ n. Follows n [] emptyBook (replicate size missing)) (length-replicate size missing) (starts (replicate size missing));
+    })
+
+left-sound : (b : Book) → Left b → T (sound b)
+left-sound b l = subst⁻¹ (λ x. T (sound x)) (l .leaves) (to-T (leads (l .size) (l .commands) .follows .left))
+
+-- ---- the ledger of a sound book is reached
+
+short : {A : Type 0} (n : ℕ) (l : List A) {most : ℕ} → n ≤ most → length (take n l) ≤ most
+short n l {most} h = subst⁻¹ (λ x. x ≤ most) (length-take n l) (omega arith)
+
+-- a reading is in the span and in range
+given : (b : Book) (meter : List ℤ) (m : ℕ) (kw : ℤ) → ledgerIn b meter .reading m ≡ some kw → (m < spanOf (b .contract)) × T (isReading kw)
+unfolding ledgerIn
+given b meter m kw e = in-span (ltb m (spanOf (b .contract))) refl e
+  where
+    in-range : (z : ℤ) (t : Bool) → isReading z ≡ t → cond t (some z) none ≡ some kw → T (isReading kw)
+    in-range z true i h = let same : z ≡ kw = cc in subst (λ x. T (isReading x)) same (to-T i)
+    in-range z false i h = absurd (Option·none-ne-some kw h)
+
+    in-span : (t : Bool) → ltb m (spanOf (b .contract)) ≡ t → cond t (cell (getD meter m missing)) none ≡ some kw → (m < spanOf (b .contract)) × T (isReading kw)
+    in-span true l h = (ltb→lt m (spanOf (b .contract)) (to-T l), in-range (getD meter m missing) (isReading (getD meter m missing)) refl h)
+    in-span false l h = absurd (Option·none-ne-some kw h)
+
+with-contract : (b : Book) (meter : List ℤ) (size : ℕ) → sound b ≡ true → b .agreed ≡ true → spanOf (b .contract) ≤ size → Agreed size (ledgerIn b meter)
+unfolding ledgerIn
+with-contract b meter size e s h =
+    let t : Tables b = sound-parts b e .tables in
+    let k : contractOf (ledgerIn b meter) ≡ b .contract = contract-is b meter s in
+    record {
+      contract = ap (λ x. cond x (b .contract ∷ []) []) s ∙ ap (λ c. c ∷ []) (sym k);
+      tests =
+          subst⁻¹ (λ c. T (pass (agreedTests c (take (b .nwindows) (b .windows)) (take (b .ninstructions) (b .instructions)) (take (b .ndefaults) (b .defaults))))) k
+          (subst (λ x. T (pass (contents b x))) s (sound-parts b e .contents));
+      windows = short (b .nwindows) (b .windows) (t .windows);
+      instructions = short (b .ninstructions) (b .instructions) (t .instructions);
+      defaults = short (b .ndefaults) (b .defaults) (t .defaults);
+      span = subst⁻¹ (λ c. spanOf c ≤ size) k h;
+      readings = λ m kw r. subst⁻¹ (λ c. (m < spanOf c) × T (isReading kw)) k (given b meter m kw r);
+    }
+
+-- what a book without a contract holds
+record Nothing (b : Book) : Type 0 where
+  windows : b .nwindows ≡ 0
+  instructions : b .ninstructions ≡ 0
+  defaults : b .ndefaults ≡ 0
+  notClosed : b .closed ≡ false
+
+holds-nothing : (b : Book) → T (pass (emptyTests b)) → Nothing b
+unfolding emptyTests
+holds-nothing b t =
+    let p = passes (emptyTests b) t in
+    record {
+      windows = eqb→eq (b .nwindows) 0 (p .1 .1 .0);
+      instructions = eqb→eq (b .ninstructions) 0 (p .1 .1 .1 .0);
+      defaults = eqb→eq (b .ndefaults) 0 (p .1 .1 .1 .1 .0);
+      notClosed = off (b .closed) (p .1 .0);
+    }
+  where
+    off : (x : Bool) → T (not x) → x ≡ false
+    off true t = absurd t
+    off false t = refl
+
+without : (b : Book) (meter : List ℤ) → sound b ≡ true → b .agreed ≡ false → Untouched (ledgerIn b meter)
+unfolding ledgerIn
+without b meter e s =
+    let n : Nothing b = holds-nothing b (subst (λ x. T (pass (contents b x))) s (sound-parts b e .contents)) in
+    record {
+      contracts = ap (λ x. cond x (b .contract ∷ []) []) s;
+      windows = ap (λ x. take x (b .windows)) (n .windows);
+      instructions = ap (λ x. take x (b .instructions)) (n .instructions);
+      defaults = ap (λ x. take x (b .defaults)) (n .defaults);
+      notClosed = n .notClosed;
+      readings = λ m. none-below b meter m (ap (λ k. k .days) (empty-contract b e s));
+    }
+
+pub book-reached : (b : Book) (meter : List ℤ) (size : ℕ) → sound b ≡ true → spanOf (b .contract) ≤ size → Reached size (ledgerIn b meter)
+book-reached b meter size e h = go (b .agreed) refl
+  where
+    go : (x : Bool) → b .agreed ≡ x → Reached size (ledgerIn b meter)
+    go true s = agreed (with-contract b meter size e s h)
+    go false s = untouched (without b meter e s)
+
+-- ---- a sound book is left by its own commands
+
+-- books that hold the same ledger are the same
+pub same-book : (b c : Book) (meter after : List ℤ) → Shaped b → Shaped c → sound b ≡ true → sound c ≡ true → ledgerIn b meter ≡ ledgerIn c after → b ≡ c
+unfolding ledgerIn
+same-book b c meter after s s′ e e′ l =
+    determined b c s s′ e e′
+    (record {
+      contracts = ap (λ g. g .contracts) l;
+      windows = ap (λ g. g .windows) l;
+      instructions = ap (λ g. g .instructions) l;
+      defaults = ap (λ g. g .defaults) l;
+      closed = ap (λ g. g .closed) l;
+    })
+
+sound-left : (b : Book) → Shaped b → T (sound b) → Left b
+sound-left b s t =
+    let size : ℕ = spanOf (b .contract) in
+    let e : sound b ≡ true = of-T (sound b) t in
+    let g : Ledger = ledgerIn b [] in
+    let w : Rewritten size g = rewritten size g (book-reached b [] size e (le-refl size)) in
+    let l : Leads size (taken size (written g)) = leads size (written g) in
+    let after : Book = putAll emptyBook (taken size (written g)) in
+    let same : ledgerIn after (l .meter) ≡ g = l .follows .ledger ∙ ap ledgerOf (w .allTaken) ∙ w .same in
+    record {
+      size = size;
+      commands = written g;
+      leaves = same-book b after [] (l .meter) s (l .follows .shaped) e (l .follows .left) (sym same);
+    }
+
+pub left : Left·theorem
+unfolding Left·theorem
+left b s = (λ t. sound-left b s t, λ l. left-sound b l)

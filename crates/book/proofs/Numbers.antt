@@ -1,0 +1,208 @@
+-- Refusals as numbers: the lowest condition that holds, test by test, and what is known where none does.
+use mathlib.Core.Path.{_≡_, refl, sym, ap, ap₂, _∙_}
+use mathlib.Core.Logic.{_≢_}
+use mathlib.Core.Bool.{Bool, true, false, not, _&&_, cond, false≢true}
+use mathlib.Core.List.{List, [], _∷_}
+use mathlib.Core.Option.{Option, none, some}
+use Prim.Native.Nat.{ℕ, zero, suc, _≤_}
+use native.Mathlib.Omega.{arith}
+use lib.IntN.{ℤ}
+use lib.Dec.{T, eqb, leb, ltb}
+use lib.ListN.{length, getD, drop, take}
+use lib.Seq.{length-take-le}
+use borrow.Author.Tests.{ne-eqb}
+use Rattle.energy.specs.Lists.{any, first, isEmpty, isSome, last}
+use Rattle.rules.specs.Command.{onContract, always}
+use Rattle.rules.specs.Ledger.{contractOf, noContract, isContract, spanOf, expiry, endOf, within}
+use Rattle.rules.specs.Refusal.{isReading, inRange, rampTooLong, badWindow, spanFor, recovered, Condition, conditions, lowest, refusal}
+use Rattle.rules.specs.Input.{inputRefusal, orZero}
+use Rattle.rules.specs.declared.contract.Contract.{Contract}
+use Rattle.rules.specs.declared.entries.Window.{Window}
+use Rattle.rules.specs.declared.entries.Instruction.{Instruction}
+use Rattle.rules.specs.declared.entries.Default.{Default}
+use Rattle.rules.specs.declared.entries.Reading.{Reading}
+use Rattle.rules.specs.declared.entries.Command.{Command}
+use Rattle.rules.specs.declared.entries.Command.the-variants.{Contract as contractᶜ, Window as windowᶜ, Instruction as instructionᶜ, Default as defaultᶜ, Reading as readingᶜ, Close as closeᶜ}
+use Rattle.rules.proofs.Input.{input-cond}
+use Rattle.book.specs.Book.{noWindow, missing, ledgerIn}
+use Rattle.book.specs.Numbers.{refusalOf, firstNumber}
+use Rattle.book.specs.Sound.{sound}
+use Rattle.book.specs.declared.Book.{Book}
+
+-- ---- from the input
+
+-- no number from the input: no condition of it holds
+pub input-none : (c : Command) → eqb (inputRefusal c) 0 ≡ (inRange c && (not (rampTooLong c) && not (badWindow c)))
+input-none c = ap (λ n. eqb n 0) (input-cond c) ∙ go (inRange c) (rampTooLong c) (badWindow c)
+  where
+    go : (p q r : Bool) → eqb (cond (not p) 3 (cond q 4 (cond r 5 0))) 0 ≡ (p && (not q && not r))
+    go true true r = refl
+    go true false true = refl
+    go true false false = refl
+    go false q r = refl
+
+-- ---- all conditions
+
+-- the number of the first condition that holds
+unfoldable pub numbers : List Condition → ℕ
+numbers [] = 0
+numbers (c ∷ cs) = cond (c .holds) (c .number) (numbers cs)
+
+pub lowest-number : (cs : List Condition) → orZero (lowest cs) ≡ numbers cs
+unfolding lowest numbers
+lowest-number [] = refl
+lowest-number (c ∷ cs) = go (c .holds) (lowest-number cs)
+  where
+    go : (b : Bool) → orZero (lowest cs) ≡ numbers cs → orZero (elim b as (λ x. Option ℕ) [ true ↦ some (c .number) | false ↦ lowest cs ]) ≡ cond b (c .number) (numbers cs)
+    go true e = refl
+    go false e = e
+
+-- what a command meets in a book after 15
+abbrev pub laterConditions : Book → List ℤ → Command → List Condition
+laterConditions b meter c = drop 8 (conditions (not (sound b)) (length meter) (ledgerIn b meter) c)
+
+-- the number from 3 to 15, of any command to a book
+abbrev pub firstOf : Book → List ℤ → Command → ℕ
+firstOf b meter c =
+    firstNumber (inputRefusal c) (sound b) (b .closed) (b .agreed) (isContract c) (ltb (length meter) (onContract spanOf (always (spanOf (b .contract))) c))
+
+-- the contract that a book holds
+pub contract-held : (b : Book) (meter : List ℤ) → b .agreed ≡ true → contractOf (ledgerIn b meter) ≡ b .contract
+unfolding contractOf ledgerIn first
+contract-held b meter s = ap (λ x. first noContract (cond x (b .contract ∷ []) [])) s
+
+-- the chain of the first eight conditions
+first-eight : (k : Contract) (p q r s z a f t t′ : Bool) (rest : ℕ) → (a ≡ true → t′ ≡ t) → (f ≡ true → t′ ≡ t)
+    → cond (not p) 3 (cond q 4 (cond r 5 (cond (not s) 11 (cond z 12 (cond (isEmpty (cond a (k ∷ []) []) && not f) 13 (cond (not (isEmpty (cond a (k ∷ []) [])) && f) 14 (cond t′ 15 rest)))))))
+    ≡ cond (eqb (firstNumber (cond (not p) 3 (cond q 4 (cond r 5 0))) s z a f t) 0) rest (firstNumber (cond (not p) 3 (cond q 4 (cond r 5 0))) s z a f t)
+unfolding firstNumber isEmpty
+first-eight k false q r s z a f t t′ rest g h = refl
+first-eight k true true r s z a f t t′ rest g h = refl
+first-eight k true false true s z a f t t′ rest g h = refl
+first-eight k true false false false z a f t t′ rest g h = refl
+first-eight k true false false true true a f t t′ rest g h = refl
+first-eight k true false false true false false false t t′ rest g h = refl
+first-eight k true false false true false true true t t′ rest g h = refl
+first-eight k true false false true false true false true t′ rest g h = rw (g refl)
+first-eight k true false false true false true false false t′ rest g h = rw (g refl)
+first-eight k true false false true false false true true t′ rest g h = rw (h refl)
+first-eight k true false false true false false true false t′ rest g h = rw (h refl)
+
+-- the span that 15 asks for is the book's, or a contract's own
+span-asked : (b : Book) (meter : List ℤ) (c : Command) → isContract c ≡ true → spanFor (ledgerIn b meter) c ≡ onContract spanOf (always (spanOf (b .contract))) c
+span-asked b meter (contractᶜ k) e = refl
+span-asked b meter (windowᶜ w) e = absurd (false≢true e)
+span-asked b meter (instructionᶜ i) e = absurd (false≢true e)
+span-asked b meter (defaultᶜ d) e = absurd (false≢true e)
+span-asked b meter (readingᶜ r) e = absurd (false≢true e)
+span-asked b meter closeᶜ e = absurd (false≢true e)
+
+-- conditions up to 15 come first
+pub by-first : (b : Book) (meter : List ℤ) (c : Command)
+    → refusalOf b meter c ≡ cond (eqb (firstOf b meter c) 0) (numbers (laterConditions b meter c)) (firstOf b meter c)
+unfolding refusalOf refusal conditions numbers ledgerIn
+by-first b meter c =
+    lowest-number (conditions (not (sound b)) (length meter) (ledgerIn b meter) c)
+    ∙ first-eight (b .contract) (inRange c) (rampTooLong c) (badWindow c) (sound b) (b .closed) (b .agreed) (isContract c)
+    (ltb (length meter) (onContract spanOf (always (spanOf (b .contract))) c)) (ltb (length meter) (spanFor (ledgerIn b meter) c)) (numbers (laterConditions b meter c))
+    (λ e. ap (λ k. ltb (length meter) (onContract spanOf (always (spanOf k)) c)) (contract-held b meter e))
+    (λ e. ap (ltb (length meter)) (span-asked b meter c e))
+    ∙ ap (λ n. cond (eqb (firstNumber n (sound b) (b .closed) (b .agreed) (isContract c) (ltb (length meter) (onContract spanOf (always (spanOf (b .contract))) c))) 0) (numbers (laterConditions b meter c)) (firstNumber n (sound b) (b .closed) (b .agreed) (isContract c) (ltb (length meter) (onContract spanOf (always (spanOf (b .contract))) c))))
+    (sym (input-cond c))
+
+-- ---- where no condition up to 15 holds
+
+record Past (input : ℕ) (left closed agreed first short : Bool) : Type 0 where
+  noInput : input ≡ 0
+  leaves : left ≡ true
+  notClosed : closed ≡ false
+  contracted : agreed ≡ not first
+  enough : short ≡ false
+
+past : (input : ℕ) (left closed agreed first short : Bool) → firstNumber input left closed agreed first short ≡ 0 → Past input left closed agreed first short
+unfolding firstNumber
+past zero true false true false false e = record { noInput = refl; leaves = refl; notClosed = refl; contracted = refl; enough = refl }
+past zero true false false true false e = record { noInput = refl; leaves = refl; notClosed = refl; contracted = refl; enough = refl }
+past zero true false true false true e = absurd (omega arith)
+past zero true false false true true e = absurd (omega arith)
+past zero true false true true s e = absurd (omega arith)
+past zero true false false false s e = absurd (omega arith)
+past zero true true a f s e = absurd (omega arith)
+past zero false c a f s e = absurd (omega arith)
+past (suc n) l c a f s e = let q : suc n ≡ 0 = rw (ne-eqb (suc n) 0 (λ h. omega arith)) at e in absurd (omega arith)
+
+-- what is then known of a command to a book
+pub record Late (b : Book) (meter : List ℤ) (c : Command) : Type 0 where
+  pub leaves : sound b ≡ true
+  pub contracted : b .agreed ≡ not (isContract c)
+  pub number : refusalOf b meter c ≡ numbers (laterConditions b meter c)
+
+zero-or : (n : ℕ) → cond (eqb n 0) 0 n ≡ n
+zero-or zero = refl
+zero-or (suc n) = rw (ne-eqb (suc n) 0 (λ h. omega arith))
+
+module _ (b : Book) (meter : List ℤ) (c : Command) where
+  -- a number up to 15 is the refusal
+  pub met-first : (n : ℕ) → n ≡ firstOf b meter c → n ≢ 0 → n ≡ refusalOf b meter c
+  met-first n e h = sym (by-first b meter c ∙ rw (← e, ne-eqb n 0 h))
+
+  -- without one, the conditions after 15 decide
+  pub met-late : (n : ℕ) → n ≡ firstOf b meter c → n ≡ 0 → Late b meter c
+  met-late n e z =
+      let p = past (inputRefusal c) (sound b) (b .closed) (b .agreed) (isContract c) (ltb (length meter) (onContract spanOf (always (spanOf (b .contract))) c)) (sym e ∙ z) in
+      record { leaves = p .leaves; contracted = p .contracted; number = by-first b meter c ∙ rw (sym e ∙ z) }
+
+  -- without such conditions, the number up to 15 does
+  pub met-early : numbers (laterConditions b meter c) ≡ 0 → firstOf b meter c ≡ refusalOf b meter c
+  met-early e = sym (by-first b meter c ∙ rw e (zero-or (firstOf b meter c)))
+
+-- ---- the conditions of a command's own kind, in a book with a contract
+
+read : (a b : Bool) (z : ℤ) → isSome (cond a (cond b (some z) none) none) ≡ (a && b)
+unfolding isSome
+read true true z = refl
+read true false z = refl
+read false b z = refl
+
+module _ (b : Book) (meter : List ℤ) (s : b .agreed ≡ true) where
+  pub window-later : (w : Window) → b .nwindows ≤ length (b .windows)
+      → numbers (laterConditions b meter (windowᶜ w))
+      ≡ cond (ltb (spanOf (b .contract)) (w .end .0)) 16
+      (cond (eqb (b .contract .service) 0 && eqb (w .verdict) 1) 17
+      (cond (ltb (w .start .0) (last noWindow (take (b .nwindows) (b .windows)) .end .0)) 18
+      (cond (leb 128 (b .nwindows)) 23 0)))
+  unfolding numbers conditions ledgerIn
+  window-later w h = rw (contract-held b meter s, length-take-le (b .nwindows) (b .windows) h)
+
+  pub instruction-later : (i : Instruction) → b .ninstructions ≤ length (b .instructions)
+      → numbers (laterConditions b meter (instructionᶜ i))
+      ≡ cond (ltb (spanOf (b .contract)) (endOf (b .contract) i)) 16
+      (cond (ltb (i .cease .0) (expiry (b .contract) i)) 19
+      (cond (ltb (i .issue .0) (recovered (b .contract) (take (b .ninstructions) (b .instructions)))) 20
+      (cond (leb 64 (b .ninstructions)) 23 0)))
+  unfolding numbers conditions ledgerIn
+  instruction-later i h = rw (contract-held b meter s, length-take-le (b .ninstructions) (b .instructions) h)
+
+  pub default-later : (d : Default) → b .ndefaults ≤ length (b .defaults)
+      → numbers (laterConditions b meter (defaultᶜ d))
+      ≡ cond (leb (spanOf (b .contract)) (d .minute .0)) 16
+      (cond (not (any (λ w. within w (d .minute .0)) (take (b .nwindows) (b .windows)))) 21
+      (cond (leb 128 (b .ndefaults)) 23 0))
+  unfolding numbers conditions ledgerIn
+  default-later d h = rw (contract-held b meter s, length-take-le (b .ndefaults) (b .defaults) h)
+
+  pub reading-later : (r : Reading)
+      → numbers (laterConditions b meter (readingᶜ r))
+      ≡ cond (leb (spanOf (b .contract)) (r .minute .0)) 16
+      (cond (ltb (r .minute .0) (spanOf (b .contract)) && isReading (getD meter (r .minute .0) missing)) 22 0)
+  unfolding numbers conditions ledgerIn
+  reading-later r = rw (contract-held b meter s, read (ltb (r .minute .0) (spanOf (b .contract))) (isReading (getD meter (r .minute .0) missing)) (getD meter (r .minute .0) missing))
+
+-- the others have none
+pub contract-later : (b : Book) (meter : List ℤ) (k : Contract) → numbers (laterConditions b meter (contractᶜ k)) ≡ 0
+unfolding numbers conditions
+contract-later b meter k = refl
+
+pub close-later : (b : Book) (meter : List ℤ) → numbers (laterConditions b meter closeᶜ) ≡ 0
+unfolding numbers conditions
+close-later b meter = refl

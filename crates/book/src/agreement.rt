@@ -1,0 +1,56 @@
+// The contract of a book.
+ghost use mathlib.Core.Path.{_≡_};
+ghost use Rattle.rules.specs.Ledger.{spanOf};
+ghost use Rattle.book.specs.Enter.{enterBook};
+ghost use Rattle.book.specs.Numbers.{refusalOf};
+ghost use Rattle.book.specs.Sound.{sound};
+use crate::Book;
+use crate::Entry;
+use crate::meter::mark;
+use crate::refusals::first_number;
+use rules::contract::Contract;
+use rules::entries::Command;
+
+// The minutes of a contract's month.
+pub(crate) fn span_of(k: Contract) -> usize
+    ensures { λ r. ⌜ r ≡ spanOf k ⌝ }
+{
+    1440 * k.days as usize
+}
+
+impl Book {
+    pub fn contract(self, k: Contract, meter: &mut [i32]) -> Entry
+        ensures { λ r. ⌜ (r ≡ enterBook self (now (meter .entry)) (Command.Contract k) .entry) × (now (meter .exit) ≡ enterBook self (now (meter .entry)) (Command.Contract k) .meter) ⌝ }
+    {
+        let left = self.sound();
+        self.enter_contract(left, k, meter)
+    }
+
+    pub(crate) fn enter_contract(mut self, left: bool, k: Contract, meter: &mut [i32]) -> Entry
+        requires { ⌜ left ≡ sound self ⌝ }
+        ensures { λ r. ⌜ (r ≡ enterBook self (now (meter .entry)) (Command.Contract k) .entry) × (now (meter .exit) ≡ enterBook self (now (meter .entry)) (Command.Contract k) .meter) ⌝ }
+    {
+        let number = self.contract_refusal(left, k, meter);
+        if number != 0 {
+            return self.refused(number);
+        }
+        mark(meter, span_of(k));
+        self.agreed = true;
+        self.contract = k;
+        self.taken()
+    }
+
+    fn contract_refusal(self, left: bool, k: Contract, meter: &[i32]) -> u8
+        requires { ⌜ left ≡ sound self ⌝ }
+        ensures { λ r. ⌜ r ≡ refusalOf self (now (meter .entry)) (Command.Contract k) ⌝ }
+    {
+        first_number(
+            k.input_refusal(),
+            left,
+            self.closed,
+            self.agreed,
+            true,
+            meter.len() < span_of(k),
+        )
+    }
+}

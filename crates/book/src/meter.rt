@@ -1,0 +1,93 @@
+// Meter memory: the cells that a contract marks, and the readings.
+ghost use mathlib.Core.Path.{_≡_};
+ghost use mathlib.Core.List.{_++_};
+ghost use Prim.Native.Nat.{_<_, _≤_};
+ghost use lib.Dec.{T};
+ghost use lib.ListN.{length, getD, set, drop, replicate};
+ghost use Rattle.rules.specs.Refusal.{isReading};
+ghost use Rattle.book.specs.Book.{missing};
+ghost use Rattle.book.specs.Enter.{enterBook};
+ghost use Rattle.book.specs.Numbers.{refusalOf};
+ghost use Rattle.book.specs.Sound.{sound};
+use crate::Book;
+use crate::Entry;
+use crate::agreement::span_of;
+use energy::units::Kw;
+use energy::units::Minutes;
+use rules::checks::kw_from_to;
+use rules::checks::pick;
+use rules::contract::Contract;
+use rules::entries::Command;
+use rules::entries::Reading;
+
+impl Book {
+    pub fn reading(self, r: Reading, meter: &mut [i32]) -> Entry
+        ensures { λ e. ⌜ (e ≡ enterBook self (now (meter .entry)) (Command.Reading r) .entry) × (now (meter .exit) ≡ enterBook self (now (meter .entry)) (Command.Reading r) .meter) ⌝ }
+    {
+        let left = self.sound();
+        self.enter_reading(left, r, meter)
+    }
+
+    pub(crate) fn enter_reading(self, left: bool, r: Reading, meter: &mut [i32]) -> Entry
+        requires { ⌜ left ≡ sound self ⌝ }
+        ensures { λ e. ⌜ (e ≡ enterBook self (now (meter .entry)) (Command.Reading r) .entry) × (now (meter .exit) ≡ enterBook self (now (meter .entry)) (Command.Reading r) .meter) ⌝ }
+    {
+        let number = self.reading_refusal(left, r, meter);
+        if number != 0 {
+            return self.refused(number);
+        }
+        put_reading(r, meter);
+        self.taken()
+    }
+
+    fn reading_refusal(self, left: bool, r: Reading, meter: &[i32]) -> u8
+        requires { ⌜ left ≡ sound self ⌝ }
+        ensures { λ n. ⌜ n ≡ refusalOf self (now (meter .entry)) (Command.Reading r) ⌝ }
+    {
+        let first = self.first_refusal(left, r.input_refusal(), meter);
+        if first != 0 {
+            return first;
+        }
+        let k = self.contract;
+        let span = span_of(k);
+        let minute = r.minute;
+        let at = minute.0 as usize;
+        let held = cell(meter, minute);
+        let read = kw_from_to(Contract::READING_LEAST, Contract::READING_MOST, held);
+        let r22 = pick((at < span) & read, 22, 0);
+        pick(span <= at, 16, r22)
+    }
+}
+
+// The cell of a minute; past the end it counts as marked.
+fn cell(meter: &[i32], m: Minutes) -> Kw
+    ensures { λ r. ⌜ r .0 ≡ getD (now (meter .entry)) (m .0) missing ⌝ }
+{
+    let at = m.0 as usize;
+    if at < meter.len() {
+        Kw(meter[at] as i64)
+    } else {
+        Kw(Contract::NO_READING as i64)
+    }
+}
+
+// Marks the first n cells as minutes without a reading.
+pub(crate) fn mark(meter: &mut [i32], n: usize)
+    requires { ⌜ n ≤ length (now meter) ⌝ }
+    ensures { λ _. ⌜ now (meter .exit) ≡ replicate n missing ++ drop n (now (meter .entry)) ⌝ }
+{
+    let mut i = 0;
+    while i < n {
+        meter[i] = Contract::NO_READING;
+        i += 1;
+    }
+}
+
+// Puts a reading into its minute's cell.
+pub(crate) fn put_reading(r: Reading, meter: &mut [i32])
+    requires { ⌜ (r .minute .0 < length (now meter)) × T (isReading (r .kw .0)) ⌝ }
+    ensures { λ _. ⌜ now (meter .exit) ≡ set (now (meter .entry)) (r .minute .0) (r .kw .0) ⌝ }
+{
+    let at = r.minute.0 as usize;
+    meter[at] = r.kw.0 as i32;
+}

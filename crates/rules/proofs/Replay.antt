@@ -1,0 +1,218 @@
+-- Commands that are all taken one after the other, and what they leave: in general, and for the tables under a contract.
+use mathlib.Core.Path.{_≡_, refl, sym, ap, _∙_, subst}
+use mathlib.Core.Bool.{Bool, false, not, _&&_}
+use mathlib.Core.List.{List, [], _∷_, _++_, map, append-nil}
+use mathlib.Core.Option.{Option, none}
+use Prim.Native.Nat.{ℕ, _+_, _≤_, _<_}
+use native.Mathlib.Omega.{arith}
+use borrow.Author.Tests.{le-ltb, lt-leb}
+use lib.Dec.{T, eqb, leb, ltb, leb→le, ltb→lt}
+use lib.IntN.{ℤ}
+use lib.ListN.{length, length-append}
+use lib.Seq.{append-snoc}
+use Rattle.energy.specs.Lists.{all, any, concatMap, first, isEmpty, later}
+use Rattle.energy.proofs.Tests.{T-and, of-T}
+use Rattle.rules.specs.Ledger.{Ledger, ledgerOf, contractOf, spanOf, expiry, endOf, within, readingOf}
+use Rattle.rules.specs.Refusal.{conditions, lowest, refusal, inRange, rampTooLong, badWindow, joined, takenAfter}
+use Rattle.rules.specs.Reached.{windowsSound, instructionsSound, defaultSound}
+use Rattle.rules.specs.declared.contract.Contract.{Contract}
+use Rattle.rules.specs.declared.entries.Window.{Window}
+use Rattle.rules.specs.declared.entries.Instruction.{Instruction}
+use Rattle.rules.specs.declared.entries.Default.{Default}
+use Rattle.rules.specs.declared.entries.Command.{Command}
+use Rattle.rules.specs.declared.entries.Command.the-variants.{Contract as contractᶜ, Window as windowᶜ, Instruction as instructionᶜ, Default as defaultᶜ}
+use Rattle.rules.proofs.Chain.{apart, not-on}
+use Rattle.rules.proofs.Taken.{grown, ledgerOf-snoc}
+use Rattle.rules.proofs.Tables.{lastEnd, last-end, ready, ready-recovered}
+
+-- ---- commands that are all taken
+
+-- each command is taken after those before it
+unfoldable pub Accepted : ℕ → Ledger → List Command → Type 0
+Accepted size g [] = Unit {0}
+Accepted size g (c ∷ cs) = (refusal false size g c ≡ none) × Accepted size (grown g c) cs
+
+-- taken after t, whose ledger that is, they all join it
+pub all-taken : (size : ℕ) (t cs : List Command) → Accepted size (ledgerOf t) cs → takenAfter size t cs ≡ t ++ cs
+unfolding Accepted takenAfter
+all-taken size t [] h = sym (append-nil t)
+all-taken size t (c ∷ cs) h =
+    ap (λ r. takenAfter size (joined r t c) cs) (h .0) ∙ all-taken size (t ++ (c ∷ [])) cs (rw ledgerOf-snoc (h .1)) ∙ append-snoc t c cs
+
+-- what they leave
+unfoldable pub grownAll : Ledger → List Command → Ledger
+grownAll g [] = g
+grownAll g (c ∷ cs) = grownAll (grown g c) cs
+
+-- it is the ledger of t and them
+pub ledger-grown : (t cs : List Command) → ledgerOf (t ++ cs) ≡ grownAll (ledgerOf t) cs
+unfolding grownAll
+ledger-grown t [] = ap ledgerOf (append-nil t)
+ledger-grown t (c ∷ cs) = ap ledgerOf (sym (append-snoc t c cs)) ∙ ledger-grown (t ++ (c ∷ [])) cs ∙ ap (λ g. grownAll g cs) (ledgerOf-snoc t c)
+
+-- commands that are all taken from g and leave h
+pub record Replays (size : ℕ) (g : Ledger) (cs : List Command) (h : Ledger) : Type 0 where
+  pub accepted : Accepted size g cs
+  pub leaves : grownAll g cs ≡ h
+
+pub replay-none : {size : ℕ} {g h : Ledger} → g ≡ h → Replays size g [] h
+unfolding Accepted grownAll
+replay-none e = record { accepted = tt; leaves = e }
+
+pub replay-cons : {size : ℕ} {g h j : Ledger} {c : Command} {cs : List Command} → refusal false size g c ≡ none → grown g c ≡ h → Replays size h cs j
+    → Replays size g (c ∷ cs) j
+unfolding Accepted grownAll
+replay-cons {size} {cs = cs} taken e r =
+    record { accepted = (taken, subst (λ x. Accepted size x cs) (sym e) (r .accepted)); leaves = ap (λ x. grownAll x cs) e ∙ r .leaves }
+
+pub replay-append : {size : ℕ} {g h j : Ledger} {xs ys : List Command} → Replays size g xs h → Replays size h ys j → Replays size g (xs ++ ys) j
+unfolding Accepted grownAll
+replay-append {size} {g} {h} {j} {xs} {ys} p q = go g xs (p .accepted) (p .leaves)
+  where
+    go : (g : Ledger) (xs : List Command) → Accepted size g xs → grownAll g xs ≡ h → Replays size g (xs ++ ys) j
+    go g [] a e = subst (λ x. Replays size x ys j) (sym e) q
+    go g (x ∷ xs) a e = replay-cons (a .0) refl (go (grown g x) xs (a .1) e)
+
+-- ---- a table
+
+-- entries of a kind that each go to the end of their table, where it has room and what comes next could be taken after what it holds
+module _ {A : Type 0} (size room : ℕ) (command : A → Command) (holding : List A → Ledger) (Next : List A → List A → Type 0)
+    (grows : (xs : List A) (x : A) → grown (holding xs) (command x) ≡ holding (xs ++ (x ∷ [])))
+    (takes : (xs : List A) (x : A) (rest : List A) → Next xs (x ∷ rest) → length xs < room
+    → (refusal false size (holding xs) (command x) ≡ none) × Next (xs ++ (x ∷ [])) rest) where
+  table-replay : (xs rest : List A) → Next xs rest → length xs + length rest ≤ room → Replays size (holding xs) (map command rest) (holding (xs ++ rest))
+  table-replay xs [] n l = replay-none (ap holding (sym (append-nil xs)))
+  table-replay xs (x ∷ rest) n l =
+      let t = takes xs x rest n (omega arith) in
+      replay-cons (t .0) (grows xs x)
+      (subst (λ ys. Replays size (holding (xs ++ (x ∷ []))) (map command rest) (holding ys)) (append-snoc xs x rest)
+      (table-replay (xs ++ (x ∷ [])) rest (t .1) (omega (arith, length-append xs (x ∷ [])))))
+
+-- ---- under a contract
+
+-- what has been entered under a contract
+abbrev pub held : Contract → List Window → List Instruction → List Default → Bool → (ℕ → Option ℤ) → Ledger
+held k ws is ds z f = record { contracts = k ∷ []; windows = ws; instructions = is; defaults = ds; closed = z; reading = f }
+
+-- no reading in any minute
+abbrev pub unread : ℕ → Option ℤ
+unread m = none
+
+-- the end of the last window, and when the next instruction may be issued, with one entry more
+last-added : (e : ℕ) (ws : List Window) (w : Window) → lastEnd e (ws ++ (w ∷ [])) ≡ w .end .0
+unfolding lastEnd
+last-added e [] w = refl
+last-added e (x ∷ ws) w = last-added (x .end .0) ws w
+
+ready-added : (k : Contract) (e : ℕ) (is : List Instruction) (i : Instruction) → ready k e (is ++ (i ∷ [])) ≡ endOf k i + k .recovery .0
+unfolding ready
+ready-added k e [] i = refl
+ready-added k e (x ∷ is) i = ready-added k (endOf k x + k .recovery .0) is i
+
+module _ (size : ℕ) (k : Contract) (fit : spanOf k ≤ size) where
+  contract-taken : T (inRange (contractᶜ k)) → T (not (rampTooLong (contractᶜ k))) → refusal false size (ledgerOf []) (contractᶜ k) ≡ none
+  unfolding refusal conditions lowest isEmpty ledgerOf concatMap any
+  contract-taken t s = rw (of-T (inRange (contractᶜ k)) t, not-on (rampTooLong (contractᶜ k)) s, le-ltb size (spanOf k) fit)
+
+  -- the contract of an untouched ledger
+  pub contract-replay : T (inRange (contractᶜ k)) → T (not (rampTooLong (contractᶜ k)))
+      → Replays size (ledgerOf []) (contractᶜ k ∷ []) (held k [] [] [] false unread)
+  unfolding ledgerOf concatMap any readingOf later
+  contract-replay t s = replay-cons (contract-taken t s) refl (replay-none refl)
+
+  -- a window that could be taken next is taken, and leaves the rest so
+  window-taken : (ws : List Window) (w : Window) (rest : List Window) → T (windowsSound k (lastEnd 0 ws) (w ∷ rest)) → length ws < 128
+      → (refusal false size (held k ws [] [] false unread) (windowᶜ w) ≡ none) × T (windowsSound k (lastEnd 0 (ws ++ (w ∷ []))) rest)
+  unfolding refusal conditions lowest contractOf first isEmpty windowsSound
+  window-taken ws w rest t l =
+      let rejected : Bool = eqb (k .service) 0 && eqb (w .verdict) 1 in
+      let p = apart (inRange (windowᶜ w))
+      (not (badWindow (windowᶜ w))
+      ∷ leb (w .end .0) (spanOf k)
+      ∷ not rejected
+      ∷ leb (lastEnd 0 ws) (w .start .0)
+      ∷ windowsSound k (w .end .0) rest
+      ∷ [])
+      t in (
+        rw (
+          of-T (inRange (windowᶜ w)) (p .0),
+          not-on (badWindow (windowᶜ w)) (p .1 .0),
+          le-ltb size (spanOf k) fit,
+          le-ltb (spanOf k) (w .end .0) (leb→le (w .end .0) (spanOf k) (p .1 .1 .0)),
+          not-on rejected (p .1 .1 .1 .0),
+          last-end (record { start = record { 0 = 0 }; end = record { 0 = 0 }; verdict = 0 }) ws,
+          le-ltb (w .start .0) (lastEnd 0 ws) (leb→le (lastEnd 0 ws) (w .start .0) (p .1 .1 .1 .1 .0)),
+          lt-leb 128 (length ws) l,
+        ),
+        subst (λ e. T (windowsSound k e rest)) (sym (last-added 0 ws w)) (p .1 .1 .1 .1 .1 .0),
+      )
+
+  -- all windows
+  pub windows-replay : (ws : List Window) → T (windowsSound k 0 ws) → length ws ≤ 128
+      → Replays size (held k [] [] [] false unread) (map windowᶜ ws) (held k ws [] [] false unread)
+  unfolding lastEnd later
+  windows-replay ws t l =
+      table-replay size 128 windowᶜ (λ ws. held k ws [] [] false unread) (λ ws rest. T (windowsSound k (lastEnd 0 ws) rest)) (λ ws w. refl) window-taken
+      [] ws t (omega arith)
+
+  -- an instruction
+  instruction-taken : (ws : List Window) (is : List Instruction) (i : Instruction) (rest : List Instruction)
+      → T (instructionsSound k (ready k 0 is) (i ∷ rest)) → length is < 64
+      → (refusal false size (held k ws is [] false unread) (instructionᶜ i) ≡ none) × T (instructionsSound k (ready k 0 (is ++ (i ∷ []))) rest)
+  unfolding refusal conditions lowest contractOf first isEmpty instructionsSound
+  instruction-taken ws is i rest t l =
+      let p = apart (inRange (instructionᶜ i))
+      (leb (endOf k i) (spanOf k)
+      ∷ leb (expiry k i) (i .cease .0)
+      ∷ leb (ready k 0 is) (i .issue .0)
+      ∷ instructionsSound k (endOf k i + k .recovery .0) rest
+      ∷ [])
+      t in (
+        rw (
+          of-T (inRange (instructionᶜ i)) (p .0),
+          le-ltb size (spanOf k) fit,
+          le-ltb (spanOf k) (endOf k i) (leb→le (endOf k i) (spanOf k) (p .1 .0)),
+          le-ltb (i .cease .0) (expiry k i) (leb→le (expiry k i) (i .cease .0) (p .1 .1 .0)),
+          sym (ready-recovered k is),
+          le-ltb (i .issue .0) (ready k 0 is) (leb→le (ready k 0 is) (i .issue .0) (p .1 .1 .1 .0)),
+          lt-leb 64 (length is) l,
+        ),
+        subst (λ e. T (instructionsSound k e rest)) (sym (ready-added k 0 is i)) (p .1 .1 .1 .1 .0),
+      )
+
+  -- all instructions
+  pub instructions-replay : (ws : List Window) (is : List Instruction) → T (instructionsSound k 0 is) → length is ≤ 64
+      → Replays size (held k ws [] [] false unread) (map instructionᶜ is) (held k ws is [] false unread)
+  unfolding ready later
+  instructions-replay ws is t l =
+      table-replay size 64 instructionᶜ (λ is. held k ws is [] false unread) (λ is rest. T (instructionsSound k (ready k 0 is) rest))
+      (λ is i j. held k (append-nil ws j) (is ++ (i ∷ [])) [] false unread) (instruction-taken ws)
+      [] is t (omega arith)
+
+  -- a default
+  default-taken : (ws : List Window) (is : List Instruction) (ds : List Default) (d : Default) (rest : List Default)
+      → T (all (defaultSound k ws) (d ∷ rest)) → length ds < 128
+      → (refusal false size (held k ws is ds false unread) (defaultᶜ d) ≡ none) × T (all (defaultSound k ws) rest)
+  unfolding refusal conditions lowest contractOf first isEmpty all
+  default-taken ws is ds d rest t l =
+      let q = T-and (defaultSound k ws d) (all (defaultSound k ws) rest) t in
+      let windowed : Bool = any (λ w. within w (d .minute .0)) ws in
+      let p = apart (inRange (defaultᶜ d)) (ltb (d .minute .0) (spanOf k) ∷ windowed ∷ []) (q .0) in (
+        rw (
+          of-T (inRange (defaultᶜ d)) (p .0),
+          le-ltb size (spanOf k) fit,
+          lt-leb (spanOf k) (d .minute .0) (ltb→lt (d .minute .0) (spanOf k) (p .1 .0)),
+          of-T windowed (p .1 .1 .0),
+          lt-leb 128 (length ds) l,
+        ),
+        q .1,
+      )
+
+  -- all defaults
+  pub defaults-replay : (ws : List Window) (is : List Instruction) (ds : List Default) → T (all (defaultSound k ws) ds) → length ds ≤ 128
+      → Replays size (held k ws is [] false unread) (map defaultᶜ ds) (held k ws is ds false unread)
+  unfolding later
+  defaults-replay ws is ds t l =
+      table-replay size 128 defaultᶜ (λ ds. held k ws is ds false unread) (λ ds rest. T (all (defaultSound k ws) rest))
+      (λ ds d j. held k (append-nil ws j) (append-nil is j) (ds ++ (d ∷ [])) false unread) (default-taken ws is)
+      [] ds t (omega arith)

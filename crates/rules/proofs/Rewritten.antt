@@ -1,0 +1,193 @@
+-- A ledger that commands leave is left again by the commands that it is written as: the contract and the tables, then each reading in its turn, then the close.
+use mathlib.Core.Path.{_≡_, refl, sym, ap, _∙_, subst, fun-ext}
+use mathlib.Core.Bool.{Bool, true, false, cond}
+use mathlib.Core.List.{List, [], _∷_, _++_, append-nil}
+use mathlib.Core.Option.{Option, none, some}
+use Prim.Native.Nat.{ℕ, zero, suc, _+_, _-_, _≤_, _<_}
+use native.Mathlib.Decide.{ℕ-discrete}
+use native.Mathlib.Nat.{le-refl}
+use native.Mathlib.Omega.{arith}
+use borrow.Author.Tests.{lt-ltb, le-ltb, le-leb, lt-leb, eq-eqb, ne-eqb, ltb-true, ltb-false}
+use lib.Dec.{T, eqb, ltb}
+use lib.IntN.{ℤ}
+use Rattle.energy.specs.Lists.{all, any, between, concatMap, first, isEmpty, isSome, later, run}
+use Rattle.energy.proofs.Tests.{and-T, of-T}
+use Rattle.rules.specs.Ledger.{Ledger, ledgerOf, contractOf, spanOf, readingOf}
+use Rattle.rules.specs.Refusal.{conditions, isReading, lowest, refusal, taken}
+use Rattle.rules.specs.Reached.{Untouched, Agreed, Reached}
+use Rattle.rules.specs.Reached.Reached.{untouched, agreed}
+use Rattle.rules.specs.File.{readingAt, written, fileOf, commandsIn}
+use Rattle.rules.specs.Reread.{sayable}
+use Rattle.rules.specs.Rewritten.{Rewritten·theorem}
+use Rattle.rules.specs.declared.contract.Contract.{Contract}
+use Rattle.rules.specs.declared.entries.Command.{Command}
+use Rattle.rules.specs.declared.entries.Command.the-variants.{Close as closeᶜ}
+use Rattle.rules.proofs.Terms.{Terms}
+use Rattle.rules.proofs.Taken.{later-none, grown, allowed}
+use Rattle.rules.proofs.Reached.{Parts, parts-of, terms-of}
+use Rattle.rules.proofs.Reread.{reread}
+use Rattle.rules.proofs.Replay.{Accepted, all-taken, ledger-grown, Replays, replay-none, replay-cons, replay-append, held, unread, contract-replay, windows-replay, instructions-replay, defaults-replay}
+
+-- ---- readings before a minute
+
+-- the readings of f before minute a
+abbrev before : (ℕ → Option ℤ) → ℕ → ℕ → Option ℤ
+before f a m = cond (ltb m a) (f m) none
+
+-- with the reading of minute a, those before the next minute
+with-next : (f : ℕ → Option ℤ) (a : ℕ) (o : Option ℤ) → f a ≡ o → (m : ℕ) → later (before f a m) (cond (eqb a m) o none) ≡ before f (suc a) m
+unfolding later
+with-next f a o h m = go (ltb m a) refl (ℕ-discrete a m)
+  where
+    go : (b : Bool) → ltb m a ≡ b → Dec (a ≡ m) → later (cond b (f m) none) (cond (eqb a m) o none) ≡ before f (suc a) m
+    go true e d = let l : m < a = ltb-true m a e in rw (ne-eqb a m (λ q. omega arith), lt-ltb m (suc a) (omega arith))
+    go false e (yes q) = rw (eq-eqb a m q, lt-ltb m (suc a) (omega arith)) (later-none o ∙ sym h ∙ ap f q)
+    go false e (no q) = let l : a ≤ m = ltb-false m a e in rw (ne-eqb a m q, le-ltb m (suc a) (omega (arith, q)))
+
+-- no reading adds nothing
+with-none : (o : Option ℤ) (b : Bool) → o ≡ later o (cond b none none)
+unfolding later
+with-none o true = refl
+with-none o false = refl
+
+-- ---- a ledger under a contract
+
+-- the contract and tables of g
+abbrev tablesOf : Ledger → Bool → (ℕ → Option ℤ) → Ledger
+tablesOf g z f = held (contractOf g) (g .windows) (g .instructions) (g .defaults) z f
+
+-- an entry in none of the tables leaves them
+tables-kept : (g : Ledger) (z : Bool) {f f′ : ℕ → Option ℤ} → ((m : ℕ) → f m ≡ f′ m)
+    → held (contractOf g) (g .windows ++ []) (g .instructions ++ []) (g .defaults ++ []) z f ≡ tablesOf g z f′
+tables-kept g z e j =
+    held (contractOf g) (append-nil (g .windows) j) (append-nil (g .instructions) j) (append-nil (g .defaults) j) z (λ m. e m j)
+
+module _ {size : ℕ} {g : Ledger} (a : Agreed size g) where
+  -- the reading of a minute, if it has one
+  minute-replay : (m : ℕ)
+      → Replays size (tablesOf g false (before (g .reading) m)) (readingAt (g .reading m) m) (tablesOf g false (before (g .reading) (suc m)))
+  unfolding refusal conditions lowest contractOf first isEmpty isSome later
+  minute-replay m = go (g .reading m) refl
+    where
+      f : ℕ → Option ℤ
+      f = g .reading
+
+      k : Contract
+      k = contractOf g
+
+      go : (o : Option ℤ) → f m ≡ o → Replays size (tablesOf g false (before f m)) (readingAt o m) (tablesOf g false (before f (suc m)))
+      go none e = replay-none (ap (tablesOf g false) (fun-ext (λ n. with-none (before f m n) (eqb m n) ∙ with-next f m none e n)))
+      go (some kw) e =
+          let t : Terms k = terms-of a in
+          let r = a .readings m kw e in
+          let l : m < spanOf k = r .0 in
+          replay-cons
+          (rw (
+            le-leb 0 m (omega arith),
+            le-leb m 44640 (omega arith),
+            of-T (isReading kw) (r .1),
+            le-ltb size (spanOf k) (a .span),
+            lt-leb (spanOf k) m l,
+            le-ltb m m (le-refl m),
+          ))
+          (tables-kept g false (with-next f m (some kw) e))
+          (replay-none refl)
+
+  run-replay : (n m b : ℕ) → m + n ≡ b
+      → Replays size (tablesOf g false (before (g .reading) m)) (concatMap (λ m. readingAt (g .reading m) m) (run m n)) (tablesOf g false (before (g .reading) b))
+  unfolding concatMap run
+  run-replay zero m b e = let q : m ≡ b = omega arith in replay-none (ap (λ x. tablesOf g false (before (g .reading) x)) q)
+  run-replay (suc n) m b e = replay-append (minute-replay m) (run-replay n (suc m) b (omega arith))
+
+  -- every reading is in the span
+  all-before : (m : ℕ) → before (g .reading) (spanOf (contractOf g)) m ≡ g .reading m
+  all-before m = go (ltb m (spanOf (contractOf g))) refl (g .reading m) refl
+    where
+      go : (b : Bool) → ltb m (spanOf (contractOf g)) ≡ b → (o : Option ℤ) → g .reading m ≡ o → cond b o none ≡ o
+      go true e o q = refl
+      go false e none q = refl
+      go false e (some kw) q = absurd (omega (arith, a .readings m kw q .0, ltb-false m (spanOf (contractOf g)) e))
+
+  -- the readings
+  readings-replay : Replays size (tablesOf g false unread) (concatMap (λ m. readingAt (g .reading m) m) (between 0 (spanOf (contractOf g)))) (tablesOf g false (g .reading))
+  unfolding between
+  readings-replay =
+      let n : ℕ = spanOf (contractOf g) in
+      let start : before (g .reading) 0 ≡ unread = fun-ext (λ m. ap (λ b. cond b (g .reading m) none) (le-ltb m 0 (omega arith))) in
+      let end : before (g .reading) n ≡ g .reading = fun-ext all-before in
+      rw (start, end) at (run-replay (n - 0) 0 n (omega arith))
+
+  -- the close
+  close-replay : (z : Bool) → Replays size (tablesOf g false (g .reading)) (cond z (closeᶜ ∷ []) []) (tablesOf g z (g .reading))
+  unfolding refusal conditions lowest contractOf first isEmpty later
+  close-replay false = replay-none refl
+  close-replay true = replay-cons (rw (le-ltb size (spanOf (contractOf g)) (a .span))) (tables-kept g true (λ m. refl)) (replay-none refl)
+
+  -- g is its contract and tables, its close and its readings
+  whole : tablesOf g (g .closed) (g .reading) ≡ g
+  whole j =
+      record {
+        contracts = sym (a .contract) j;
+        windows = g .windows;
+        instructions = g .instructions;
+        defaults = g .defaults;
+        closed = g .closed;
+        reading = g .reading;
+      }
+
+  -- all that it is written as
+  agreed-replay : Replays size (ledgerOf []) (written g) g
+  unfolding written contractOf first
+  agreed-replay =
+      let k : Contract = contractOf g in
+      let p : Parts k (g .windows) (g .instructions) (g .defaults) = parts-of a in
+      let contract = contract-replay size k (a .span) (p .operands) (p .ramps) in
+      let windows = windows-replay size k (a .span) (g .windows) (p .windows) (a .windows) in
+      let instructions = instructions-replay size k (a .span) (g .windows) (g .instructions) (p .instructions) (a .instructions) in
+      let defaults = defaults-replay size k (a .span) (g .windows) (g .instructions) (g .defaults) (p .defaults) (a .defaults) in
+      subst (λ h. Replays size (ledgerOf []) (written h) h) whole
+      (replay-append (replay-append (replay-append (replay-append (replay-append contract windows) instructions) defaults) readings-replay) (close-replay (g .closed)))
+
+-- ---- an untouched ledger
+
+nothing : {g : Ledger} → Untouched g → ledgerOf [] ≡ g
+unfolding ledgerOf concatMap any readingOf
+nothing u j =
+    record {
+      contracts = sym (u .contracts) j;
+      windows = sym (u .windows) j;
+      instructions = sym (u .instructions) j;
+      defaults = sym (u .defaults) j;
+      closed = sym (u .notClosed) j;
+      reading = λ m. sym (u .readings m) j;
+    }
+
+untouched-replay : (size : ℕ) {g : Ledger} → Untouched g → Replays size (ledgerOf []) (written g) g
+unfolding written ledgerOf concatMap any contractOf first between run
+untouched-replay size u = subst (λ h. Replays size (ledgerOf []) (written h) h) (nothing u) (replay-none refl)
+
+-- ---- every ledger that commands leave
+
+pub written-replay : (size : ℕ) (g : Ledger) → Reached size g → Replays size (ledgerOf []) (written g) g
+written-replay size g (untouched u) = untouched-replay size u
+written-replay size g (agreed a) = agreed-replay a
+
+pub rewritten : Rewritten·theorem
+unfolding taken
+rewritten size g r =
+    let p = written-replay size g r in
+    record { allTaken = all-taken size [] (written g) (p .accepted); same = ledger-grown [] (written g) ∙ p .leaves }
+
+-- ---- in bytes
+
+-- commands that are all taken are in range, so that bytes can say them
+pub accepted-sayable : (size : ℕ) (g : Ledger) (cs : List Command) → Accepted size g cs → T (all sayable cs)
+unfolding Accepted all
+accepted-sayable size g [] h = tt
+accepted-sayable size g (c ∷ cs) h =
+    and-T (sayable c) (all sayable cs) (reread .ranged c (allowed size g c (h .0) .operands)) (accepted-sayable size (grown g c) cs (h .1))
+
+-- the file that a ledger is written as has its commands
+pub file-commands : (size : ℕ) (g : Ledger) → Reached size g → commandsIn (fileOf g) ≡ written g
+unfolding fileOf
+file-commands size g r = reread .file (written g) (accepted-sayable size (ledgerOf []) (written g) (written-replay size g r .accepted))

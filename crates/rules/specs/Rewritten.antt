@@ -1,0 +1,18 @@
+-- "The book": what the rules leave is left again by the commands that it is written as.
+use mathlib.Core.Path.{_≡_}
+use Prim.Native.Nat.{ℕ}
+use Rattle.rules.specs.Ledger.{Ledger, ledgerOf}
+use Rattle.rules.specs.Refusal.{taken}
+use Rattle.rules.specs.Reached.{Reached}
+use Rattle.rules.specs.File.{written}
+
+-- entered from nothing, with meter memory of this size, the commands that g is written as
+pub record Rewritten (size : ℕ) (g : Ledger) : Type 0 where
+  -- are all taken
+  pub allTaken : taken size (written g) ≡ written g
+  -- and leave g
+  pub same : ledgerOf (written g) ≡ g
+
+-- so it is of every ledger that commands can leave
+abbrev pub Rewritten·theorem : Type 0
+Rewritten·theorem = (size : ℕ) (g : Ledger) → Reached size g → Rewritten size g

@@ -1,0 +1,86 @@
+-- A turn of the loop over a file: what is left of the file after it, and that the loop ends.
+use mathlib.Core.Path.{_≡_, refl, sym, ap, _∙_}
+use mathlib.Core.Bool.{Bool, true, false, true≢false, false≢true}
+use mathlib.Core.List.{List}
+use Prim.Native.Nat.{ℕ, _≤_, _<_}
+use lib.IntN.{ℤ}
+use lib.ListN.{length}
+use Rattle.rules.specs.File.{readAt}
+use Rattle.rules.specs.declared.entries.Command.{Command}
+use Rattle.rules.specs.declared.answer.Answer.{Answer}
+use Rattle.rules.specs.declared.answer.Answer.the-variants.{Taken, Refused}
+use Rattle.rules.specs.declared.file.Read.{Read}
+use Rattle.rules.specs.declared.file.Read.the-variants.{Got, End}
+use Rattle.rules.specs.declared.file.Read.the-variants.{Refused as refusedʳ}
+use Rattle.book.specs.Enter.{enterBook, Entered}
+use Rattle.book.specs.declared.Book.{Book}
+use Rattle.book.proofs.Kept.{Kept, kept}
+use Rattle.unitfile.proofs.Steps.{got-within}
+use Rattle.stor.specs.Files.{LoadedFile, carriesOn, loadsOn}
+use Rattle.stor.specs.Turn.{Turned, turnsOn, turnBy, turnAt}
+use Rattle.stor.specs.declared.file.Loaded.{Loaded}
+use Rattle.stor.specs.declared.file.Turn.{Turn}
+use Rattle.stor.proofs.Pieces.{from, from-step}
+
+-- what is left of a file: the commands from a position on while the loop goes on, and what it ended with when it does not
+abbrev pub rest : List ℕ → Bool → Loaded → List ℤ → LoadedFile
+rest s true l meter = from s (l .at) (l .book) meter
+rest s false l meter = record { loaded = l; meter = meter }
+
+module _ (s : List ℕ) (at : ℕ) (b : Book) (meter : List ℤ) where
+  -- the turn and its rest are what was left before it
+  pub turn-rest : from s at b meter ≡ rest s (turnAt s at b meter .turn .going) (turnAt s at b meter .turn .loaded) (turnAt s at b meter .meter)
+  unfolding turnAt
+  turn-rest = from-step s at b meter ∙ go (readAt s at)
+    where
+      answered : (next : ℕ) (a : Answer) (e : Entered) → carriesOn (λ b m. from s next b m) at a e ≡ rest s (turnsOn at next a e .turn .going) (turnsOn at next a e .turn .loaded) (turnsOn at next a e .meter)
+      answered next Taken e = refl
+      answered next (Refused n) e = refl
+
+      go : (r : Read) → loadsOn (λ next b m. from s next b m) at b meter r ≡ rest s (turnBy at b meter r .turn .going) (turnBy at b meter r .turn .loaded) (turnBy at b meter r .meter)
+      go (Got c next) = answered next (enterBook b meter c .entry .answer) (enterBook b meter c)
+      go (refusedʳ n) = refl
+      go End = refl
+
+  -- where it goes on, it has moved within the file
+  pub turn-moves : turnAt s at b meter .turn .going ≡ true → (at < turnAt s at b meter .turn .loaded .at) × (turnAt s at b meter .turn .loaded .at ≤ length s)
+  unfolding turnAt
+  turn-moves = go (readAt s at) refl
+    where
+      answered : (next : ℕ) (a : Answer) (e : Entered) → (at < next) × (next ≤ length s) → turnsOn at next a e .turn .going ≡ true
+          → (at < turnsOn at next a e .turn .loaded .at) × (turnsOn at next a e .turn .loaded .at ≤ length s)
+      answered next Taken e h g = h
+      answered next (Refused n) e h g = absurd (false≢true g)
+
+      go : (r : Read) → readAt s at ≡ r → turnBy at b meter r .turn .going ≡ true → (at < turnBy at b meter r .turn .loaded .at) × (turnBy at b meter r .turn .loaded .at ≤ length s)
+      go (Got c next) e g = answered next (enterBook b meter c .entry .answer) (enterBook b meter c) (got-within s at e) g
+      go (refusedʳ n) e g = absurd (false≢true g)
+      go End e g = absurd (false≢true g)
+
+  -- where it does not, it stands where it stood
+  pub turn-stays : turnAt s at b meter .turn .going ≡ false → turnAt s at b meter .turn .loaded .at ≡ at
+  unfolding turnAt
+  turn-stays = go (readAt s at)
+    where
+      answered : (next : ℕ) (a : Answer) (e : Entered) → turnsOn at next a e .turn .going ≡ false → turnsOn at next a e .turn .loaded .at ≡ at
+      answered next Taken e g = absurd (true≢false g)
+      answered next (Refused n) e g = refl
+
+      go : (r : Read) → turnBy at b meter r .turn .going ≡ false → turnBy at b meter r .turn .loaded .at ≡ at
+      go (Got c next) g = answered next (enterBook b meter c .entry .answer) (enterBook b meter c) g
+      go (refusedʳ n) g = refl
+      go End g = refl
+
+  -- the book stays sound
+  pub turn-keeps : Kept b → Kept (turnAt s at b meter .turn .loaded .book)
+  unfolding turnAt
+  turn-keeps k = go (readAt s at)
+    where
+      answered : (next : ℕ) (a : Answer) (e : Entered) → Kept (e .entry .book) → Kept (turnsOn at next a e .turn .loaded .book)
+      answered next Taken e k = k
+      answered next (Refused n) e k = k
+
+      go : (r : Read) → Kept (turnBy at b meter r .turn .loaded .book)
+      go (Got c next) = answered next (enterBook b meter c .entry .answer) (enterBook b meter c) (kept b meter c k)
+      go (refusedʳ n) = k
+      go End = k
