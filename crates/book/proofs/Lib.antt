@@ -2,7 +2,6 @@ pub mod Holds
 pub mod Follow
 pub mod Determined
 pub mod Left
-pub mod Kept
 pub mod Tables
 pub mod Search
 pub mod Cells
@@ -10,3 +9,4 @@ pub mod Numbers
 pub mod Walks
 pub mod Tested
 pub mod Entered
+pub mod Kept

@@ -23,6 +23,11 @@ operands-append (w ∷ ws) s t h =
     let first : w ≤ length s = omega arith in
     rw (take-append-le w s t, drop-append-le w s t, operands-append ws (drop w s) t (rw length-drop (omega arith)))
 
+-- what a file may say where its first bytes, so many, are short of a command: 2 still, or a command that ends after them
+pub data More (size : ℕ) : Read → Type 0 where
+  short-still : More size (Refused 2)
+  ends-later : {c : Command} {next : ℕ} → size < next → More size (Got c next)
+
 module _ (p q : List ℕ) (at : ℕ) where
   same-byte : at < length p → getD (p ++ q) at 0 ≡ getD p at 0
   same-byte h = List·getD-append p q 0 at h
@@ -48,21 +53,17 @@ module _ (p q : List ℕ) (at : ℕ) where
   pub piece-unknown : readAt p at ≡ Refused 1 → readAt (p ++ q) at ≡ Refused 1
   piece-unknown e = found-reads (kept-unknown (found-at e))
 
-  -- 2 in a piece: in the file it is 2 still, or a command that ends after the piece
-  pub data More : Read → Type 0 where
-    short-still : More (Refused 2)
-    ends-later : {c : Command} {next : ℕ} → length p < next → More (Got c next)
-
-  more : {r : Read} → Found p at (Refused 2) → Found (p ++ q) at r → More r
+  -- 2 in a piece asks for more bytes
+  more : {r : Read} → Found p at (Refused 2) → Found (p ++ q) at r → More (length p) r
   more (short h e k) (ended i) = absurd (omega (arith, length-append p q))
   more (short h e k) (unknown i f) = let z : _≡_ {A = ℕ} 0 1 = cc (same-byte h) in absurd (omega arith)
   more (short h e k) (short i f l) = short-still
   more (short {ws} h e k) (whole {ws = vs} i f l) = let same : ws ≡ vs = cc (same-byte h) in ends-later {next = at + (1 + total vs)} (omega (arith, ap total same))
 
-  pub piece-short : readAt p at ≡ Refused 2 → More (readAt (p ++ q) at)
+  pub piece-short : readAt p at ≡ Refused 2 → More (length p) (readAt (p ++ q) at)
   piece-short e = more (found-at e) (found (p ++ q) at)
 
-  -- an end in a piece: the piece has no byte there
+  -- and so does an end: the piece has no byte there
   pub piece-end : readAt p at ≡ End → length p ≤ at
   piece-end e = go (found-at e)
     where

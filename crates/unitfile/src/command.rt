@@ -1,4 +1,9 @@
-// Commands and their operands, each from the other.
+// Commands from their operands.
+use crate::table::CONTRACT_BYTE;
+use crate::table::DEFAULT_BYTE;
+use crate::table::INSTRUCTION_BYTE;
+use crate::table::READING_BYTE;
+use crate::table::WINDOW_BYTE;
 use energy::units::Kw;
 use energy::units::Minutes;
 use rules::contract::Contract;
@@ -26,6 +31,7 @@ fn signed(number: u64) -> i64
     }
 }
 
+// Each entry from its operands, in the table's order.
 fn contract_of(v: [u64; 11]) -> Contract
     requires { ⌜ Sized 0x43 v ⌝ }
     ensures { λ r. ⌜ contractᶜ r ≡ commandOf 0x43 v ⌝ }
@@ -97,17 +103,17 @@ fn reading_of(v: [u64; 11]) -> Reading
     }
 }
 
-// The command of a byte of the table, from its operands. The one byte of the table that is left to the range is 5A, a close.
+// The command of a byte of the table. Of the table's bytes only that of a close is left to the range.
 pub fn command_of(byte: u8, v: [u64; 11]) -> Command
     requires { ⌜ Sized byte v ⌝ }
     ensures { λ r. ⌜ r ≡ commandOf byte v ⌝ }
 {
     match byte {
-        0x43 => Command::Contract(contract_of(v)),
-        0x57 => Command::Window(window_of(v)),
-        0x49 => Command::Instruction(instruction_of(v)),
-        0x44 => Command::Default(default_of(v)),
-        0x4D => Command::Reading(reading_of(v)),
+        CONTRACT_BYTE => Command::Contract(contract_of(v)),
+        WINDOW_BYTE => Command::Window(window_of(v)),
+        INSTRUCTION_BYTE => Command::Instruction(instruction_of(v)),
+        DEFAULT_BYTE => Command::Default(default_of(v)),
+        READING_BYTE => Command::Reading(reading_of(v)),
         0x00..=0xFF => Command::Close,
     }
 }

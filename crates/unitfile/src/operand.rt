@@ -1,7 +1,14 @@
 // The operands of a command, as numbers without a sign.
+use crate::table::CLOSE_BYTE;
+use crate::table::CONTRACT_BYTE;
+use crate::table::DEFAULT_BYTE;
+use crate::table::INSTRUCTION_BYTE;
+use crate::table::READING_BYTE;
+use crate::table::WINDOW_BYTE;
 use rules::contract::Contract;
 use rules::entries::Command;
 ghost use mathlib.Core.Path.{_≡_};
+ghost use mathlib.Core.List.{[], _∷_};
 ghost use lib.IntN.{natAbs};
 ghost use Rattle.rules.specs.File.{byteOf, operandsOf, unsignedOf};
 ghost use Rattle.rules.specs.declared.entries.Command.the-variants.{Contract as contractᶜ};
@@ -12,12 +19,12 @@ pub fn byte_of(command: Command) -> u8
     ensures { λ r. ⌜ r ≡ byteOf command ⌝ }
 {
     match command {
-        Command::Contract(_) => 0x43,
-        Command::Window(_) => 0x57,
-        Command::Instruction(_) => 0x49,
-        Command::Default(_) => 0x44,
-        Command::Reading(_) => 0x4D,
-        Command::Close => 0x5A,
+        Command::Contract(_) => CONTRACT_BYTE,
+        Command::Window(_) => WINDOW_BYTE,
+        Command::Instruction(_) => INSTRUCTION_BYTE,
+        Command::Default(_) => DEFAULT_BYTE,
+        Command::Reading(_) => READING_BYTE,
+        Command::Close => CLOSE_BYTE,
     }
 }
 
@@ -66,7 +73,14 @@ fn contract_operands(k: Contract) -> [u64; 11]
     ]
 }
 
-// The operands of a command, in their order, and zeros after them.
+// Up to three operands, and zeros after them.
+fn places(a: u64, b: u64, c: u64) -> [u64; 11]
+    ensures { λ r. ⌜ r ≡ padded (a ∷ b ∷ c ∷ []) ⌝ }
+{
+    [a, b, c, 0, 0, 0, 0, 0, 0, 0, 0]
+}
+
+// The operands of a command, in the table's order, and zeros after them.
 pub fn operands_of(command: Command) -> [u64; 11]
     ensures { λ r. ⌜ r ≡ padded (operandsOf command) ⌝ }
 {
@@ -75,46 +89,22 @@ pub fn operands_of(command: Command) -> [u64; 11]
         Command::Window(w) => {
             let start = w.start;
             let end = w.end;
-            [
-                start.0 as u64,
-                end.0 as u64,
-                w.verdict as u64,
-                0,
-                0,
-                0,
-                0,
-                0,
-                0,
-                0,
-                0,
-            ]
+            places(start.0 as u64, end.0 as u64, w.verdict as u64)
         }
         Command::Instruction(i) => {
             let issue = i.issue;
             let cease = i.cease;
-            [issue.0 as u64, cease.0 as u64, 0, 0, 0, 0, 0, 0, 0, 0, 0]
+            places(issue.0 as u64, cease.0 as u64, 0)
         }
         Command::Default(d) => {
             let minute = d.minute;
-            [
-                minute.0 as u64,
-                d.kind as u64,
-                d.reach as u64,
-                0,
-                0,
-                0,
-                0,
-                0,
-                0,
-                0,
-                0,
-            ]
+            places(minute.0 as u64, d.kind as u64, d.reach as u64)
         }
         Command::Reading(r) => {
             let minute = r.minute;
             let kw = r.kw;
-            [minute.0 as u64, unsigned(kw.0), 0, 0, 0, 0, 0, 0, 0, 0, 0]
+            places(minute.0 as u64, unsigned(kw.0), 0)
         }
-        Command::Close => [0u64; 11],
+        Command::Close => places(0, 0, 0),
     }
 }

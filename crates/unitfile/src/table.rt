@@ -3,6 +3,18 @@ ghost use mathlib.Core.Path.{_≡_};
 ghost use Prim.Native.Nat.{_<_};
 ghost use Rattle.unitfile.specs.Table.{rowOf, layoutAt, rowFor};
 
+pub const CONTRACT_BYTE: u8 = 0x43;
+
+pub const WINDOW_BYTE: u8 = 0x57;
+
+pub const INSTRUCTION_BYTE: u8 = 0x49;
+
+pub const DEFAULT_BYTE: u8 = 0x44;
+
+pub const READING_BYTE: u8 = 0x4D;
+
+pub const CLOSE_BYTE: u8 = 0x5A;
+
 // A command in the table.
 pub struct Row {
     pub byte: u8,
@@ -13,47 +25,46 @@ pub struct Row {
     pub widths: [u8; 11],
 }
 
-// Contract, window, instruction, default, reading, close.
 const TABLE: [Row; 6] = [
     Row {
-        byte: 0x43,
+        byte: CONTRACT_BYTE,
         length: 32,
         count: 11,
         widths: [1, 1, 1, 4, 4, 4, 2, 2, 4, 4, 4],
     },
     Row {
-        byte: 0x57,
+        byte: WINDOW_BYTE,
         length: 6,
         count: 3,
         widths: [2, 2, 1, 0, 0, 0, 0, 0, 0, 0, 0],
     },
     Row {
-        byte: 0x49,
+        byte: INSTRUCTION_BYTE,
         length: 5,
         count: 2,
         widths: [2, 2, 0, 0, 0, 0, 0, 0, 0, 0, 0],
     },
     Row {
-        byte: 0x44,
+        byte: DEFAULT_BYTE,
         length: 5,
         count: 3,
         widths: [2, 1, 1, 0, 0, 0, 0, 0, 0, 0, 0],
     },
     Row {
-        byte: 0x4D,
+        byte: READING_BYTE,
         length: 7,
         count: 2,
         widths: [2, 4, 0, 0, 0, 0, 0, 0, 0, 0, 0],
     },
     Row {
-        byte: 0x5A,
+        byte: CLOSE_BYTE,
         length: 1,
         count: 0,
         widths: [0, 0, 0, 0, 0, 0, 0, 0, 0, 0, 0],
     },
 ];
 
-// The row of a byte that the table lacks: no command is that short.
+// The row of a byte that the table lacks: no command has length 0.
 const MISSING: Row = Row {
     byte: 0,
     length: 0,

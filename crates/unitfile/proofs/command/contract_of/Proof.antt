@@ -1,3 +1,4 @@
+-- `command::contract_of` meets its contract: each operand fits its field, by its width in the table.
 use native.Mathlib.Nat.{lt-trans}
 use lib.Dec.{lit<}
 use lib.ListN.{getD}

@@ -1,3 +1,4 @@
+-- `command::reading_of` meets its contract: each operand fits its field, by its width in the table.
 use borrow.Author.Needs.{needs}
 use mir.Syntax.{w64}
 use mir.Facts.{toZ-ofZ}

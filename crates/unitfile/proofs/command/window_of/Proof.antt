@@ -1,3 +1,4 @@
+-- `command::window_of` meets its contract: each operand fits its field, by its width in the table.
 use mathlib.Core.Path.{refl}
 use borrow.Author.Needs.{needs}
 use Rattle.energy.specs.Lists.{else}

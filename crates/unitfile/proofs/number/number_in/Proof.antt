@@ -1,5 +1,5 @@
 -- `number::number_in` meets its contract: the number is what the bytes passed so far say.
-use mathlib.Core.Path.{_≡_, _∙_, ap}
+use mathlib.Core.Path.{_≡_, sym, _∙_, ap}
 use Prim.Native.Nat.{_+_, _^_, _<_}
 use native.Mathlib.Nat.{lt-of-lt-of-le, pow-le-pow-right}
 use native.Mathlib.Omega.{arith}
@@ -54,7 +54,7 @@ loop-again : tie.Need-loop-again Inv-loop μ-loop
 loop-again c =
     let l = c .before .before .before .loop in
     let more = word-more (c .before .before .before .before .before .args .bytes .now) (l .i) (omega arith) in
-    (omega arith, cc)
+    (omega arith, rw (l .inv .1, c .wide .ensures .0) (sym more))
 
 returns : tie.Need-returns Inv-loop μ-loop
 returns c = c .before .loop .inv .1 ∙ ap (wordFrom 0) (take-all (c .before .loop .i) (c .before .before .before .args .bytes .now) (omega arith))

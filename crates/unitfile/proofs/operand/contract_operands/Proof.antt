@@ -1,3 +1,4 @@
+-- `operand::contract_operands` meets its contract.
 use mir.Syntax.{w64}
 use mir.Val.{SFits}
 use mir.Facts.{toZ-ofZ}
