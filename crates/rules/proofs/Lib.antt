@@ -5,10 +5,10 @@ pub mod Terms
 pub mod Taken
 pub mod Tables
 pub mod Reached
-pub mod Partition
 pub mod Replay
 pub mod Cuts
 pub mod Count
+pub mod Partition
 pub mod Rising
 pub mod Steady
 pub mod LineBound
