@@ -3,21 +3,20 @@ use mathlib.Core.Path.{_≡_, refl, sym, ap, ap₂, _∙_, subst}
 use mathlib.Core.Bool.{Bool, true, false, cond, not, _&&_, true≢false, false≢true}
 use mathlib.Core.List.{List, [], _∷_, _++_}
 use Prim.Native.Nat.{ℕ, _-_, _≤_}
-use lib.IntN.{ℤ, pos, negsuc}
 use lib.Dec.{T, eqb, eqb→eq}
 use lib.ListN.{length, take, drop, replicate, length-drop, take-append-drop}
 use lib.Seq.{length-take-le}
-use Rattle.energy.specs.Lists.{all, pass, isEmpty}
-use Rattle.energy.proofs.Tests.{T-and, Passes, passes}
-use Rattle.rules.specs.Ledger.{noContract}
+use Rattle.energy.specs.Lists.{all, isEmpty}
+use Rattle.energy.proofs.Tests.{T-and}
 use Rattle.rules.specs.declared.contract.Contract.{Contract}
 use Rattle.rules.specs.declared.entries.Window.{Window}
 use Rattle.rules.specs.declared.entries.Instruction.{Instruction}
 use Rattle.rules.specs.declared.entries.Default.{Default}
 use Rattle.book.specs.Book.{noWindow, noInstruction, noDefault}
-use Rattle.book.specs.Sound.{sound, Shaped, isNoWindow, isNoInstruction, isNoDefault, isZero, noContractTests, emptyTests}
+use Rattle.book.specs.Sound.{sound, Shaped, isNoWindow, isNoInstruction, isNoDefault}
 use Rattle.book.specs.declared.Book.{Book}
-use Rattle.book.proofs.Follow.{Tables, contents, sound-parts}
+use Rattle.book.proofs.Tested.{Tables, sound-parts}
+pub use Rattle.book.proofs.Tested.{empty-contract}
 
 -- ---- a table is fixed by its entries in use
 
@@ -62,27 +61,6 @@ no-default d t i =
       reach = eqb→eq (d .reach) 0 (q .1) i;
     }
 
-zero-is : (x : ℤ) → T (isZero x) → x ≡ pos 0
-zero-is (pos n) t = ap pos (eqb→eq n 0 t)
-zero-is (negsuc n) t = absurd t
-
-no-contract : (k : Contract) → Passes (noContractTests k) → k ≡ noContract
-unfolding noContractTests
-no-contract k t i =
-    record {
-      days = eqb→eq (k .days) 0 (t .0) i;
-      kind = eqb→eq (k .kind) 0 (t .1 .0) i;
-      service = eqb→eq (k .service) 0 (t .1 .1 .0) i;
-      contracted = record { 0 = zero-is (k .contracted .0) (t .1 .1 .1 .0) i };
-      rampup = eqb→eq (k .rampup) 0 (t .1 .1 .1 .1 .0) i;
-      rampdown = eqb→eq (k .rampdown) 0 (t .1 .1 .1 .1 .1 .0) i;
-      response = record { 0 = eqb→eq (k .response .0) 0 (t .1 .1 .1 .1 .1 .1 .0) i };
-      recovery = record { 0 = eqb→eq (k .recovery .0) 0 (t .1 .1 .1 .1 .1 .1 .1 .0) i };
-      availability = eqb→eq (k .availability) 0 (t .1 .1 .1 .1 .1 .1 .1 .1 .0) i;
-      utilisation = eqb→eq (k .utilisation) 0 (t .1 .1 .1 .1 .1 .1 .1 .1 .1 .0) i;
-      optional = eqb→eq (k .optional) 0 (t .1 .1 .1 .1 .1 .1 .1 .1 .1 .1 .0) i;
-    }
-
 -- ---- a book is fixed by what it holds
 
 -- two books hold the same, meter memory apart
@@ -102,11 +80,6 @@ agreed-same true true k k′ e = refl
 agreed-same true false k k′ e = ap not (ap isEmpty e)
 agreed-same false true k k′ e = ap not (ap isEmpty e)
 agreed-same false false k k′ e = refl
-
--- a book without a contract has zeros for one
-pub empty-contract : (b : Book) → sound b ≡ true → b .agreed ≡ false → b .contract ≡ noContract
-unfolding emptyTests
-empty-contract b e q = no-contract (b .contract) (passes (noContractTests (b .contract)) (passes (emptyTests b) (subst (λ x. T (pass (contents b x))) q (sound-parts b e .contents)) .0))
 
 pub determined : (b b′ : Book) → Shaped b → Shaped b′ → sound b ≡ true → sound b′ ≡ true → SameHeld b b′ → b ≡ b′
 determined b b′ s s′ e e′ h =

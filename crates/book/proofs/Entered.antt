@@ -1,19 +1,18 @@
 -- Entering by the refusal's number: what a refused command leaves, what a taken one does, and what is known of one that nothing refuses.
 use mathlib.Core.Path.{_≡_, refl, sym, ap, _∙_, subst}
 use mathlib.Core.Logic.{_≢_}
-use mathlib.Core.Bool.{Bool, true, false, not, _&&_, cond}
+use mathlib.Core.Bool.{Bool, true, false, not, _&&_}
 use mathlib.Core.List.{List, [], _∷_}
 use mathlib.Core.Option.{Option, none, some}
 use Prim.Native.Nat.{ℕ, _≤_, _<_}
 use native.Mathlib.Omega.{arith}
 use lib.IntN.{ℤ}
-use lib.Dec.{T, leb, ltb, ltb→lt}
-use lib.ListN.{length, take}
-use lib.Seq.{length-take-le}
+use lib.Dec.{T, ltb, ltb→lt}
+use lib.ListN.{length}
 use borrow.Author.Tests.{leb-false, ltb-false, not-false}
 use Rattle.energy.proofs.Tests.{T-and}
 use Rattle.rules.specs.Ledger.{spanOf}
-use Rattle.rules.specs.Refusal.{isReading, from-to, Condition, conditions, lowest, refusal, answerOf}
+use Rattle.rules.specs.Refusal.{isReading, from-to, Condition, conditions, lowest, refusal}
 use Rattle.rules.specs.Input.{orZero}
 use Rattle.rules.specs.declared.answer.Answer.the-variants.{Taken, Refused}
 use Rattle.rules.specs.declared.contract.Contract.{Contract}
@@ -25,11 +24,12 @@ use Rattle.rules.specs.declared.entries.Command.{Command}
 use Rattle.rules.specs.declared.entries.Command.the-variants.{Contract as contractᶜ, Window as windowᶜ, Instruction as instructionᶜ, Default as defaultᶜ, Reading as readingᶜ}
 use Rattle.rules.proofs.Taken.{Allowed, allowed, clear}
 use Rattle.book.specs.Book.{ledgerIn, putBook, putMeter}
-use Rattle.book.specs.Enter.{enteredBy, enterBook}
+use Rattle.book.specs.Enter.{enterBook}
 use Rattle.book.specs.Numbers.{refusalOf}
 use Rattle.book.specs.Sound.{sound}
 use Rattle.book.specs.declared.Book.{Book}
-use Rattle.book.proofs.Tested.{sound-tables}
+use Rattle.book.proofs.Tables.{has-room}
+use Rattle.book.proofs.Tested.{sound-parts}
 
 -- ---- numbers and refusals
 
@@ -80,22 +80,18 @@ module _ (b : Book) (meter : List ℤ) (c : Command) (n : ℕ) (e : n ≡ refusa
   pub free : n ≡ 0 → Allowed (length meter) (ledgerIn b meter) c
   free z = allowed (length meter) (ledgerIn b meter) c (subst (λ s. refusal (not s) (length meter) (ledgerIn b meter) c ≡ none) (left-sound z) (unrefused z))
 
--- a table that is not full has room
-room : {A : Type 0} (l : List A) (n cap : ℕ) → length l ≡ cap → n ≤ cap → leb cap (length (take n l)) ≡ false → n < cap
-room l n cap e h f = leb-false cap n (rw (length-take-le n l (rw e h)) at f)
-
 module _ (b : Book) (meter : List ℤ) (n : ℕ) where
   pub window-room : (w : Window) → n ≡ refusalOf b meter (windowᶜ w) → n ≡ 0 → length (b .windows) ≡ 128 → b .nwindows < 128
   unfolding ledgerIn
-  window-room w e z l = room (b .windows) (b .nwindows) 128 l (sound-tables b (left-sound b meter (windowᶜ w) n e z) .windows) (free b meter (windowᶜ w) n e z .room)
+  window-room w e z l = has-room (b .windows) (b .nwindows) 128 l (sound-parts b (left-sound b meter (windowᶜ w) n e z) .tables .windows) (free b meter (windowᶜ w) n e z .room)
 
   pub instruction-room : (i : Instruction) → n ≡ refusalOf b meter (instructionᶜ i) → n ≡ 0 → length (b .instructions) ≡ 64 → b .ninstructions < 64
   unfolding ledgerIn
-  instruction-room i e z l = room (b .instructions) (b .ninstructions) 64 l (sound-tables b (left-sound b meter (instructionᶜ i) n e z) .instructions) (free b meter (instructionᶜ i) n e z .room)
+  instruction-room i e z l = has-room (b .instructions) (b .ninstructions) 64 l (sound-parts b (left-sound b meter (instructionᶜ i) n e z) .tables .instructions) (free b meter (instructionᶜ i) n e z .room)
 
   pub default-room : (d : Default) → n ≡ refusalOf b meter (defaultᶜ d) → n ≡ 0 → length (b .defaults) ≡ 128 → b .ndefaults < 128
   unfolding ledgerIn
-  default-room d e z l = room (b .defaults) (b .ndefaults) 128 l (sound-tables b (left-sound b meter (defaultᶜ d) n e z) .defaults) (free b meter (defaultᶜ d) n e z .room)
+  default-room d e z l = has-room (b .defaults) (b .ndefaults) 128 l (sound-parts b (left-sound b meter (defaultᶜ d) n e z) .tables .defaults) (free b meter (defaultᶜ d) n e z .room)
 
   -- meter memory holds a contract's span
   pub contract-fits : (k : Contract) → n ≡ refusalOf b meter (contractᶜ k) → n ≡ 0 → spanOf k ≤ length meter

@@ -7,16 +7,16 @@ use mathlib.Core.Option.{Option, none, some}
 use Prim.Native.Nat.{ℕ, suc, _+_, _-_, _≤_, _<_}
 use native.Mathlib.Numerals.{add-one}
 use native.Mathlib.Omega.{arith}
-use borrow.Author.Tests.{leb-true, leb-false, ltb-false, eqb-true, le-leb}
+use borrow.Author.Tests.{leb-false, ltb-false}
 use lib.IntN.{ℤ}
-use lib.Dec.{T, leb, ltb, leb→le, leb·suc-zero, eqb→eq}
+use lib.Dec.{T, leb, leb·suc-zero}
 use lib.ListN.{length, take, drop, set, getD, replicate, length-set, length-append, length-drop, length-replicate}
-use lib.Seq.{drop-cons, drop-set-lt, length-take-le}
-use Rattle.energy.specs.Lists.{all, any, pass, first, isEmpty, concatMap}
-use Rattle.energy.proofs.Tests.{to-T, of-T, T-and, and-T, Passes, passes, passed}
-use Rattle.rules.specs.Ledger.{Ledger, ledgerOf, noContract, contractOf, spanOf, readingOf}
+use lib.Seq.{drop-cons, drop-set-lt}
+use Rattle.energy.specs.Lists.{all, any, pass, isEmpty, concatMap}
+use Rattle.energy.proofs.Tests.{T-and}
+use Rattle.rules.specs.Ledger.{Ledger, ledgerOf, contractOf, spanOf, readingOf}
 use Rattle.rules.specs.Refusal.{refusal, from-to, isReading, joined, answerOf}
-use Rattle.rules.specs.Reached.{Reached, untouched, agreed, Untouched, Agreed, agreedTests}
+use Rattle.rules.specs.Reached.{Reached, untouched, agreed, agreedTests}
 use Rattle.rules.specs.declared.contract.Contract.{Contract}
 use Rattle.rules.specs.declared.entries.Window.{Window}
 use Rattle.rules.specs.declared.entries.Instruction.{Instruction}
@@ -29,72 +29,14 @@ use Rattle.rules.proofs.Taken.{grown, ledgerOf-snoc, Allowed, allowed}
 use Rattle.rules.proofs.FileLength.{span-fits}
 use Rattle.book.specs.Book.{emptyBook, ledgerIn, putBook, putMeter, cell, missing}
 use Rattle.book.specs.Sound.{sound, Shaped, tableTests, emptyTests, noContractTests, isNoWindow, isNoInstruction, isNoDefault}
-use Rattle.book.specs.Enter.{enterBook, enteredBy, Entered}
+use Rattle.book.specs.Enter.{enterBook, enteredBy}
 use Rattle.book.specs.declared.Book.{Book}
+use Rattle.book.proofs.Tables.{has-room}
+use Rattle.book.proofs.Tested.{Tables, contents, sound-parts, is-sound, empty-contract}
+pub use Rattle.book.proofs.Tested.{contract-is}
 use Rattle.book.proofs.Holds.{holds-contract, holds-window, holds-instruction, holds-default, holds-reading, holds-close}
 
--- ---- a sound book
-
--- the tables, apart from what is in them: so many entries are in use, and the others are zeros
-pub record TablesOf (ws : List Window) (nw : ℕ) (is : List Instruction) (ni : ℕ) (ds : List Default) (nd : ℕ) : Type 0 where
-  pub windows : nw ≤ 128
-  pub instructions : ni ≤ 64
-  pub defaults : nd ≤ 128
-  pub noWindows : T (all isNoWindow (drop nw ws))
-  pub noInstructions : T (all isNoInstruction (drop ni is))
-  pub noDefaults : T (all isNoDefault (drop nd ds))
-
-abbrev pub Tables : Book → Type 0
-Tables b = TablesOf (b .windows) (b .nwindows) (b .instructions) (b .ninstructions) (b .defaults) (b .ndefaults)
-
-tables-of : (b : Book) → T (pass (tableTests b)) → Tables b
-unfolding tableTests
-tables-of b t =
-    let p = passes (tableTests b) t in
-    record {
-      windows = leb→le (b .nwindows) 128 (p .0);
-      instructions = leb→le (b .ninstructions) 64 (p .1 .0);
-      defaults = leb→le (b .ndefaults) 128 (p .1 .1 .0);
-      noWindows = p .1 .1 .1 .0;
-      noInstructions = p .1 .1 .1 .1 .0;
-      noDefaults = p .1 .1 .1 .1 .1 .0;
-    }
-
-tables-pass : (b : Book) → Tables b → T (pass (tableTests b))
-unfolding tableTests
-tables-pass b t =
-    passed (tableTests b) (
-      to-T (le-leb (b .nwindows) 128 (t .windows)),
-      (
-        to-T (le-leb (b .ninstructions) 64 (t .instructions)),
-        (to-T (le-leb (b .ndefaults) 128 (t .defaults)), (t .noWindows, (t .noInstructions, (t .noDefaults, tt)))),
-      ),
-    )
-
--- the tests of what is in them, with a contract or without
-abbrev pub contents : Book → Bool → List Bool
-contents b c = cond c (agreedTests (b .contract) (take (b .nwindows) (b .windows)) (take (b .ninstructions) (b .instructions)) (take (b .ndefaults) (b .defaults))) (emptyTests b)
-
-pub record Sound (b : Book) : Type 0 where
-  pub tables : Tables b
-  pub contents : T (pass (contents b (b .agreed)))
-
-pub sound-parts : (b : Book) → sound b ≡ true → Sound b
-unfolding sound
-sound-parts b e =
-    let q = T-and (pass (tableTests b)) (pass (contents b (b .agreed))) (to-T e) in
-    record { tables = tables-of b (q .0); contents = q .1 }
-
-pub is-sound : (b : Book) → Sound b → sound b ≡ true
-unfolding sound
-is-sound b s = of-T (sound b) (and-T (pass (tableTests b)) (pass (contents b (b .agreed))) (tables-pass b (s .tables)) (s .contents))
-
 -- ---- a book with a contract, and its ledger
-
--- what the ledger calls its contract
-pub contract-is : (b : Book) (meter : List ℤ) → b .agreed ≡ true → contractOf (ledgerIn b meter) ≡ b .contract
-unfolding contractOf ledgerIn first
-contract-is b meter s = ap (λ x. first noContract (cond x (b .contract ∷ []) [])) s
 
 -- a contract has been taken where a command other than a contract is
 was-agreed : (s : Bool) (k : Contract) → (isEmpty (cond s (k ∷ []) []) && true) ≡ false → s ≡ true
@@ -107,11 +49,6 @@ not-agreed : (s : Bool) (k : Contract) → (not (isEmpty (cond s (k ∷ []) []))
 unfolding isEmpty
 not-agreed true k e = absurd (true≢false e)
 not-agreed false k e = refl
-
--- a book without a contract has no days
-no-days : (b : Book) → T (pass (emptyTests b)) → b .contract .days ≡ 0
-unfolding emptyTests noContractTests
-no-days b t = eqb→eq (b .contract .days) 0 (passes (noContractTests (b .contract)) (passes (emptyTests b) t .0) .0)
 
 -- tables of a reached ledger are sound
 pub reached-sound : (b : Book) (meter : List ℤ) {size : ℕ} → b .agreed ≡ true → Tables b → Reached size (ledgerIn b meter) → sound b ≡ true
@@ -170,14 +107,10 @@ module _ {size : ℕ} {t : List Command} {b : Book} {meter : List ℤ} (f : Foll
       subst (λ k. spanOf k ≤ length meter) (contract-is b meter s)
       (subst⁻¹ (λ n. spanOf (contractOf g) ≤ n) (f .memory) (span-fits (subst⁻¹ (Reached size) (f .ledger) (f .reached))))
 
-  used : {A : Type 0} (xs : List A) (n k : ℕ) → length xs ≡ k → n ≤ k → length (take n xs) ≡ n
-  used xs n k e h = length-take-le n xs (omega arith)
-
   put-window : (w : Window) → Allowed size g (windowᶜ w) → Put (windowᶜ w) b meter
   unfolding ledgerIn
   put-window w a =
-      let n : length (take (b .nwindows) (b .windows)) ≡ b .nwindows = used (b .windows) (b .nwindows) 128 (f .shaped .windows) (tables .windows) in
-      let room : b .nwindows < 128 = omega (arith, leb-false 128 (length (take (b .nwindows) (b .windows))) (a .room)) in
+      let room : b .nwindows < 128 = has-room (b .windows) (b .nwindows) 128 (f .shaped .windows) (tables .windows) (a .room) in
       let inside : b .nwindows < length (b .windows) = omega (arith, f .shaped .windows) in
       record {
         holds = holds-window b meter w inside;
@@ -198,8 +131,7 @@ module _ {size : ℕ} {t : List Command} {b : Book} {meter : List ℤ} (f : Foll
   put-instruction : (x : Instruction) → Allowed size g (instructionᶜ x) → Put (instructionᶜ x) b meter
   unfolding ledgerIn
   put-instruction x a =
-      let n : length (take (b .ninstructions) (b .instructions)) ≡ b .ninstructions = used (b .instructions) (b .ninstructions) 64 (f .shaped .instructions) (tables .instructions) in
-      let room : b .ninstructions < 64 = omega (arith, leb-false 64 (length (take (b .ninstructions) (b .instructions))) (a .room)) in
+      let room : b .ninstructions < 64 = has-room (b .instructions) (b .ninstructions) 64 (f .shaped .instructions) (tables .instructions) (a .room) in
       let inside : b .ninstructions < length (b .instructions) = omega (arith, f .shaped .instructions) in
       record {
         holds = holds-instruction b meter x inside;
@@ -220,8 +152,7 @@ module _ {size : ℕ} {t : List Command} {b : Book} {meter : List ℤ} (f : Foll
   put-default : (d : Default) → Allowed size g (defaultᶜ d) → Put (defaultᶜ d) b meter
   unfolding ledgerIn
   put-default d a =
-      let n : length (take (b .ndefaults) (b .defaults)) ≡ b .ndefaults = used (b .defaults) (b .ndefaults) 128 (f .shaped .defaults) (tables .defaults) in
-      let room : b .ndefaults < 128 = omega (arith, leb-false 128 (length (take (b .ndefaults) (b .defaults))) (a .room)) in
+      let room : b .ndefaults < 128 = has-room (b .defaults) (b .ndefaults) 128 (f .shaped .defaults) (tables .defaults) (a .room) in
       let inside : b .ndefaults < length (b .defaults) = omega (arith, f .shaped .defaults) in
       record {
         holds = holds-default b meter d inside;
@@ -269,7 +200,7 @@ module _ {size : ℕ} {t : List Command} {b : Book} {meter : List ℤ} (f : Foll
   unfolding ledgerIn
   put-contract k a =
       let s : b .agreed ≡ false = not-agreed (b .agreed) (b .contract) (a .only) in
-      let none : b .contract .days ≡ 0 = no-days b (subst (λ x. T (pass (contents b x))) s (sound-parts b (f .left) .contents)) in
+      let none : b .contract .days ≡ 0 = ap (λ (x : Contract). x .days) (empty-contract b (f .left) s) in
       let span : spanOf k ≤ length meter = omega (arith, ltb-false size (spanOf k) (a .memory), f .memory) in
       record {
         holds = holds-contract b meter k s none;

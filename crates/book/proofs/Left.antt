@@ -1,16 +1,16 @@
 -- 11 in both directions: the books that a list of commands leaves are the sound ones. A sound book is left by the commands that it is written as.
 use mathlib.Core.Path.{_≡_, refl, sym, ap, _∙_, subst, subst⁻¹}
-use mathlib.Core.Bool.{Bool, true, false, cond, not}
+use mathlib.Core.Bool.{Bool, true, false, cond}
 use mathlib.Core.List.{List, [], _∷_, _++_}
 use mathlib.Core.Option.{Option, none, some, Option·none-ne-some}
-use Prim.Native.Nat.{ℕ, zero, suc, _≤_, _<_}
+use Prim.Native.Nat.{ℕ, _≤_, _<_}
 use native.Mathlib.Nat.{le-refl}
 use native.Mathlib.Omega.{arith}
 use lib.IntN.{ℤ}
-use lib.Dec.{T, ltb, ltb→lt, eqb→eq}
+use lib.Dec.{T, ltb, ltb→lt}
 use lib.ListN.{length, take, getD, replicate, length-replicate, length-take}
 use Rattle.energy.specs.Lists.{pass}
-use Rattle.energy.proofs.Tests.{to-T, of-T, Passes, passes}
+use Rattle.energy.proofs.Tests.{to-T, of-T}
 use Rattle.rules.specs.Ledger.{Ledger, ledgerOf, contractOf, spanOf}
 use Rattle.rules.specs.Refusal.{refusal, isReading, joined, takenAfter, taken}
 use Rattle.rules.specs.Reached.{Reached, untouched, agreed, Untouched, Agreed, agreedTests}
@@ -19,11 +19,12 @@ use Rattle.rules.specs.Rewritten.{Rewritten}
 use Rattle.rules.specs.declared.entries.Command.{Command}
 use Rattle.rules.proofs.Rewritten.{rewritten}
 use Rattle.book.specs.Book.{emptyBook, ledgerIn, putBook, putMeter, putAll, cell, missing}
-use Rattle.book.specs.Sound.{sound, Shaped, Left, Left·theorem, emptyTests}
+use Rattle.book.specs.Sound.{sound, Shaped, Left, Left·theorem}
 use Rattle.book.specs.declared.Book.{Book}
 use Rattle.book.proofs.Holds.{none-below}
-use Rattle.book.proofs.Follow.{Follows, Tables, contents, sound-parts, contract-is, starts, put-follows}
-use Rattle.book.proofs.Determined.{SameHeld, determined, empty-contract}
+use Rattle.book.proofs.Tested.{Tables, contents, sound-parts, contract-is, Empty, sound-empty}
+use Rattle.book.proofs.Follow.{Follows, starts, put-follows}
+use Rattle.book.proofs.Determined.{determined}
 
 -- ---- what commands leave is sound
 
@@ -97,39 +98,17 @@ with-contract b meter size e s h =
       readings = λ m kw r. subst⁻¹ (λ c. (m < spanOf c) × T (isReading kw)) k (given b meter m kw r);
     }
 
--- what a book without a contract holds
-record Nothing (b : Book) : Type 0 where
-  windows : b .nwindows ≡ 0
-  instructions : b .ninstructions ≡ 0
-  defaults : b .ndefaults ≡ 0
-  notClosed : b .closed ≡ false
-
-holds-nothing : (b : Book) → T (pass (emptyTests b)) → Nothing b
-unfolding emptyTests
-holds-nothing b t =
-    let p = passes (emptyTests b) t in
-    record {
-      windows = eqb→eq (b .nwindows) 0 (p .1 .1 .0);
-      instructions = eqb→eq (b .ninstructions) 0 (p .1 .1 .1 .0);
-      defaults = eqb→eq (b .ndefaults) 0 (p .1 .1 .1 .1 .0);
-      notClosed = off (b .closed) (p .1 .0);
-    }
-  where
-    off : (x : Bool) → T (not x) → x ≡ false
-    off true t = absurd t
-    off false t = refl
-
 without : (b : Book) (meter : List ℤ) → sound b ≡ true → b .agreed ≡ false → Untouched (ledgerIn b meter)
 unfolding ledgerIn
 without b meter e s =
-    let n : Nothing b = holds-nothing b (subst (λ x. T (pass (contents b x))) s (sound-parts b e .contents)) in
+    let n : Empty b = sound-empty b e s in
     record {
       contracts = ap (λ x. cond x (b .contract ∷ []) []) s;
       windows = ap (λ x. take x (b .windows)) (n .windows);
       instructions = ap (λ x. take x (b .instructions)) (n .instructions);
       defaults = ap (λ x. take x (b .defaults)) (n .defaults);
       notClosed = n .notClosed;
-      readings = λ m. none-below b meter m (ap (λ k. k .days) (empty-contract b e s));
+      readings = λ m. none-below b meter m (ap (λ k. k .days) (n .contract));
     }
 
 pub book-reached : (b : Book) (meter : List ℤ) (size : ℕ) → sound b ≡ true → spanOf (b .contract) ≤ size → Reached size (ledgerIn b meter)

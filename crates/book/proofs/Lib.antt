@@ -1,12 +1,12 @@
-pub mod Holds
-pub mod Follow
-pub mod Determined
-pub mod Left
 pub mod Tables
+pub mod Tested
 pub mod Search
 pub mod Cells
 pub mod Numbers
 pub mod Walks
-pub mod Tested
 pub mod Entered
 pub mod Kept
+pub mod Holds
+pub mod Follow
+pub mod Determined
+pub mod Left

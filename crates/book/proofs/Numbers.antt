@@ -1,5 +1,5 @@
 -- Refusals as numbers: the lowest condition that holds, test by test, and what is known where none does.
-use mathlib.Core.Path.{_≡_, refl, sym, ap, ap₂, _∙_}
+use mathlib.Core.Path.{_≡_, refl, sym, ap, _∙_}
 use mathlib.Core.Logic.{_≢_}
 use mathlib.Core.Bool.{Bool, true, false, not, _&&_, cond, false≢true}
 use mathlib.Core.List.{List, [], _∷_}
@@ -7,13 +7,13 @@ use mathlib.Core.Option.{Option, none, some}
 use Prim.Native.Nat.{ℕ, zero, suc, _≤_}
 use native.Mathlib.Omega.{arith}
 use lib.IntN.{ℤ}
-use lib.Dec.{T, eqb, leb, ltb}
+use lib.Dec.{eqb, leb, ltb}
 use lib.ListN.{length, getD, drop, take}
 use lib.Seq.{length-take-le}
 use borrow.Author.Tests.{ne-eqb}
 use Rattle.energy.specs.Lists.{any, first, isEmpty, isSome, last}
 use Rattle.rules.specs.Command.{onContract, always}
-use Rattle.rules.specs.Ledger.{contractOf, noContract, isContract, spanOf, expiry, endOf, within}
+use Rattle.rules.specs.Ledger.{isContract, spanOf, expiry, endOf, within}
 use Rattle.rules.specs.Refusal.{isReading, inRange, rampTooLong, badWindow, spanFor, recovered, Condition, conditions, lowest, refusal}
 use Rattle.rules.specs.Input.{inputRefusal, orZero}
 use Rattle.rules.specs.declared.contract.Contract.{Contract}
@@ -28,6 +28,7 @@ use Rattle.book.specs.Book.{noWindow, missing, ledgerIn}
 use Rattle.book.specs.Numbers.{refusalOf, firstNumber}
 use Rattle.book.specs.Sound.{sound}
 use Rattle.book.specs.declared.Book.{Book}
+use Rattle.book.proofs.Tested.{contract-is}
 
 -- ---- from the input
 
@@ -66,11 +67,6 @@ abbrev pub firstOf : Book → List ℤ → Command → ℕ
 firstOf b meter c =
     firstNumber (inputRefusal c) (sound b) (b .closed) (b .agreed) (isContract c) (ltb (length meter) (onContract spanOf (always (spanOf (b .contract))) c))
 
--- the contract that a book holds
-pub contract-held : (b : Book) (meter : List ℤ) → b .agreed ≡ true → contractOf (ledgerIn b meter) ≡ b .contract
-unfolding contractOf ledgerIn first
-contract-held b meter s = ap (λ x. first noContract (cond x (b .contract ∷ []) [])) s
-
 -- the chain of the first eight conditions
 first-eight : (k : Contract) (p q r s z a f t t′ : Bool) (rest : ℕ) → (a ≡ true → t′ ≡ t) → (f ≡ true → t′ ≡ t)
     → cond (not p) 3 (cond q 4 (cond r 5 (cond (not s) 11 (cond z 12 (cond (isEmpty (cond a (k ∷ []) []) && not f) 13 (cond (not (isEmpty (cond a (k ∷ []) [])) && f) 14 (cond t′ 15 rest)))))))
@@ -105,7 +101,7 @@ by-first b meter c =
     lowest-number (conditions (not (sound b)) (length meter) (ledgerIn b meter) c)
     ∙ first-eight (b .contract) (inRange c) (rampTooLong c) (badWindow c) (sound b) (b .closed) (b .agreed) (isContract c)
     (ltb (length meter) (onContract spanOf (always (spanOf (b .contract))) c)) (ltb (length meter) (spanFor (ledgerIn b meter) c)) (numbers (laterConditions b meter c))
-    (λ e. ap (λ k. ltb (length meter) (onContract spanOf (always (spanOf k)) c)) (contract-held b meter e))
+    (λ e. ap (λ k. ltb (length meter) (onContract spanOf (always (spanOf k)) c)) (contract-is b meter e))
     (λ e. ap (ltb (length meter)) (span-asked b meter c e))
     ∙ ap (λ n. cond (eqb (firstNumber n (sound b) (b .closed) (b .agreed) (isContract c) (ltb (length meter) (onContract spanOf (always (spanOf (b .contract))) c))) 0) (numbers (laterConditions b meter c)) (firstNumber n (sound b) (b .closed) (b .agreed) (isContract c) (ltb (length meter) (onContract spanOf (always (spanOf (b .contract))) c))))
     (sym (input-cond c))
@@ -172,7 +168,7 @@ module _ (b : Book) (meter : List ℤ) (s : b .agreed ≡ true) where
       (cond (ltb (w .start .0) (last noWindow (take (b .nwindows) (b .windows)) .end .0)) 18
       (cond (leb 128 (b .nwindows)) 23 0)))
   unfolding numbers conditions ledgerIn
-  window-later w h = rw (contract-held b meter s, length-take-le (b .nwindows) (b .windows) h)
+  window-later w h = rw (contract-is b meter s, length-take-le (b .nwindows) (b .windows) h)
 
   pub instruction-later : (i : Instruction) → b .ninstructions ≤ length (b .instructions)
       → numbers (laterConditions b meter (instructionᶜ i))
@@ -181,7 +177,7 @@ module _ (b : Book) (meter : List ℤ) (s : b .agreed ≡ true) where
       (cond (ltb (i .issue .0) (recovered (b .contract) (take (b .ninstructions) (b .instructions)))) 20
       (cond (leb 64 (b .ninstructions)) 23 0)))
   unfolding numbers conditions ledgerIn
-  instruction-later i h = rw (contract-held b meter s, length-take-le (b .ninstructions) (b .instructions) h)
+  instruction-later i h = rw (contract-is b meter s, length-take-le (b .ninstructions) (b .instructions) h)
 
   pub default-later : (d : Default) → b .ndefaults ≤ length (b .defaults)
       → numbers (laterConditions b meter (defaultᶜ d))
@@ -189,14 +185,14 @@ module _ (b : Book) (meter : List ℤ) (s : b .agreed ≡ true) where
       (cond (not (any (λ w. within w (d .minute .0)) (take (b .nwindows) (b .windows)))) 21
       (cond (leb 128 (b .ndefaults)) 23 0))
   unfolding numbers conditions ledgerIn
-  default-later d h = rw (contract-held b meter s, length-take-le (b .ndefaults) (b .defaults) h)
+  default-later d h = rw (contract-is b meter s, length-take-le (b .ndefaults) (b .defaults) h)
 
   pub reading-later : (r : Reading)
       → numbers (laterConditions b meter (readingᶜ r))
       ≡ cond (leb (spanOf (b .contract)) (r .minute .0)) 16
       (cond (ltb (r .minute .0) (spanOf (b .contract)) && isReading (getD meter (r .minute .0) missing)) 22 0)
   unfolding numbers conditions ledgerIn
-  reading-later r = rw (contract-held b meter s, read (ltb (r .minute .0) (spanOf (b .contract))) (isReading (getD meter (r .minute .0) missing)) (getD meter (r .minute .0) missing))
+  reading-later r = rw (contract-is b meter s, read (ltb (r .minute .0) (spanOf (b .contract))) (isReading (getD meter (r .minute .0) missing)) (getD meter (r .minute .0) missing))
 
 -- the others have none
 pub contract-later : (b : Book) (meter : List ℤ) (k : Contract) → numbers (laterConditions b meter (contractᶜ k)) ≡ 0

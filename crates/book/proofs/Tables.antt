@@ -6,14 +6,13 @@ use Prim.Native.Nat.{ℕ, zero, suc, _+_, _-_, _≤_, _<_, _^_}
 use native.Mathlib.Numerals.{add-one, sub-one}
 use native.Mathlib.Omega.{arith}
 use lib.IntN.{ℤ, pos, negsuc}
-use lib.Dec.{T, eqb}
+use lib.Dec.{T, eqb, leb}
 use lib.ListN.{length, length-map, getD, take, drop, set, replicate, drop-of-length-le}
-use lib.Seq.{drop-cons, slice, slice-cons, take-suc, take-suc-set, take-all}
-use borrow.Author.Tests.{ne-eqb}
+use lib.Seq.{drop-cons, slice, slice-cons, take-suc, take-suc-set, take-all, length-take-le}
+use borrow.Author.Tests.{ne-eqb, leb-false}
 use mir.Syntax.{w64}
 use mir.Val.{SFits, ofZ}
 use Rattle.energy.specs.Lists.{all, last, pass}
-use Rattle.energy.specs.Number.{up, down}
 use Rattle.energy.proofs.Integers.{parts-fit}
 use Rattle.rules.proofs.Chain.{chain}
 use Rattle.book.specs.Sound.{isZero}
@@ -89,6 +88,10 @@ module _ {A : Type 0} where
 
   pub fill-turn : (n : ℕ) (v : A) (d : List A) → n < length d → set (replicate n v ++ drop n d) n v ≡ replicate (n + 1) v ++ drop (n + 1) d
   fill-turn n v d l = rw add-one (fill-suc n v d l)
+
+-- a table that is not full has room
+pub has-room : {A : Type 0} (l : List A) (n most : ℕ) → length l ≡ most → n ≤ most → leb most (length (take n l)) ≡ false → n < most
+has-room l n most e h f = leb-false most n (rw (length-take-le n l (rw e h)) at f)
 
 -- the last of the entries in use
 last-of : {A : Type 0} (l : List A) (n : ℕ) (d : A) → suc n ≤ length l → last d (take (suc n) l) ≡ getD l n d

@@ -1,35 +1,41 @@
--- What the test for 11 says of a book, by name.
-use mathlib.Core.Path.{_≡_, refl, sym, ap, _∙_, subst}
-use mathlib.Core.Bool.{Bool, true, false, not, _&&_, cond}
+-- What the test for 11 says of a book, by name: its tables, and what is in them with a contract or without.
+use mathlib.Core.Path.{_≡_, ap, subst}
+use mathlib.Core.Bool.{Bool, true, false, cond}
 use mathlib.Core.List.{List, [], _∷_}
 use Prim.Native.Nat.{ℕ, _≤_}
 use lib.IntN.{ℤ, pos, negsuc}
-use lib.Dec.{T, eqb, leb, leb→le, le→leb, eqb→eq}
+use lib.Dec.{T, eqb→eq, leb→le, le→leb}
 use lib.ListN.{take, drop}
-use borrow.Author.Tests.{eq-eqb}
-use Rattle.energy.specs.Lists.{all, pass}
-use Rattle.energy.proofs.Tests.{to-T, of-T, T-and, and-T, off-T, passes, passed}
-use Rattle.rules.specs.Ledger.{noContract}
+use Rattle.energy.specs.Lists.{all, first, pass}
+use Rattle.energy.proofs.Tests.{to-T, of-T, T-and, and-T, passes, passed}
+use Rattle.rules.specs.Ledger.{contractOf, noContract}
 use Rattle.rules.specs.Reached.{agreedTests}
 use Rattle.rules.specs.declared.contract.Contract.{Contract}
+use Rattle.rules.specs.declared.entries.Window.{Window}
+use Rattle.rules.specs.declared.entries.Instruction.{Instruction}
+use Rattle.rules.specs.declared.entries.Default.{Default}
 use Rattle.rules.proofs.Chain.{not-on}
-use Rattle.rules.proofs.Reached.{Parts, parts, tested}
+use Rattle.rules.proofs.Reached.{Parts, parts}
+use Rattle.book.specs.Book.{ledgerIn}
 use Rattle.book.specs.Sound.{isNoWindow, isNoInstruction, isNoDefault, isZero, noContractTests, emptyTests, tableTests, sound}
 use Rattle.book.specs.declared.Book.{Book}
 
--- ---- the tables
+-- ---- the tables, apart from what is in them: so many entries are in use, and the others are zeros
 
-pub record Tables (b : Book) : Type 0 where
-  pub windows : b .nwindows ≤ 128
-  pub instructions : b .ninstructions ≤ 64
-  pub defaults : b .ndefaults ≤ 128
-  pub noWindows : T (all isNoWindow (drop (b .nwindows) (b .windows)))
-  pub noInstructions : T (all isNoInstruction (drop (b .ninstructions) (b .instructions)))
-  pub noDefaults : T (all isNoDefault (drop (b .ndefaults) (b .defaults)))
+pub record TablesOf (ws : List Window) (nw : ℕ) (is : List Instruction) (ni : ℕ) (ds : List Default) (nd : ℕ) : Type 0 where
+  pub windows : nw ≤ 128
+  pub instructions : ni ≤ 64
+  pub defaults : nd ≤ 128
+  pub noWindows : T (all isNoWindow (drop nw ws))
+  pub noInstructions : T (all isNoInstruction (drop ni is))
+  pub noDefaults : T (all isNoDefault (drop nd ds))
 
-pub tables : (b : Book) → T (pass (tableTests b)) → Tables b
+abbrev pub Tables : Book → Type 0
+Tables b = TablesOf (b .windows) (b .nwindows) (b .instructions) (b .ninstructions) (b .defaults) (b .ndefaults)
+
+pub tables-of : (b : Book) → T (pass (tableTests b)) → Tables b
 unfolding tableTests
-tables b t =
+tables-of b t =
     let p = passes (tableTests b) t in
     record {
       windows = leb→le (b .nwindows) 128 (p .0);
@@ -40,9 +46,9 @@ tables b t =
       noDefaults = p .1 .1 .1 .1 .1 .0;
     }
 
-pub tabled : {b : Book} → Tables b → T (pass (tableTests b))
+tables-pass : (b : Book) → Tables b → T (pass (tableTests b))
 unfolding tableTests
-tabled {b} t =
+tables-pass b t =
     passed (tableTests b) (
       le→leb (b .nwindows) 128 (t .windows),
       (
@@ -51,7 +57,43 @@ tabled {b} t =
       ),
     )
 
--- ---- a book without a contract
+-- ---- the whole test
+
+-- the tests of what is in the tables, with a contract or without
+abbrev pub contents : Book → Bool → List Bool
+contents b c =
+    cond c (agreedTests (b .contract) (take (b .nwindows) (b .windows)) (take (b .ninstructions) (b .instructions)) (take (b .ndefaults) (b .defaults)))
+    (emptyTests b)
+
+pub record Sound (b : Book) : Type 0 where
+  pub tables : Tables b
+  pub contents : T (pass (contents b (b .agreed)))
+
+pub sound-parts : (b : Book) → sound b ≡ true → Sound b
+unfolding sound
+sound-parts b e =
+    let q = T-and (pass (tableTests b)) (pass (contents b (b .agreed))) (to-T e) in
+    record { tables = tables-of b (q .0); contents = q .1 }
+
+pub is-sound : (b : Book) → Sound b → sound b ≡ true
+unfolding sound
+is-sound b s = of-T (sound b) (and-T (pass (tableTests b)) (pass (contents b (b .agreed))) (tables-pass b (s .tables)) (s .contents))
+
+-- ---- with a contract
+
+-- what is in use could be entered under it
+pub sound-used : (b : Book) → sound b ≡ true → b .agreed ≡ true
+    → Parts (b .contract) (take (b .nwindows) (b .windows)) (take (b .ninstructions) (b .instructions)) (take (b .ndefaults) (b .defaults))
+sound-used b e s =
+    parts (b .contract) (take (b .nwindows) (b .windows)) (take (b .ninstructions) (b .instructions)) (take (b .ndefaults) (b .defaults))
+    (subst (λ x. T (pass (contents b x))) s (sound-parts b e .contents))
+
+-- what the ledger calls its contract
+pub contract-is : (b : Book) (meter : List ℤ) → b .agreed ≡ true → contractOf (ledgerIn b meter) ≡ b .contract
+unfolding contractOf ledgerIn first
+contract-is b meter s = ap (λ x. first noContract (cond x (b .contract ∷ []) [])) s
+
+-- ---- without one
 
 pub record Empty (b : Book) : Type 0 where
   pub contract : b .contract ≡ noContract
@@ -82,10 +124,10 @@ no-contract k t i =
       optional = eqb→eq (k .optional) 0 (p .1 .1 .1 .1 .1 .1 .1 .1 .1 .1 .0) i;
     }
 
-emptied : (b : Book) → T (pass (emptyTests b)) → Empty b
+pub sound-empty : (b : Book) → sound b ≡ true → b .agreed ≡ false → Empty b
 unfolding emptyTests
-emptied b t =
-    let p = passes (emptyTests b) t in
+sound-empty b e s =
+    let p = passes (emptyTests b) (subst (λ x. T (pass (contents b x))) s (sound-parts b e .contents)) in
     record {
       contract = no-contract (b .contract) (p .0);
       notClosed = not-on (b .closed) (p .1 .0);
@@ -94,34 +136,6 @@ emptied b t =
       defaults = eqb→eq (b .ndefaults) 0 (p .1 .1 .1 .1 .0);
     }
 
--- ---- the whole test
-
--- what is in use under the contract could be entered
-abbrev pub Used : Book → Type 0
-Used b = Parts (b .contract) (take (b .nwindows) (b .windows)) (take (b .ninstructions) (b .instructions)) (take (b .ndefaults) (b .defaults))
-
-abbrev usedTests : Book → List Bool
-usedTests b = agreedTests (b .contract) (take (b .nwindows) (b .windows)) (take (b .ninstructions) (b .instructions)) (take (b .ndefaults) (b .defaults))
-
-module _ (b : Book) (e : sound b ≡ true) where
-  both : T (pass (tableTests b)) × T (pass (cond (b .agreed) (usedTests b) (emptyTests b)))
-  unfolding sound
-  both = T-and (pass (tableTests b)) (pass (cond (b .agreed) (usedTests b) (emptyTests b))) (to-T e)
-
-  pub sound-tables : Tables b
-  sound-tables = tables b (both .0)
-
-  pub sound-used : b .agreed ≡ true → Used b
-  sound-used s =
-      parts (b .contract) (take (b .nwindows) (b .windows)) (take (b .ninstructions) (b .instructions)) (take (b .ndefaults) (b .defaults))
-      (subst (λ x. T (pass (cond x (usedTests b) (emptyTests b)))) s (both .1))
-
-  pub sound-empty : b .agreed ≡ false → Empty b
-  sound-empty s = emptied b (subst (λ x. T (pass (cond x (usedTests b) (emptyTests b)))) s (both .1))
-
-pub used-sound : (b : Book) → b .agreed ≡ true → Tables b → Used b → sound b ≡ true
-unfolding sound
-used-sound b s t p =
-    of-T (sound b)
-    (and-T (pass (tableTests b)) (pass (cond (b .agreed) (usedTests b) (emptyTests b))) (tabled t)
-    (subst (λ x. T (pass (cond x (usedTests b) (emptyTests b)))) (sym s) (tested p)))
+-- its contract is zeros
+pub empty-contract : (b : Book) → sound b ≡ true → b .agreed ≡ false → b .contract ≡ noContract
+empty-contract b e s = sound-empty b e s .contract

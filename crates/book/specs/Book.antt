@@ -1,14 +1,13 @@
 -- "The book": its tables, what it holds with meter memory in the rules' terms, and what a taken command puts into both.
-use mathlib.Core.Bool.{Bool, true, false, cond}
+use mathlib.Core.Bool.{true, false, cond}
 use mathlib.Core.List.{List, [], _∷_, _++_}
 use mathlib.Core.Option.{Option, none, some}
-use Prim.Native.Nat.{ℕ, _+_}
-use lib.IntN.{ℤ, pos, negsuc}
+use Prim.Native.Nat.{_+_}
+use lib.IntN.{ℤ, negsuc}
 use lib.Dec.{ltb}
 use lib.ListN.{getD, take, drop, set, replicate}
 use Rattle.rules.specs.Ledger.{Ledger, noContract, spanOf}
 use Rattle.rules.specs.Refusal.{isReading}
-use Rattle.rules.specs.declared.contract.Contract.{Contract}
 use Rattle.rules.specs.declared.entries.Window.{Window}
 use Rattle.rules.specs.declared.entries.Instruction.{Instruction}
 use Rattle.rules.specs.declared.entries.Default.{Default}

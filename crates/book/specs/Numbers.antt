@@ -1,10 +1,9 @@
 -- What the book's own functions answer on the way: a refusal as one number, 0 for none, and tests of one entry.
-use mathlib.Core.Logic.{_↔_}
 use mathlib.Core.Bool.{Bool, not, _&&_, cond}
 use mathlib.Core.List.{List}
-use Prim.Native.Nat.{ℕ, _+_, _≤_, _<_}
+use Prim.Native.Nat.{ℕ, _≤_, _<_}
 use lib.IntN.{ℤ}
-use lib.Dec.{T, eqb, leb, ltb}
+use lib.Dec.{eqb, leb}
 use lib.ListN.{length, getD}
 use Rattle.rules.specs.Ledger.{spanOf, expiry, endOf}
 use Rattle.rules.specs.Refusal.{inRange, badWindow, refusal}

@@ -1,11 +1,11 @@
 -- 11: a book that no list of commands from the empty one leaves.
 use mathlib.Core.Path.{_≡_}
 use mathlib.Core.Logic.{_↔_}
-use mathlib.Core.Bool.{Bool, true, false, not, _&&_, cond}
+use mathlib.Core.Bool.{Bool, false, not, _&&_, cond}
 use mathlib.Core.List.{List, [], _∷_}
-use Prim.Native.Nat.{ℕ, _+_}
+use Prim.Native.Nat.{ℕ}
 use lib.IntN.{ℤ, pos, negsuc}
-use lib.Dec.{T, eqb, leb, ltb}
+use lib.Dec.{T, eqb, leb}
 use lib.ListN.{length, take, drop}
 use Rattle.energy.specs.Lists.{all, pass}
 use Rattle.rules.specs.Refusal.{taken}
@@ -16,7 +16,6 @@ use Rattle.rules.specs.declared.entries.Window.{Window}
 use Rattle.rules.specs.declared.entries.Instruction.{Instruction}
 use Rattle.rules.specs.declared.entries.Default.{Default}
 use Rattle.rules.specs.declared.entries.Command.{Command}
-use Rattle.rules.specs.declared.entries.Command.the-variants.{Contract as contractᶜ, Window as windowᶜ, Instruction as instructionᶜ, Default as defaultᶜ, Reading as readingᶜ, Close as closeᶜ}
 use Rattle.book.specs.declared.Book.{Book}
 
 -- some list of commands, with meter memory of some length, leaves the book

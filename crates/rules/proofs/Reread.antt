@@ -35,7 +35,7 @@ signed-back (pos n) t =
     rw (lt-ltb n (2 ^ 31) (omega arith))
 signed-back (negsuc n) t =
     let h : n ≤ 2147483647 = leb→le n 2147483647 (T-and (leb n 2147483647) true t .0) in
-    rw (le-ltb (2 ^ 32 - suc n) (2 ^ 31) (omega arith)) (ap negsuc (omega arith))
+    rw (le-ltb (unsignedOf (negsuc n)) (2 ^ 31) (omega arith)) (ap negsuc (omega arith))
 
 kw-back : (z : ℤ) → T (leZ (pos 0) z) → pos (natAbs z) ≡ z
 kw-back (pos n) t = refl

@@ -1,1 +1,7 @@
 pub mod Settle
+pub mod Terms
+pub mod Survey
+pub mod Live
+pub mod Paid
+pub mod Cursor
+pub mod Prepared

@@ -1,3 +1,4 @@
+-- "The statement's lines go into memory the caller lends", and what settling answers: both by one equation over the rules, refusals included.
 use mathlib.Core.Bool.{not}
 use mathlib.Core.List.{List, _++_}
 use mathlib.Core.Option.{Option, none, some}
@@ -5,22 +6,24 @@ use Prim.Native.Nat.{ℕ}
 use lib.IntN.{ℤ, pos}
 use lib.ListN.{length, drop, replicate}
 use Rattle.rules.specs.Ledger.{Ledger}
-use Rattle.rules.specs.Statement.{lines, statementOf, settleRefusal, nothing}
+use Rattle.rules.specs.Refusal.{answerOf}
+use Rattle.rules.specs.Statement.{lines, nothing, statementOf, settleRefusal}
 use Rattle.rules.specs.declared.statement.Line.{Line}
+use Rattle.rules.specs.declared.statement.Stage.the-variants.{Up}
+use Rattle.rules.specs.declared.statement.Rate.the-variants.{Utilisation}
 use Rattle.rules.specs.declared.statement.Statement.{Statement}
-use Rattle.rules.specs.declared.answer.Answer.{Answer}
-use Rattle.rules.specs.declared.answer.Answer.the-variants.{Taken, Refused}
 use Rattle.book.specs.Book.{ledgerIn}
 use Rattle.book.specs.Sound.{sound}
 use Rattle.book.specs.declared.Book.{Book}
 use Rattle.settlement.specs.declared.Settlement.{Settlement}
+use Rattle.settlement.specs.declared.Listing.{Listing}
 
--- ---- the equation of settling: the answer and line memory after
-
+-- the answer with its statement, and line memory after it
 pub record Settled : Type 0 where
   pub settlement : Settlement
   pub memory : List Line
 
+-- the statement of a refusal: zeros
 abbrev pub noStatement : Statement
 noStatement =
     record {
@@ -32,14 +35,37 @@ noStatement =
       windows = replicate 128 nothing;
     }
 
+-- settling refused under a number alters no record; one that is not puts its lines into the first ones
 abbrev pub settledBy : Option ℕ → Ledger → List Line → Settled
 settledBy none g memory =
     record {
-      settlement = record { answer = Taken; statement = statementOf g };
+      settlement = record { answer = answerOf none; statement = statementOf g };
       memory = lines g ++ drop (length (lines g)) memory;
     }
-settledBy (some n) g memory = record { settlement = record { answer = Refused n; statement = noStatement }; memory = memory }
+settledBy (some n) g memory =
+    record { settlement = record { answer = answerOf (some n); statement = noStatement }; memory = memory }
 
+-- settling a book: what `settle` promises
 unfoldable pub settleBook : Book → List ℤ → List Line → Settled
 settleBook b meter memory =
     settledBy (settleRefusal (not (sound b)) (length meter) (length memory) (ledgerIn b meter)) (ledgerIn b meter) memory
+
+-- a record before it holds a line
+abbrev pub noLine : Line
+noLine =
+    record {
+      instruction = 0;
+      period = 0;
+      stage = Up;
+      rate = Utilisation;
+      expected = record { 0 = pos 0 };
+      delivered = record { 0 = pos 0 };
+      capped = record { 0 = pos 0 };
+      pence = record { 0 = pos 0 };
+    }
+
+-- settling a book into 719 records of its own: what `listed` promises
+unfoldable pub listBook : Book → List ℤ → Listing
+listBook b meter =
+    let s : Settled = settleBook b meter (replicate 719 noLine) in
+    record { settlement = s .settlement; lines = s .memory }

@@ -6,7 +6,7 @@ use Rattle.energy.proofs.Tests.{of-T}
 use Rattle.rules.specs.Reached.{windowsSound}
 use Rattle.rules.specs.declared.entries.Command.the-variants.{Default as defaultᶜ}
 use Rattle.book.proofs.Tables.{length-mapped}
-use Rattle.book.proofs.Tested.{Tables, sound-tables, sound-used}
+use Rattle.book.proofs.Tested.{Tables, sound-parts, sound-used}
 use Rattle.book.proofs.Numbers.{firstOf, Late, met-first, met-late, default-later}
 use Rattle.book.proofs.Book.default_refusal.Statement.{statement}
 use Rattle.book.proofs.Book.default_refusal.Tie as tie
@@ -38,7 +38,7 @@ late c =
 
 -- the tables in use
 used : (c : tie.Else1) → Tables (c .before .before .before .args .self)
-used c = sound-tables (c .before .before .before .args .self) (late c .leaves)
+used c = sound-parts (c .before .before .before .args .self) (late c .leaves) .tables
 
 span-of-requires : tie.Need-span-of-requires
 span-of-requires c κs = search needs

@@ -6,7 +6,7 @@ use Rattle.energy.proofs.Tests.{of-T}
 use Rattle.rules.specs.Refusal.{inRange}
 use Rattle.rules.specs.declared.entries.Command.the-variants.{Contract as contractᶜ, Instruction as instructionᶜ}
 use Rattle.book.proofs.Tables.{length-mapped}
-use Rattle.book.proofs.Tested.{sound-tables, sound-used}
+use Rattle.book.proofs.Tested.{sound-parts, sound-used}
 use Rattle.book.proofs.Numbers.{firstOf, Late, met-first, met-late, instruction-later}
 use Rattle.book.proofs.Book.instruction_refusal.Statement.{statement}
 use Rattle.book.proofs.Book.instruction_refusal.Tie as tie
@@ -38,7 +38,7 @@ late c =
 
 -- the instructions in use are of the table
 used : (c : tie.Else1) → c .before .before .before .args .self .ninstructions ≤ 64
-used c = sound-tables (c .before .before .before .args .self) (late c .leaves) .instructions
+used c = sound-parts (c .before .before .before .args .self) (late c .leaves) .tables .instructions
 
 span-of-requires : tie.Need-span-of-requires
 span-of-requires c κs = search needs

@@ -5,7 +5,7 @@ use borrow.Author.Tests.{not-true, not-false}
 use Rattle.energy.specs.Lists.{pass}
 use Rattle.energy.proofs.Tests.{to-T}
 use Rattle.book.specs.Sound.{tableTests, sound}
-use Rattle.book.proofs.Tested.{tables}
+use Rattle.book.proofs.Tested.{tables-of}
 use Rattle.book.proofs.Book.sound.Statement.{statement}
 use Rattle.book.proofs.Book.sound.Tie as tie
 
@@ -22,7 +22,7 @@ shaped c = sym (c .before .tables-sound .ensures) ∙ not-false _ (c .if1 .left)
 
 agreed-sound-requires : tie.Need-agreed-sound-requires
 agreed-sound-requires c κs =
-    let t = tables (c .before .before .before .args .self) (to-T (shaped (c .before))) in
+    let t = tables-of (c .before .before .before .args .self) (to-T (shaped (c .before))) in
     (t .windows, t .instructions, t .defaults)
 
 empty-sound-requires : tie.Need-empty-sound-requires

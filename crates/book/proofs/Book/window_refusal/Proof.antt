@@ -4,7 +4,7 @@ use Prim.Native.Nat.{_≤_}
 use lib.ListN.{length}
 use Rattle.rules.specs.declared.entries.Command.the-variants.{Window as windowᶜ}
 use Rattle.book.proofs.Tables.{length-mapped}
-use Rattle.book.proofs.Tested.{sound-tables}
+use Rattle.book.proofs.Tested.{sound-parts}
 use Rattle.book.proofs.Numbers.{firstOf, Late, met-first, met-late, window-later}
 use Rattle.book.proofs.Book.window_refusal.Statement.{statement}
 use Rattle.book.proofs.Book.window_refusal.Tie as tie
@@ -36,7 +36,7 @@ late c =
 
 -- the windows in use are of the table
 used : (c : tie.Else1) → c .before .before .before .args .self .nwindows ≤ 128
-used c = sound-tables (c .before .before .before .args .self) (late c .leaves) .windows
+used c = sound-parts (c .before .before .before .args .self) (late c .leaves) .tables .windows
 
 span-of-requires : tie.Need-span-of-requires
 span-of-requires c κs = search needs

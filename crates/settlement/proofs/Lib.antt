@@ -1,0 +1,16 @@
+pub mod Step
+pub mod Bounds
+pub mod Tied
+pub mod Sequence
+pub mod Surveyed
+pub mod Folds
+pub mod Lights
+pub mod Struck
+pub mod Availability
+pub mod Chains
+pub mod Sound
+pub mod Ground
+pub mod Refused
+pub mod Stated
+pub mod Walk
+pub mod Whole

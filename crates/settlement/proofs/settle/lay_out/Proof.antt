@@ -1,0 +1,126 @@
+-- `settlement::settle::lay_out` meets its contract. What it stands on does not look at the readings, so meter memory of the span stands in. Assumes nothing.
+use mathlib.Core.Path.{_≡_, refl, sym, _∙_, ap, subst}
+use mathlib.Core.List.{List, map}
+use Prim.Native.Nat.{ℕ, _+_, _≤_, _<_}
+use native.Mathlib.Omega.{arith}
+use lib.IntN.{ℤ, pos}
+use lib.ListN.{length, getD, replicate, length-replicate}
+use borrow.Author.Needs.{needs}
+use Rattle.energy.specs.Number.{Within}
+use Rattle.rules.specs.Ledger.{spanOf, kwOf, downMinutes}
+use Rattle.rules.specs.declared.contract.Contract.{Contract}
+use Rattle.rules.specs.declared.statement.Statement.{Statement}
+use Rattle.rules.specs.declared.answer.Answer.the-variants.{Taken}
+use Rattle.book.specs.Book.{noDefault}
+use Rattle.book.specs.Sound.{Shaped}
+use Rattle.settlement.specs.declared.Settlement.{Settlement}
+use Rattle.settlement.specs.declared.paid.Entries.{Entries}
+use Rattle.settlement.specs.declared.terms.Terms.{Terms}
+use Rattle.settlement.specs.Terms.{termsOf}
+use Rattle.settlement.specs.Live.{Cleared, Windows, isLive, Lit}
+use Rattle.settlement.specs.Paid.{availabilityBy}
+use Rattle.settlement.specs.Prepared.{unsummed}
+use Rattle.settlement.proofs.Folds.{length-mapped}
+use Rattle.settlement.proofs.Sound.{sound-book}
+use Rattle.settlement.proofs.Struck.{dark-zeros}
+use Rattle.settlement.proofs.Ground.{Grounds, cleared, windows-fit, spans, placed}
+use Rattle.settlement.proofs.settle.lay_out.Statement.{statement}
+use Rattle.settlement.proofs.settle.lay_out.Tie as tie
+
+module _ (s : tie.Start) where
+  shape : Shaped (s .args .b)
+  shape = record { windows = search (length-mapped, needs); instructions = search (length-mapped, needs); defaults = search (length-mapped, needs) }
+
+  meter : List ℤ
+  meter = replicate (spanOf (s .args .b .contract)) (pos 0)
+
+  grounds : Grounds (s .args .b) (s .args .t3) meter
+  unfolding meter
+  grounds =
+      record {
+        sound = sound-book (s .args .b) (s .pre .0) (s .pre .1);
+        agreed = s .pre .1;
+        shape = shape;
+        room = omega (arith, length-replicate (spanOf (s .args .b .contract)) (pos 0));
+        timed = s .pre .3;
+      }
+
+  abbrev k : Contract
+  k = s .args .b .contract
+
+  fall-is : s .args .t .fall ≡ downMinutes k
+  unfolding termsOf
+  fall-is = ap (λ (z : Terms). z .fall) (s .pre .2)
+
+  calls-are : s .args .t .calls ≡ s .args .b .ninstructions
+  unfolding termsOf
+  calls-are = ap (λ (z : Terms). z .calls) (s .pre .2)
+
+  kw-is : s .args .t .kw ≡ kwOf k
+  unfolding termsOf
+  kw-is = ap (λ (z : Terms). z .kw) (s .pre .2)
+
+  abbrev Shows : ℕ → ℕ → List ℕ → Type 0
+  Shows n f live = Lit (isLive (s .args .t3) n f (k .recovery .0) (k .response .0)) (s .args .b .windows) (s .args .b .nwindows) live
+
+  shows : (live : List ℕ) → Shows (s .args .t .calls) (s .args .t .fall) live → Shows (s .args .b .ninstructions) (downMinutes k) live
+  shows live l = subst (λ f. Shows (s .args .b .ninstructions) f live) fall-is (subst (λ n. Shows n (s .args .t .fall) live) calls-are l)
+
+cast-fall : tie.Need-cast-fall
+cast-fall c = let s = c .before .before .before .before in omega (arith, fall-is s, grounds s .sound .contract .fall)
+
+slice-aggregate-show-live : tie.Need-slice-aggregate-show-live
+slice-aggregate-show-live c = search needs
+
+slice-aggregate-show-live-2 : tie.Need-slice-aggregate-show-live-2
+slice-aggregate-show-live-2 c = search needs
+
+show-live-requires : tie.Need-show-live-requires
+show-live-requires c κs =
+    let s = c .before .before .before .before .before .before in
+    let g = grounds s .sound .contract in
+    let h = cleared (s .args .b) (s .args .t3) (meter s) (grounds s) in
+    ((g .recovery, g .response .1, rw (calls-are s, fall-is s) h), (windows-fit (s .args .b) (s .args .t3) (meter s) (grounds s), dark-zeros 1490))
+
+slice-aggregate-availability : tie.Need-slice-aggregate-availability
+slice-aggregate-availability c = search needs
+
+availability-requires : tie.Need-availability-requires
+availability-requires c κs =
+    let s = c .before .before .before .before .before .before .before .before .before in
+    let r = c .before .before .show-live in
+    let g = grounds s .sound in
+    let size = r .ensures .1 ∙ length-replicate {A = ℕ} 1490 0 in (
+      (spans (s .args .b) (s .args .t3) (meter s) (grounds s), size, placed (s .args .b) (s .args .t3) (meter s) (grounds s) (r .last .0) size (shows s (r .last .0) (r .ensures .0)), g .counts .2),
+      (omega (arith, kw-is s, g .contract .kw), g .contract .availability),
+    )
+
+unsummed-of-requires : tie.Need-unsummed-of-requires
+unsummed-of-requires c κs = search needs
+
+returns : tie.Need-returns
+returns c =
+    let r = c .before .before .before .before .show-live in
+    let e = c .unsummed-of .ensures ∙ ap (unsummed (c .before .before .before .before .before .before .before .before .before .before .before .args .n)) (c .before .availability .ensures .0) in
+    record {
+      lines = refl;
+      terms = refl;
+      times = refl;
+      size = r .ensures .1 ∙ length-replicate {A = ℕ} 1490 0;
+      live = r .ensures .0;
+      settlement = ap (λ (z : Statement). record { answer = Taken; statement = z }) e;
+      small = subst (λ (z : Statement). Within 100000000000000 (z .availability .0)) (sym (c .unsummed-of .ensures)) (c .before .availability .ensures .1);
+    }
+
+pub lay-out-spec : {M : Type 1} → statement M
+lay-out-spec =
+    tie.close
+    (tie.spec
+    cast-fall
+    slice-aggregate-show-live
+    slice-aggregate-show-live-2
+    show-live-requires
+    slice-aggregate-availability
+    availability-requires
+    unsummed-of-requires
+    returns)
