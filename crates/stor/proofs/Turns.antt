@@ -2,7 +2,8 @@
 use mathlib.Core.Path.{_≡_, refl, sym, ap, _∙_}
 use mathlib.Core.Bool.{Bool, true, false, true≢false, false≢true}
 use mathlib.Core.List.{List}
-use Prim.Native.Nat.{ℕ, _≤_, _<_}
+use Prim.Native.Nat.{ℕ, _+_, _-_, _≤_, _<_}
+use native.Mathlib.Omega.{arith}
 use lib.IntN.{ℤ}
 use lib.ListN.{length}
 use Rattle.rules.specs.File.{readAt}
@@ -17,7 +18,7 @@ use Rattle.book.specs.declared.Book.{Book}
 use Rattle.book.proofs.Kept.{Kept, kept}
 use Rattle.unitfile.proofs.Steps.{got-within}
 use Rattle.stor.specs.Files.{LoadedFile, carriesOn, loadsOn}
-use Rattle.stor.specs.Turn.{Turned, turnsOn, turnBy, turnAt}
+use Rattle.stor.specs.Turn.{goesBy, turnBy, turnAt}
 use Rattle.stor.specs.declared.file.Loaded.{Loaded}
 use Rattle.stor.specs.declared.file.Turn.{Turn}
 use Rattle.stor.proofs.Pieces.{from, from-step}
@@ -33,7 +34,7 @@ module _ (s : List ℕ) (at : ℕ) (b : Book) (meter : List ℤ) where
   unfolding turnAt
   turn-rest = from-step s at b meter ∙ go (readAt s at)
     where
-      answered : (next : ℕ) (a : Answer) (e : Entered) → carriesOn (λ b m. from s next b m) at a e ≡ rest s (turnsOn at next a e .turn .going) (turnsOn at next a e .turn .loaded) (turnsOn at next a e .meter)
+      answered : (next : ℕ) (a : Answer) (e : Entered) → carriesOn (λ b m. from s next b m) at a e ≡ rest s (goesBy at next a (e .entry .book) .going) (goesBy at next a (e .entry .book) .loaded) (e .meter)
       answered next Taken e = refl
       answered next (Refused n) e = refl
 
@@ -47,13 +48,13 @@ module _ (s : List ℕ) (at : ℕ) (b : Book) (meter : List ℤ) where
   unfolding turnAt
   turn-moves = go (readAt s at) refl
     where
-      answered : (next : ℕ) (a : Answer) (e : Entered) → (at < next) × (next ≤ length s) → turnsOn at next a e .turn .going ≡ true
-          → (at < turnsOn at next a e .turn .loaded .at) × (turnsOn at next a e .turn .loaded .at ≤ length s)
+      answered : (next : ℕ) (a : Answer) (e : Book) → (at < next) × (next ≤ length s) → goesBy at next a e .going ≡ true
+          → (at < goesBy at next a e .loaded .at) × (goesBy at next a e .loaded .at ≤ length s)
       answered next Taken e h g = h
       answered next (Refused n) e h g = absurd (false≢true g)
 
       go : (r : Read) → readAt s at ≡ r → turnBy at b meter r .turn .going ≡ true → (at < turnBy at b meter r .turn .loaded .at) × (turnBy at b meter r .turn .loaded .at ≤ length s)
-      go (Got c next) e g = answered next (enterBook b meter c .entry .answer) (enterBook b meter c) (got-within s at e) g
+      go (Got c next) e g = answered next (enterBook b meter c .entry .answer) (enterBook b meter c .entry .book) (got-within s at e) g
       go (refusedʳ n) e g = absurd (false≢true g)
       go End e g = absurd (false≢true g)
 
@@ -62,12 +63,12 @@ module _ (s : List ℕ) (at : ℕ) (b : Book) (meter : List ℤ) where
   unfolding turnAt
   turn-stays = go (readAt s at)
     where
-      answered : (next : ℕ) (a : Answer) (e : Entered) → turnsOn at next a e .turn .going ≡ false → turnsOn at next a e .turn .loaded .at ≡ at
+      answered : (next : ℕ) (a : Answer) (e : Book) → goesBy at next a e .going ≡ false → goesBy at next a e .loaded .at ≡ at
       answered next Taken e g = absurd (true≢false g)
       answered next (Refused n) e g = refl
 
       go : (r : Read) → turnBy at b meter r .turn .going ≡ false → turnBy at b meter r .turn .loaded .at ≡ at
-      go (Got c next) g = answered next (enterBook b meter c .entry .answer) (enterBook b meter c) g
+      go (Got c next) g = answered next (enterBook b meter c .entry .answer) (enterBook b meter c .entry .book) g
       go (refusedʳ n) g = refl
       go End g = refl
 
@@ -76,11 +77,47 @@ module _ (s : List ℕ) (at : ℕ) (b : Book) (meter : List ℤ) where
   unfolding turnAt
   turn-keeps k = go (readAt s at)
     where
-      answered : (next : ℕ) (a : Answer) (e : Entered) → Kept (e .entry .book) → Kept (turnsOn at next a e .turn .loaded .book)
+      answered : (next : ℕ) (a : Answer) (e : Book) → Kept e → Kept (goesBy at next a e .loaded .book)
       answered next Taken e k = k
       answered next (Refused n) e k = k
 
       go : (r : Read) → Kept (turnBy at b meter r .turn .loaded .book)
-      go (Got c next) = answered next (enterBook b meter c .entry .answer) (enterBook b meter c) (kept b meter c k)
+      go (Got c next) = answered next (enterBook b meter c .entry .answer) (enterBook b meter c .entry .book) (kept b meter c k)
       go (refusedʳ n) = k
       go End = k
+
+-- ---- the loop
+
+-- one turn more while the loop goes on
+abbrev pub more : Bool → ℕ
+more true = 1
+more false = 0
+
+-- a turn of the loop, as the code has it
+module _ (s : List ℕ) (l : Loaded) (meter : List ℤ) (r : Turn) (after : List ℤ) (turned : r ≡ turnAt s (l .at) (l .book) meter .turn)
+    (left : after ≡ turnAt s (l .at) (l .book) meter .meter) where
+  pub again : from s (l .at) (l .book) meter ≡ rest s (r .going) (r .loaded) after
+  again = turn-rest s (l .at) (l .book) meter ∙ sym (rw (turned, left) refl)
+
+  pub keeps : Kept (l .book) → Kept (r .loaded .book)
+  keeps k = rw turned (turn-keeps s (l .at) (l .book) meter k)
+
+  moves : r .going ≡ true → (l .at < r .loaded .at) × (r .loaded .at ≤ length s)
+  moves = rw turned (turn-moves s (l .at) (l .book) meter)
+
+  stays : r .going ≡ false → r .loaded .at ≡ l .at
+  stays = rw turned (turn-stays s (l .at) (l .book) meter)
+
+  pub inside : l .at ≤ length s → r .loaded .at ≤ length s
+  inside h = go (r .going) refl
+    where
+      go : (b : Bool) → r .going ≡ b → r .loaded .at ≤ length s
+      go true e = moves e .1
+      go false e = omega (arith, stays e)
+
+  pub less : l .at ≤ length s → (length s - r .loaded .at) + more (r .going) < (length s - l .at) + 1
+  less h = go (r .going) refl
+    where
+      go : (b : Bool) → r .going ≡ b → (length s - r .loaded .at) + more b < (length s - l .at) + 1
+      go true e = omega (arith, moves e)
+      go false e = omega (arith, stays e)

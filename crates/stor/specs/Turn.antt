@@ -9,7 +9,7 @@ use Rattle.rules.specs.declared.answer.Answer.the-variants.{Taken, Refused}
 use Rattle.rules.specs.declared.file.Read.{Read}
 use Rattle.rules.specs.declared.file.Read.the-variants.{Got, End}
 use Rattle.rules.specs.declared.file.Read.the-variants.{Refused as refusedʳ}
-use Rattle.book.specs.Enter.{enterBook, Entered}
+use Rattle.book.specs.Enter.{enterBook}
 use Rattle.book.specs.declared.Book.{Book}
 use Rattle.stor.specs.declared.file.Loaded.{Loaded}
 use Rattle.stor.specs.declared.file.Turn.{Turn}
@@ -19,21 +19,21 @@ pub record Turned : Type 0 where
   pub turn : Turn
   pub meter : List ℤ
 
--- the loop ends here
-abbrev pub stops : ℕ → Answer → Book → List ℤ → Turned
-stops at a b meter = record { turn = record { going = false; loaded = record { answer = a; at = at; book = b } }; meter = meter }
+-- the loop ends at a position
+abbrev pub stopsAt : ℕ → Answer → Book → Turn
+stopsAt at a b = record { going = false; loaded = record { answer = a; at = at; book = b } }
 
 -- a command taken is followed by the next one; a refused one ends the loop, at its own position
-abbrev pub turnsOn : ℕ → ℕ → Answer → Entered → Turned
-turnsOn at next Taken e =
-    record { turn = record { going = true; loaded = record { answer = Taken; at = next; book = e .entry .book } }; meter = e .meter }
-turnsOn at next (Refused n) e = stops at (Refused n) (e .entry .book) (e .meter)
+abbrev pub goesBy : ℕ → ℕ → Answer → Book → Turn
+goesBy at next Taken b = record { going = true; loaded = record { answer = Taken; at = next; book = b } }
+goesBy at next (Refused n) b = stopsAt at (Refused n) b
 
 -- what was read is entered; end, 1 and 2 end the loop
 abbrev pub turnBy : ℕ → Book → List ℤ → Read → Turned
-turnBy at b meter (Got c next) = turnsOn at next (enterBook b meter c .entry .answer) (enterBook b meter c)
-turnBy at b meter (refusedʳ n) = stops at (Refused n) b meter
-turnBy at b meter End = stops at Taken b meter
+turnBy at b meter (Got c next) =
+    record { turn = goesBy at next (enterBook b meter c .entry .answer) (enterBook b meter c .entry .book); meter = enterBook b meter c .meter }
+turnBy at b meter (refusedʳ n) = record { turn = stopsAt at (Refused n) b; meter = meter }
+turnBy at b meter End = record { turn = stopsAt at Taken b; meter = meter }
 
 -- one turn
 unfoldable pub turnAt : List ℕ → ℕ → Book → List ℤ → Turned

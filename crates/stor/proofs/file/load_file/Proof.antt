@@ -1,0 +1,21 @@
+-- `stor::file::load_file` meets its contract: the empty book is sound.
+use borrow.Author.Needs.{needs}
+use mathlib.Core.List.{[]}
+use Rattle.book.proofs.Follow.{starts}
+use Rattle.stor.proofs.file.load_file.Statement.{statement}
+use Rattle.stor.proofs.file.load_file.Tie as tie
+
+empty-requires : tie.Need-empty-requires
+empty-requires c κs = search needs
+
+load-requires : tie.Need-load-requires
+load-requires c κs = rw (c .before .empty .ensures) (starts [] .left)
+
+same-length : tie.Need-same-length
+same-length c = search needs
+
+returns : tie.Need-returns
+returns c = rw (← c .before .before .before .empty .ensures) (c .before .load .ensures)
+
+pub load-file-spec : {M : Type 1} → statement M
+load-file-spec = tie.close (tie.spec empty-requires load-requires same-length returns)
