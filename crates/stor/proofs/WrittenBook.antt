@@ -1,32 +1,29 @@
 -- Laws of a whole book's file: what is known of a book that commands leave, and that the rules write it as its parts.
-use mathlib.Core.Path.{_≡_, refl, sym, ap, ap₂, _∙_, subst}
-use mathlib.Core.Bool.{Bool, true, false, cond, not}
-use mathlib.Core.List.{List, [], _∷_, _++_, map, append-nil}
-use mathlib.Core.Option.{Option, none, some}
-use Prim.Native.Nat.{ℕ, zero, suc, _+_, _*_, _-_, _≤_, _<_}
+use mathlib.Core.Path.{_≡_, refl, sym, ap, ap₂, _∙_}
+use mathlib.Core.Bool.{Bool, true, false, cond}
+use mathlib.Core.List.{List, [], _∷_, _++_, map}
+use mathlib.Core.Option.{none}
+use Prim.Native.Nat.{ℕ, zero, suc, _+_, _-_, _≤_, _<_}
 use native.Mathlib.Nat.{zero-add}
 use native.Mathlib.Omega.{arith}
 use borrow.Author.Tests.{lt-ltb, le-ltb}
-use lib.Dec.{T, eqb, leb, ltb, leb→le, eqb→eq}
 use lib.IntN.{ℤ}
-use lib.ListN.{length, getD, take, drop, length-map}
-use Rattle.energy.specs.Lists.{concatMap, first, run, between, pass}
-use Rattle.energy.proofs.Tests.{T-and, to-T, passes}
-use Rattle.rules.specs.Ledger.{contractOf, noContract, spanOf}
-use Rattle.rules.specs.Refusal.{lowest, answerOf}
-use Rattle.rules.specs.Reached.{agreedTests}
-use Rattle.rules.specs.File.{readingAt, write, written, fileOf}
+use lib.ListN.{length, getD, length-map}
+use Rattle.energy.specs.Lists.{concatMap, run, between}
+use Rattle.rules.specs.Ledger.{contractOf, spanOf}
+use Rattle.rules.specs.Refusal.{lowest}
+use Rattle.rules.specs.File.{readingAt, written, fileOf}
 use Rattle.rules.specs.declared.contract.Contract.{Contract}
 use Rattle.rules.specs.declared.answer.Answer.the-variants.{Taken, Refused}
-use Rattle.rules.specs.declared.entries.Command.{Command}
-use Rattle.rules.specs.declared.entries.Command.the-variants.{Contract as contractᶜ, Window as windowᶜ, Instruction as instructionᶜ, Default as defaultᶜ, Reading as readingᶜ, Close as closeᶜ}
-use Rattle.rules.proofs.Reached.{parts as tests-of}
+use Rattle.rules.specs.declared.entries.Command.the-variants.{Contract as contractᶜ, Window as windowᶜ, Instruction as instructionᶜ, Default as defaultᶜ}
 use Rattle.rules.proofs.Terms.{ranges}
 use Rattle.unitfile.specs.Write.{putAt}
 use Rattle.book.specs.Book.{ledgerIn, cell, missing}
-use Rattle.book.specs.Sound.{sound, Shaped, tableTests, emptyTests, noContractTests}
+use Rattle.book.specs.Sound.{sound, Shaped}
 use Rattle.book.specs.declared.Book.{Book}
-use Rattle.stor.specs.Layout.{bytesOf, Room, Laid, placesIn, usedIn, entries, readings, parts, Tabled, Kept}
+use Rattle.book.proofs.Tested.{sound-parts, sound-used, sound-empty}
+use Rattle.settlement.proofs.Sound.{span-sound}
+use Rattle.stor.specs.Layout.{bytesOf, Laid, readings, parts, Tabled, Kept}
 use Rattle.stor.specs.Write.{writeConditions, writeBook}
 use Rattle.stor.specs.declared.writer.Written.{Written}
 use Rattle.stor.specs.declared.writer.Table.{Table}
@@ -35,45 +32,18 @@ use Rattle.stor.proofs.WrittenParts.{take-map}
 
 -- ---- a book that commands leave
 
-pub record Counted (b : Book) : Type 0 where
-  pub windows : b .nwindows ≤ 128
-  pub instructions : b .ninstructions ≤ 64
-  pub defaults : b .ndefaults ≤ 128
-  pub days : b .contract .days ≤ 31
-  -- without a contract the span is 0
-  pub span : spanOf (first noContract (cond (b .agreed) (b .contract ∷ []) [])) ≡ spanOf (b .contract)
+-- its span is at most a month of 31 days
+month : (b : Book) → sound b ≡ true → spanOf (b .contract) ≤ 44640
+month b e = go (b .agreed) refl
+  where
+    go : (agreed : Bool) → b .agreed ≡ agreed → spanOf (b .contract) ≤ 44640
+    go true s = omega (arith, ranges (b .contract) (sound-used b e s .operands) .days .1)
+    go false s = omega (arith, ap (λ k. k .days) (sound-empty b e s .contract))
 
--- the contract's days
-days-of : (b : Book) (agreed : Bool)
-    → T (pass (cond agreed (agreedTests (b .contract) (take (b .nwindows) (b .windows)) (take (b .ninstructions) (b .instructions)) (take (b .ndefaults) (b .defaults))) (emptyTests b)))
-    → (b .contract .days ≤ 31) × (spanOf (first noContract (cond agreed (b .contract ∷ []) [])) ≡ spanOf (b .contract))
-unfolding first emptyTests noContractTests
-days-of b true t =
-    let p = tests-of (b .contract) (take (b .nwindows) (b .windows)) (take (b .ninstructions) (b .instructions)) (take (b .ndefaults) (b .defaults)) t in
-    (ranges (b .contract) (p .operands) .days .1, refl)
-days-of b false t =
-    let zeros = passes (noContractTests (b .contract)) (passes (emptyTests b) t .0) in
-    let none-left : b .contract .days ≡ 0 = eqb→eq (b .contract .days) 0 (zeros .0) in
-    (omega arith, omega arith)
-
-pub counted : (b : Book) → sound b ≡ true → Counted b
-unfolding sound tableTests
-counted b e =
-    let tests = agreedTests (b .contract) (take (b .nwindows) (b .windows)) (take (b .ninstructions) (b .instructions)) (take (b .ndefaults) (b .defaults)) in
-    let both = T-and (pass (tableTests b)) (pass (cond (b .agreed) tests (emptyTests b))) (to-T e) in
-    let tables = passes (tableTests b) (both .0) in
-    let days = days-of b (b .agreed) (both .1) in
-    record {
-      windows = leb→le (b .nwindows) 128 (tables .0);
-      instructions = leb→le (b .ninstructions) 64 (tables .1 .0);
-      defaults = leb→le (b .ndefaults) 128 (tables .1 .1 .0);
-      days = days .0;
-      span = days .1;
-    }
-
--- an array's length, as owning it tells, is that of the list of its elements' values
-pub length-mapped : (X Y : Type 0) (f : X → Y) (l : List X) (n : ℕ) → length (map f l) ≡ n → length l ≡ n
-length-mapped X Y f l n e = sym (length-map l f) ∙ e
+pub kept : (b : Book) (meter : List ℤ) → sound b ≡ true → spanOf (b .contract) ≤ length meter → Kept b (length meter)
+kept b meter e h =
+    let t = sound-parts b e .tables in
+    record { windows = t .windows; instructions = t .instructions; defaults = t .defaults; month = month b e; memory = h }
 
 -- each of its tables, in arrays of their lengths
 pub tabled : (b : Book) {size : ℕ} → Shaped b → Kept b size → (t : Table) → Tabled b t
@@ -99,13 +69,9 @@ unfolding between ledgerIn readings
 readings-part b meter =
     concatMap-ext _ _ (spanOf (b .contract) - 0) 0 (λ m h. ap (λ (inside : Bool). readingAt (cond inside (cell (getD meter m missing)) none) m) (lt-ltb m (spanOf (b .contract)) (omega arith)))
 
-module _ (b : Book) (meter : List ℤ) (c : Counted b) where
-  pub span-is : spanOf (contractOf (ledgerIn b meter)) ≡ spanOf (b .contract)
-  unfolding contractOf ledgerIn
-  span-is = c .span
-
+module _ (b : Book) (meter : List ℤ) (e : sound b ≡ true) where
   readings-written : concatMap (λ m. readingAt (ledgerIn b meter .reading m) m) (between 0 (spanOf (contractOf (ledgerIn b meter)))) ≡ readings meter (spanOf (b .contract))
-  readings-written = ap (λ n. concatMap (λ m. readingAt (ledgerIn b meter .reading m) m) (between 0 n)) span-is ∙ readings-part b meter
+  readings-written = ap (λ n. concatMap (λ m. readingAt (ledgerIn b meter .reading m) m) (between 0 n)) (span-sound b meter e) ∙ readings-part b meter
 
   written-parts : written (ledgerIn b meter) ≡ parts b meter
   unfolding written parts ledgerIn
@@ -139,25 +105,32 @@ refused-11 b meter memory e = rw e (refl, refl)
 module _ (b : Book) (meter : List ℤ) (memory : List ℕ) (e : sound b ≡ true) where
   pub refused-15 : length meter < spanOf (b .contract) → Gives b meter memory (no 15) memory
   unfolding writeBook writeConditions lowest
-  refused-15 h = rw (e, span-is b meter (counted b e), lt-ltb (length meter) (spanOf (b .contract)) h) (refl, refl)
+  refused-15 h = rw (e, span-sound b meter e, lt-ltb (length meter) (spanOf (b .contract)) h) (refl, refl)
 
   module _ (h : spanOf (b .contract) ≤ length meter) where
-    pub kept : Kept b (length meter)
-    kept =
-        let c = counted b e in
-        record { windows = c .windows; instructions = c .instructions; defaults = c .defaults; month = omega (arith, c .days); memory = h }
-
     pub refused-26 : length memory < length (bytesOf (parts b meter)) → Gives b meter memory (no 26) memory
     unfolding writeBook writeConditions lowest
     refused-26 short =
-        rw (e, span-is b meter (counted b e), le-ltb (length meter) (spanOf (b .contract)) h, file-is b meter (counted b e), lt-ltb (length memory) (length (bytesOf (parts b meter))) short) (refl, refl)
+        rw (
+          e,
+          span-sound b meter e,
+          le-ltb (length meter) (spanOf (b .contract)) h,
+          file-is b meter e,
+          lt-ltb (length memory) (length (bytesOf (parts b meter))) short,
+        ) (refl, refl)
 
     pub written-whole : length (bytesOf (parts b meter)) ≤ length memory → {after : List ℕ} {next : ℕ} → Laid (parts b meter) memory 0 after next
         → Gives b meter memory (record { answer = Taken; size = next }) after
     unfolding writeBook writeConditions lowest putAt
     written-whole long {after} {next} l =
-        let file : bytesOf (parts b meter) ≡ fileOf (ledgerIn b meter) = sym (file-is b meter (counted b e)) in
-        rw (e, span-is b meter (counted b e), le-ltb (length meter) (spanOf (b .contract)) h, file-is b meter (counted b e), le-ltb (length memory) (length (bytesOf (parts b meter))) long) (
+        let file : bytesOf (parts b meter) ≡ fileOf (ledgerIn b meter) = sym (file-is b meter e) in
+        rw (
+          e,
+          span-sound b meter e,
+          le-ltb (length meter) (spanOf (b .contract)) h,
+          file-is b meter e,
+          le-ltb (length memory) (length (bytesOf (parts b meter))) long,
+        ) (
           ap (λ n. record { answer = Taken; size = n }) (l .ends ∙ zero-add (length (bytesOf (parts b meter))) ∙ ap length file),
           l .holds ∙ rw (zero-add, file),
         )

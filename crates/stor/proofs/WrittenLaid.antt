@@ -1,14 +1,10 @@
 -- Laws of commands laid out one after another in lent bytes.
-use mathlib.Core.Path.{_≡_, refl, sym, ap, _∙_}
-use mathlib.Core.List.{List, [], _∷_, _++_, append-nil, append-assoc}
+use mathlib.Core.Path.{_≡_, sym, ap, _∙_}
+use mathlib.Core.List.{List, [], _∷_, _++_, append-nil}
 use Prim.Native.Nat.{ℕ, zero, suc, _+_, _-_, _≤_, _<_}
 use native.Mathlib.Nat.{le-refl}
 use native.Mathlib.Omega.{arith}
-use mathlib.Core.Bool.{true}
-use borrow.Author.Tests.{le-leb}
-use lib.Dec.{leb}
-use lib.ListN.{length, take, drop, length-append}
-use lib.Seq.{drop-drop}
+use lib.ListN.{length, length-append}
 use Rattle.energy.specs.Lists.{concatMap}
 use Rattle.rules.specs.File.{write}
 use Rattle.rules.specs.declared.entries.Command.{Command}
@@ -16,7 +12,7 @@ use Rattle.rules.proofs.Taken.{concatMap-append}
 use Rattle.unitfile.specs.Write.{putAt, writeAt}
 use Rattle.unitfile.specs.declared.encode.Written.{Written as Wr}
 use Rattle.unitfile.specs.declared.encode.Written.the-variants.{Next, Refused}
-use Rattle.unitfile.proofs.Puts.{put-none, length-put, put-after}
+use Rattle.unitfile.proofs.Puts.{put-none, length-put, put-put, write-room}
 use Rattle.stor.specs.Layout.{bytesOf, Room, Laid}
 
 -- ---- one after the other
@@ -35,29 +31,23 @@ laid-none m at = record { ends = omega arith; holds = sym (put-none m at) }
 
 -- one command, as the unit file's writer puts it where there is room for it
 module _ (c : Command) (m : List ℕ) (at : ℕ) (r : Room (c ∷ []) m at) where
-  room-one : leb (at + length (write c)) (length m) ≡ true
-  room-one = le-leb (at + length (write c)) (length m) (omega (arith, r .fits, ap length (bytes-one c)))
+  one : writeAt c m at ≡ record { answer = Next (at + length (write c)); bytes = putAt (write c) m at }
+  one = write-room c m at (rw (bytes-one c) at (r .fits))
 
   pub laid-one : {w : Wr} {next : ℕ} {after : List ℕ} → w ≡ writeAt c m at .answer → w ≡ Next next → after ≡ writeAt c m at .bytes → Laid (c ∷ []) m at after next
-  unfolding writeAt
-  laid-one {w} {next} {after} answer is bytes =
-      let there : Next next ≡ Next (at + length (write c)) = sym is ∙ answer ∙ rw room-one in
-      record { ends = rw (bytes-one c) (cc); holds = bytes ∙ rw (room-one, bytes-one c) }
+  laid-one {next = next} answer is bytes =
+      let there : Next next ≡ Next (at + length (write c)) = sym is ∙ answer ∙ ap (λ x. x .answer) one in
+      record { ends = rw (bytes-one c) (cc); holds = bytes ∙ rw (one, bytes-one c) }
 
   pub not-refused : {w : Wr} {n : ℕ} → w ≡ writeAt c m at .answer → w ≡ Refused n → ⊥
-  unfolding writeAt
-  not-refused {w} {n} answer is =
-      let there : Refused n ≡ Next (at + length (write c)) = sym is ∙ answer ∙ rw room-one in
+  not-refused {n = n} answer is =
+      let there : Refused n ≡ Next (at + length (write c)) = sym is ∙ answer ∙ ap (λ x. x .answer) one in
       let clash : _≡_ {A = ℕ} 0 1 = cc in
       omega arith
 
 -- memory keeps its length
 pub laid-long : {cs : List Command} {m after : List ℕ} {at next : ℕ} → Room cs m at → Laid cs m at after next → length after ≡ length m
 laid-long {cs} {m} {at = at} r l = ap length (l .holds) ∙ length-put (bytesOf cs) m at (r .fits)
-
-put-split : (bs m : List ℕ) (at : ℕ) → putAt bs m at ≡ take at m ++ (bs ++ drop (length bs) (drop at m))
-unfolding putAt
-put-split bs m at = rw (append-assoc, drop-drop)
 
 module _ (cs ds : List Command) {m : List ℕ} {at : ℕ} (r : Room (cs ++ ds) m at) where
   pub room-first : Room cs m at
@@ -72,8 +62,9 @@ module _ (cs ds : List Command) {m : List ℕ} {at : ℕ} (r : Room (cs ++ ds) m
         record {
           ends = omega (arith, length-both cs ds, l .ends, n .ends);
           holds =
-              n .holds ∙ put-split (bytesOf ds) m₁ at₁ ∙ rw (l .holds, concatMap-append write cs ds)
-              (put-after (bytesOf cs) (bytesOf ds) m at at₁ (length (bytesOf ds)) (l .ends) refl (omega (arith, r .fits, length-both cs ds, l .ends)));
+              n .holds
+              ∙ rw (l .holds, concatMap-append write cs ds)
+              (put-put (bytesOf cs) (bytesOf ds) m at at₁ (l .ends) (omega (arith, r .fits, length-both cs ds, l .ends)));
         }
 
 -- ---- a loop that puts commands, some each turn

@@ -1,10 +1,10 @@
 -- Laws of the parts of a book's file: entries and readings one after the other, and how long they are.
-use mathlib.Core.Path.{_≡_, refl, sym, ap, ap₂, _∙_}
+use mathlib.Core.Path.{_≡_, refl, sym, ap, _∙_}
 use mathlib.Core.Bool.{Bool, true, false, cond}
 use mathlib.Core.List.{List, [], _∷_, _++_, map, append-nil}
 use mathlib.Core.Option.{Option, none, some}
 use Prim.Native.Nat.{ℕ, zero, suc, _+_, _*_, _≤_, _<_}
-use native.Mathlib.Nat.{le-refl, add-mul, suc-mul, zero-mul, one-mul}
+use native.Mathlib.Nat.{le-refl, suc-mul, zero-mul, one-mul}
 use native.Mathlib.Numerals.{add-one}
 use native.Mathlib.Omega.{arith}
 use lib.IntN.{ℤ}
@@ -12,18 +12,16 @@ use lib.ListN.{length, getD, take, length-append, length-map, List·getD-map}
 use lib.Seq.{take-suc, length-take-le}
 use Rattle.energy.specs.Lists.{concatMap, run, between}
 use Rattle.energy.proofs.Sums.{between-snoc}
-use Rattle.rules.specs.File.{table, widthsOf, total, write, readingAt}
-use Rattle.rules.specs.Refusal.{isReading}
 use Rattle.rules.specs.Ledger.{spanOf}
+use Rattle.rules.specs.Refusal.{isReading}
+use Rattle.rules.specs.File.{table, widthsOf, bytesOf as word, writeOperands, write, readingAt}
 use Rattle.rules.specs.declared.entries.Reading.{Reading}
 use Rattle.rules.specs.declared.entries.Command.{Command}
 use Rattle.rules.specs.declared.entries.Command.the-variants.{Contract as contractᶜ, Window as windowᶜ, Instruction as instructionᶜ, Default as defaultᶜ, Reading as readingᶜ, Close as closeᶜ}
 use Rattle.rules.proofs.Taken.{concatMap-append}
-use Rattle.unitfile.specs.Table.{rowOf, rowIn, rowFor}
-use Rattle.unitfile.proofs.Commands.{encoded}
-use Rattle.unitfile.proofs.Rows.{getD-any}
 use Rattle.book.specs.Book.{cell, missing}
 use Rattle.book.specs.declared.Book.{Book}
+use Rattle.book.proofs.Tables.{getD-within}
 use Rattle.stor.specs.Layout.{bytesOf, Room, Laid, placesIn, usedIn, entries, readings, parts, Tabled}
 use Rattle.stor.specs.declared.writer.Table.{Table}
 use Rattle.stor.specs.declared.writer.Table.the-variants.{Windows, Instructions, Defaults}
@@ -40,13 +38,13 @@ sizeOf (readingᶜ r) = 7
 sizeOf closeᶜ = 1
 
 size : (c : Command) → length (write c) ≡ sizeOf c
-unfolding table widthsOf total rowOf rowIn rowFor sizeOf
-size (contractᶜ k) = sym (encoded (contractᶜ k) .long)
-size (windowᶜ w) = sym (encoded (windowᶜ w) .long)
-size (instructionᶜ i) = sym (encoded (instructionᶜ i) .long)
-size (defaultᶜ d) = sym (encoded (defaultᶜ d) .long)
-size (readingᶜ r) = sym (encoded (readingᶜ r) .long)
-size closeᶜ = sym (encoded closeᶜ .long)
+unfolding table widthsOf word writeOperands write sizeOf
+size (contractᶜ k) = refl
+size (windowᶜ w) = refl
+size (instructionᶜ i) = refl
+size (defaultᶜ d) = refl
+size (readingᶜ r) = refl
+size closeᶜ = refl
 
 pub write-short : (c : Command) → length (write c) ≤ 32
 unfolding sizeOf
@@ -75,7 +73,7 @@ module _ {A : Type 0} (f : A → Command) (xs : List A) (i : ℕ) (h : i < lengt
   place-below e = omega (arith, length-map xs f)
 
   pub place-is : (d : A) → f (getD xs i d) ≡ getD (map f xs) i closeᶜ
-  place-is d = sym (List·getD-map f xs i d) ∙ getD-any (map f xs) i (f d) closeᶜ h
+  place-is d = sym (List·getD-map f xs i d) ∙ getD-within (map f xs) i (f d) closeᶜ h
 
 -- entries of one length
 module _ {A : Type 0} (f : A → Command) (k : ℕ) (alike : (x : A) → length (write (f x)) ≡ k) where

@@ -28,7 +28,15 @@ pub struct Written {
     pub size: usize,
 }
 
-// The book as `Book::sound` finds it; the conditions before any byte is put.
+// Writes a book and the readings in meter memory as a unit file into the first lent bytes; those after it keep their contents.
+pub fn write_book(b: Book, meter: &[i32], out: &mut [u8]) -> Written
+    ensures { λ r. ⌜ (r ≡ writeBook b (now (meter .entry)) (now (out .entry)) .written) × (now (out .exit) ≡ writeBook b (now (meter .entry)) (now (out .entry)) .memory) ⌝ }
+{
+    let left = b.sound();
+    write_left(b, left, meter, out)
+}
+
+// The same for a book that the test for 11 was asked of.
 fn write_left(b: Book, left: bool, meter: &[i32], out: &mut [u8]) -> Written
     requires { ⌜ left ≡ sound b ⌝ }
     ensures { λ r. ⌜ (r ≡ writeBook b (now (meter .entry)) (now (out .entry)) .written) × (now (out .exit) ≡ writeBook b (now (meter .entry)) (now (out .entry)) .memory) ⌝ }

@@ -5,9 +5,9 @@ use borrow.Author.Needs.{needs}
 use lib.ListN.{length}
 use Rattle.rules.specs.declared.entries.Command.the-variants.{Window as windowᶜ, Instruction as instructionᶜ, Default as defaultᶜ}
 use Rattle.book.specs.Sound.{Shaped}
+use Rattle.book.proofs.Tables.{length-mapped}
 use Rattle.book.specs.Book.{noWindow, noInstruction, noDefault}
 use Rattle.stor.proofs.WrittenParts.{place-below, place-is}
-use Rattle.stor.proofs.WrittenBook.{length-mapped}
 use Rattle.stor.proofs.writer.entry.Statement.{statement}
 use Rattle.stor.proofs.writer.entry.Tie as tie
 

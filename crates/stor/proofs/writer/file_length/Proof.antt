@@ -9,10 +9,11 @@ use lib.ListN.{length}
 use Rattle.rules.specs.Ledger.{spanOf}
 use Rattle.rules.specs.declared.entries.Command.the-variants.{Contract as contractᶜ, Close as closeᶜ}
 use Rattle.book.specs.Sound.{Shaped}
+use Rattle.book.proofs.Tables.{length-mapped}
 use Rattle.stor.specs.Layout.{bytesOf, parts, readings, Tabled}
 use Rattle.stor.specs.declared.writer.Table.{Table}
 use Rattle.stor.proofs.WrittenParts.{once-most, once-length, readings-few, readings-length, parts-length, parts-short}
-use Rattle.stor.proofs.WrittenBook.{length-mapped, tabled}
+use Rattle.stor.proofs.WrittenBook.{tabled}
 use Rattle.stor.proofs.writer.file_length.Statement.{statement}
 use Rattle.stor.proofs.writer.file_length.Tie as tie
 

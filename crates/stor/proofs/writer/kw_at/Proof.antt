@@ -7,8 +7,8 @@ use lib.ListN.{getD}
 use mir.Syntax.{w32, w64}
 use mir.Val.{SFits}
 use mir.Facts.{toZ-ofZ, sfits-widen}
-use Rattle.unitfile.proofs.Rows.{getD-any}
 use Rattle.book.specs.Book.{missing}
+use Rattle.book.proofs.Tables.{getD-within}
 use Rattle.stor.proofs.writer.kw_at.Statement.{statement}
 use Rattle.stor.proofs.writer.kw_at.Tie as tie
 
@@ -27,7 +27,7 @@ cast-t6 c = sfits-widen {w = w32} {w′ = w64} tt (rw (toZ-ofZ (held c)) (held c
 returns : tie.Need-returns
 returns c =
     rw (toZ-ofZ (held c), toZ-ofZ (sfits-widen {w = w32} {w′ = w64} tt (held c)))
-    (getD-any (c .before .args .meter .now) (c .before .args .m) (pos 0) missing (c .before .pre))
+    (getD-within (c .before .args .meter .now) (c .before .args .m) (pos 0) missing (c .before .pre))
 
 pub kw-at-spec : {M : Type 1} → statement M
 kw-at-spec = tie.close (tie.spec mul-t3 shared-slice-copy-out-t5 cast-t6 returns)

@@ -3,10 +3,11 @@ use Prim.Native.Nat.{_≤_}
 use native.Mathlib.Omega.{arith}
 use borrow.Author.Needs.{needs}
 use Rattle.book.specs.Sound.{Shaped}
+use Rattle.book.proofs.Tables.{length-mapped}
 use Rattle.stor.specs.Layout.{Laid, readings, Tabled}
 use Rattle.stor.specs.declared.writer.Table.{Table}
 use Rattle.stor.proofs.WrittenParts.{room-contract, room-windows, room-instructions, room-defaults, room-readings, room-close, parts-laid}
-use Rattle.stor.proofs.WrittenBook.{length-mapped, tabled}
+use Rattle.stor.proofs.WrittenBook.{tabled}
 use Rattle.stor.proofs.writer.put_book.Statement.{statement}
 use Rattle.stor.proofs.writer.put_book.Tie as tie
 

@@ -44,7 +44,7 @@ within c = rw (c .before .span-of .ensures) at (c .if2 .left)
 file-length-requires : tie.Need-file-length-requires
 file-length-requires c κs =
     let s = c .before .before .before .before .before in
-    kept (s .args .b) (s .args .meter .now) (s .args .out .now) (left (c .before .before .before)) (within c)
+    kept (s .args .b) (s .args .meter .now) (left (c .before .before .before)) (within c)
 
 refused-requires-3 : tie.Need-refused-requires-3
 refused-requires-3 c κs = search needs
@@ -65,7 +65,7 @@ put-book-requires : tie.Need-put-book-requires
 put-book-requires c κs =
     let e = c .before .before .before in
     let s = e .before .before .before .before .before in
-    (kept (s .args .b) (s .args .meter .now) (s .args .out .now) (left (e .before .before .before)) (within e), record { fits = omega (arith, long (c .before)) })
+    (kept (s .args .b) (s .args .meter .now) (left (e .before .before .before)) (within e), record { fits = omega (arith, long (c .before)) })
 
 same-length : tie.Need-same-length
 same-length c = search needs
