@@ -1,14 +1,13 @@
 // A book as a unit file.
 ghost use mathlib.Core.Path.{_≡_};
 ghost use mathlib.Core.Bool.{cond};
-ghost use mathlib.Core.List.{List, [], _∷_};
+ghost use mathlib.Core.List.{[], _∷_};
 ghost use Prim.Native.Nat.{_≤_, _<_, _*_};
 ghost use lib.ListN.{length, getD};
 ghost use Rattle.rules.specs.Ledger.{spanOf};
-ghost use Rattle.rules.specs.Refusal.{isReading, answerOf};
+ghost use Rattle.rules.specs.Refusal.{isReading};
 ghost use Rattle.rules.specs.File.{write, readingAt};
 ghost use Rattle.book.specs.Book.{cell, missing};
-ghost use Rattle.book.specs.Sound.{sound};
 ghost use Rattle.stor.specs.Layout.{bytesOf, Room, Laid, placesIn, usedIn, entries, Tabled, readings, parts, Kept};
 ghost use Rattle.stor.specs.Write.{writeBook};
 use book::Book;
@@ -28,19 +27,12 @@ pub struct Written {
     pub size: usize,
 }
 
-// Writes a book and the readings in meter memory as a unit file into the first lent bytes; those after it keep their contents.
+// Writes a book and the readings in meter memory as a unit file into the first of the lent bytes. Those after it keep their contents; a
+// refusal alters none.
 pub fn write_book(b: Book, meter: &[i32], out: &mut [u8]) -> Written
     ensures { λ r. ⌜ (r ≡ writeBook b (now (meter .entry)) (now (out .entry)) .written) × (now (out .exit) ≡ writeBook b (now (meter .entry)) (now (out .entry)) .memory) ⌝ }
 {
     let left = b.sound();
-    write_left(b, left, meter, out)
-}
-
-// The same for a book that the test for 11 was asked of.
-fn write_left(b: Book, left: bool, meter: &[i32], out: &mut [u8]) -> Written
-    requires { ⌜ left ≡ sound b ⌝ }
-    ensures { λ r. ⌜ (r ≡ writeBook b (now (meter .entry)) (now (out .entry)) .written) × (now (out .exit) ≡ writeBook b (now (meter .entry)) (now (out .entry)) .memory) ⌝ }
-{
     if !left {
         return refused(11);
     }
