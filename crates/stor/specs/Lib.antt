@@ -1,6 +1,7 @@
 pub mod Steps
 pub mod Demand3
 pub mod Appendix2
+pub mod Layout
 pub mod Write
 pub mod RoundTrip
 pub mod Files
