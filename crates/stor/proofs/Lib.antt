@@ -4,3 +4,4 @@ pub mod RoundTrip
 pub mod Pieces
 pub mod Files
 pub mod Turns
+pub mod WholeFile

@@ -5,3 +5,4 @@ pub mod Write
 pub mod RoundTrip
 pub mod Files
 pub mod Turn
+pub mod Whole
