@@ -1,7 +1,7 @@
--- The call over a whole file: settling the empty book alters no record, so its steps one after the other are the file's settlement.
+-- The call over a whole file: settling the empty book is refused and alters no record, so its steps one after the other are the file's settlement.
 use mathlib.Core.Path.{_≡_, refl, _∙_, ap}
 use mathlib.Core.Bool.{Bool, true, false, not}
-use mathlib.Core.List.{List, [], _∷_}
+use mathlib.Core.List.{List, _∷_}
 use Prim.Native.Nat.{ℕ}
 use lib.IntN.{ℤ}
 use Rattle.rules.specs.Ledger.{Ledger}
@@ -12,25 +12,28 @@ use Rattle.rules.specs.declared.answer.Answer.{Answer}
 use Rattle.rules.specs.declared.answer.Answer.the-variants.{Taken, Refused}
 use Rattle.book.specs.Book.{emptyBook, ledgerIn}
 use Rattle.book.specs.Sound.{sound}
-use Rattle.book.specs.declared.Book.{Book}
-use Rattle.settlement.specs.Settle.{settleBook, settledBy}
+use Rattle.settlement.specs.Settle.{settleBook, settledBy, noStatement, Settled}
 use Rattle.settlement.specs.declared.Settlement.{Settlement}
 use Rattle.stor.specs.Files.{load, LoadedFile, settlesFile, settleFile}
 use Rattle.stor.specs.Whole.{toSettle, answerBy}
 use Rattle.stor.specs.declared.file.Loaded.{Loaded}
 use Rattle.stor.specs.declared.file.FileAnswer.{FileAnswer}
 
--- an open book is refused, whatever else holds
-open-refused : (x y : Bool) (cs : List Condition) (g : Ledger) (memory : List Line) → settledBy (lowest ((11 when x) ∷ (15 when y) ∷ (24 when true) ∷ cs)) g memory .memory ≡ memory
-unfolding lowest
-open-refused true y cs g memory = refl
-open-refused false true cs g memory = refl
-open-refused false false cs g memory = refl
+-- what a refusal of settling leaves: the statement of zeros, and the records as they were
+abbrev Refuses : Settled → List Line → Type 0
+Refuses s memory = (s .settlement .statement ≡ noStatement) × (s .memory ≡ memory)
 
--- settling the empty book alters no record
-pub empty-keeps : (meter : List ℤ) (memory : List Line) → settleBook emptyBook meter memory .memory ≡ memory
+-- an open book is refused, whatever else holds
+open-refused : (x y : Bool) (cs : List Condition) (g : Ledger) (memory : List Line) → Refuses (settledBy (lowest ((11 when x) ∷ (15 when y) ∷ (24 when true) ∷ cs)) g memory) memory
+unfolding lowest
+open-refused true y cs g memory = (refl, refl)
+open-refused false true cs g memory = (refl, refl)
+open-refused false false cs g memory = (refl, refl)
+
+-- settling the empty book is refused, and alters no record
+pub empty-refused : (meter : List ℤ) (memory : List Line) → Refuses (settleBook emptyBook meter memory) memory
 unfolding settleBook settleRefusal settleConditions emptyBook ledgerIn
-empty-keeps meter memory = open-refused (not (sound emptyBook)) _ _ _ memory
+empty-refused meter memory = open-refused (not (sound emptyBook)) _ _ _ memory
 
 -- what is said of the file once its commands are entered: the answer, and line memory
 record Ends (f : LoadedFile) (ys : List Line) (n : Answer) : Type 0 where
@@ -40,7 +43,13 @@ record Ends (f : LoadedFile) (ys : List Line) (n : Answer) : Type 0 where
 
 ends : (f : LoadedFile) (memory : List Line) (n : Answer) → Ends f memory n
 ends f memory Taken = record { answer = refl; meter = refl; memory = refl }
-ends f memory (Refused n) = record { answer = refl; meter = refl; memory = empty-keeps (f .meter) memory }
+ends f memory (Refused n) =
+    let e = empty-refused (f .meter) memory in
+    record {
+      answer = ap (λ z. record { settlement = record { answer = Refused n; statement = z }; offset = f .loaded .at }) (e .0);
+      meter = refl;
+      memory = e .1;
+    }
 
 -- the steps of the call are the file's settlement
 pub settled : (s : List ℕ) (meter zs : List ℤ) (memory ws : List Line) (l : Loaded) (t : Settlement) (a : FileAnswer)

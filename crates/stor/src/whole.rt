@@ -6,12 +6,8 @@ use crate::file::FileAnswer;
 use crate::file::Loaded;
 use crate::file::load_file;
 use book::Book;
-use energy::units::Kwh;
-use energy::units::Pence;
 use rules::answer::Answer;
-use rules::statement::Available;
 use rules::statement::Line;
-use rules::statement::Statement;
 use settlement::Settlement;
 use settlement::settle::settle;
 
@@ -27,7 +23,7 @@ fn to_settle(l: Loaded) -> Book
     }
 }
 
-// The answer for a file whose commands ended in l, and whose book, or the empty one, was settled as s.
+// The answer for a file whose commands ended in l, where s is the settlement of its book, or of the empty one: a refusal, with its statement of zeros.
 fn answer_of(l: Loaded, s: Settlement) -> FileAnswer
     ensures { λ r. ⌜ r ≡ answerBy (l .answer) (l .at) s ⌝ }
 {
@@ -39,19 +35,7 @@ fn answer_of(l: Loaded, s: Settlement) -> FileAnswer
             offset,
         },
         Answer::Refused(n) => {
-            let none = Available {
-                periods: 0,
-                pence: Pence(0),
-            };
-            let windows = [none; 128];
-            let statement = Statement {
-                lines: 0,
-                capped: Kwh(0),
-                utilisation: Pence(0),
-                availability: Pence(0),
-                total: Pence(0),
-                windows,
-            };
+            let statement = s.statement;
             let settlement = Settlement {
                 answer: Answer::Refused(n),
                 statement,

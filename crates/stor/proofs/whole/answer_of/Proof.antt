@@ -14,7 +14,7 @@ returns : tie.Need-returns
 returns c = rw (c .enum-told .given .1) refl
 
 returns-2 : tie.Need-returns-2
-returns-2 c = rw (c .before .answer .given .1) refl
+returns-2 c = rw (c .before .before .answer .given .1) refl
 
 pub answer-of-spec : {M : Type 1} → statement M
 answer-of-spec = tie.close (tie.spec enum-told enum-known-answer returns returns-2)

@@ -2,7 +2,7 @@
 -- opened once, its elements are lent to `load_file` for a lifetime made for that call, then, as `load_file` left them, shared with `settle` for another, and it is closed. The lines are
 -- given up for good, to `settle`.
 -- Assumes nothing.
-use mathlib.Core.Path.{_≡_, refl, sym, _∙_, ap, subst}
+use mathlib.Core.Path.{_≡_, refl, sym, ap, subst}
 use Prim.Native.Nat.{ℕ}
 use mathlib.Core.Bool.{true}
 use mathlib.Core.List.{[], _∷_, List}
