@@ -7,3 +7,4 @@ pub mod Turns
 pub mod WrittenLaid
 pub mod WrittenParts
 pub mod WrittenBook
+pub mod WholeFile

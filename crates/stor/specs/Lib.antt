@@ -6,3 +6,4 @@ pub mod Write
 pub mod RoundTrip
 pub mod Files
 pub mod Turn
+pub mod Whole
