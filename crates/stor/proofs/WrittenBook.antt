@@ -26,8 +26,8 @@ use Rattle.settlement.proofs.Sound.{span-sound}
 use Rattle.stor.specs.Layout.{bytesOf, Laid, readings, parts, Tabled, Kept}
 use Rattle.stor.specs.Write.{writeConditions, writeBook}
 use Rattle.stor.specs.declared.writer.Written.{Written}
-use Rattle.stor.specs.declared.writer.Table.{Table}
-use Rattle.stor.specs.declared.writer.Table.the-variants.{Windows, Instructions, Defaults}
+use Rattle.stor.specs.declared.writer.entries.Table.{Table}
+use Rattle.stor.specs.declared.writer.entries.Table.the-variants.{Windows, Instructions, Defaults}
 use Rattle.stor.proofs.WrittenParts.{take-map}
 
 -- ---- a book that commands leave

@@ -23,8 +23,8 @@ use Rattle.book.specs.Book.{cell, missing}
 use Rattle.book.specs.declared.Book.{Book}
 use Rattle.book.proofs.Tables.{getD-within}
 use Rattle.stor.specs.Layout.{bytesOf, Room, Laid, placesIn, usedIn, entries, readings, parts, Tabled}
-use Rattle.stor.specs.declared.writer.Table.{Table}
-use Rattle.stor.specs.declared.writer.Table.the-variants.{Windows, Instructions, Defaults}
+use Rattle.stor.specs.declared.writer.entries.Table.{Table}
+use Rattle.stor.specs.declared.writer.entries.Table.the-variants.{Windows, Instructions, Defaults}
 use Rattle.stor.proofs.WrittenLaid.{bytes-one, length-both, room-first, room-next, laid-both, Turns}
 
 -- ---- how long a command is

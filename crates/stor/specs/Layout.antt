@@ -13,8 +13,8 @@ use Rattle.rules.specs.declared.entries.Command.the-variants.{Contract as contr
 use Rattle.unitfile.specs.Write.{putAt}
 use Rattle.book.specs.Book.{cell, missing}
 use Rattle.book.specs.declared.Book.{Book}
-use Rattle.stor.specs.declared.writer.Table.{Table}
-use Rattle.stor.specs.declared.writer.Table.the-variants.{Windows, Instructions, Defaults}
+use Rattle.stor.specs.declared.writer.entries.Table.{Table}
+use Rattle.stor.specs.declared.writer.entries.Table.the-variants.{Windows, Instructions, Defaults}
 
 -- the bytes of commands, one after the other
 abbrev pub bytesOf : List Command → List ℕ
