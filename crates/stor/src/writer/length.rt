@@ -4,7 +4,7 @@ ghost use mathlib.Core.Bool.{cond};
 ghost use Prim.Native.Nat.{_≤_, _*_};
 ghost use lib.ListN.{length};
 ghost use Rattle.rules.specs.File.{write};
-ghost use Rattle.stor.specs.Layout.{bytesOf, entries, Tabled, readings, parts, Kept};
+ghost use Rattle.stor.specs.Layout.{fileBytes, entries, Tabled, readings, parts, Kept};
 use crate::writer::entries::Table;
 use crate::writer::entries::entry;
 use crate::writer::entries::is_reading;
@@ -35,7 +35,7 @@ fn as_long(n: usize, command: Command) -> usize
 
 fn table_length(b: Book, table: Table) -> usize
     requires { ⌜ Tabled b table ⌝ }
-    ensures { λ r. ⌜ r ≡ length (bytesOf (entries b table)) ⌝ }
+    ensures { λ r. ⌜ r ≡ length (fileBytes (entries b table)) ⌝ }
 {
     as_long(used(b, table), entry(b, table, 0))
 }
@@ -57,7 +57,7 @@ fn readings_in(meter: &[i32], span: usize) -> usize
 // The length of a book's file.
 pub(crate) fn file_length(b: Book, meter: &[i32]) -> usize
     requires { ⌜ Kept b (length (now meter)) ⌝ }
-    ensures { λ r. ⌜ r ≡ length (bytesOf (parts b (now (meter .entry)))) ⌝ }
+    ensures { λ r. ⌜ r ≡ length (fileBytes (parts b (now (meter .entry)))) ⌝ }
 {
     let k = b.contract;
     let contract = as_long(once(b.agreed), Command::Contract(k));

@@ -2,7 +2,6 @@
 use Prim.Native.Nat.{_<_}
 use native.Mathlib.Omega.{arith}
 use borrow.Author.Needs.{needs}
-use lib.ListN.{length}
 use Rattle.rules.specs.declared.entries.Command.the-variants.{Window as windowᶜ, Instruction as instructionᶜ, Default as defaultᶜ}
 use Rattle.book.specs.Sound.{Shaped}
 use Rattle.book.proofs.Tables.{length-mapped}

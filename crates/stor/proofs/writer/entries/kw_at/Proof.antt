@@ -1,6 +1,4 @@
 -- `writer::entries::kw_at` meets its contract: a signed number of 32 bits is one of 64.
-use mathlib.Core.Path.{_≡_}
-use native.Mathlib.Omega.{arith}
 use borrow.Author.Needs.{needs}
 use lib.IntN.{pos}
 use lib.ListN.{getD}

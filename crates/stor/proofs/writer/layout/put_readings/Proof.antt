@@ -1,14 +1,9 @@
 -- `writer::layout::put_readings` meets its contract: the readings of the minutes passed are put, and the next one goes after them.
-use mathlib.Core.Path.{_≡_, _∙_, sym, ap}
-use mathlib.Core.List.{List, [], _∷_}
-use Prim.Native.Nat.{ℕ, _+_, _-_, _≤_, _<_}
+use mathlib.Core.Path.{_≡_}
+use Prim.Native.Nat.{_-_, _≤_}
 use native.Mathlib.Omega.{arith}
 use borrow.Author.Needs.{needs}
-use lib.ListN.{length, getD}
-use Rattle.rules.specs.File.{readingAt}
-use Rattle.rules.specs.declared.entries.Command.{Command}
-use Rattle.book.specs.Book.{cell, missing}
-use Rattle.stor.specs.Layout.{Room, Laid, readings}
+use Rattle.stor.specs.Layout.{Laid, readings}
 use Rattle.stor.proofs.WrittenLaid.{laid-none, laid-long, room-so, room-turn, laid-turn}
 use Rattle.stor.proofs.WrittenParts.{readings-none, readings-turns}
 use Rattle.stor.proofs.writer.layout.put_readings.Statement.{statement}

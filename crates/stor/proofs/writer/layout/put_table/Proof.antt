@@ -1,11 +1,10 @@
 -- `writer::layout::put_table` meets its contract: the entries passed are put, and the next one goes after them.
-use mathlib.Core.Path.{_≡_, _∙_, ap}
-use mathlib.Core.List.{List, [], _∷_}
-use Prim.Native.Nat.{ℕ, _+_, _-_, _≤_, _<_}
+use mathlib.Core.Path.{_≡_}
+use mathlib.Core.List.{[], _∷_}
+use Prim.Native.Nat.{_-_, _≤_}
 use native.Mathlib.Omega.{arith}
 use borrow.Author.Needs.{needs}
-use lib.ListN.{length, getD, take}
-use Rattle.rules.specs.declared.entries.Command.{Command}
+use lib.ListN.{getD, take}
 use Rattle.rules.specs.declared.entries.Command.the-variants.{Close as closeᶜ}
 use Rattle.stor.specs.Layout.{Room, Laid, placesIn, usedIn, entries}
 use Rattle.stor.proofs.WrittenLaid.{Turns, laid-none, laid-long, room-so, room-turn, laid-turn}

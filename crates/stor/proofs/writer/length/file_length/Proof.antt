@@ -1,7 +1,5 @@
 -- `writer::length::file_length` meets its contract: the lengths of the parts, whose sum is a small number.
-use mathlib.Core.Path.{_≡_, _∙_, sym}
-use mathlib.Core.Bool.{cond}
-use mathlib.Core.List.{[], _∷_}
+use mathlib.Core.Path.{_≡_}
 use Prim.Native.Nat.{_+_, _≤_}
 use native.Mathlib.Omega.{arith}
 use borrow.Author.Needs.{needs}
@@ -10,7 +8,7 @@ use Rattle.rules.specs.Ledger.{spanOf}
 use Rattle.rules.specs.declared.entries.Command.the-variants.{Contract as contractᶜ, Close as closeᶜ}
 use Rattle.book.specs.Sound.{Shaped}
 use Rattle.book.proofs.Tables.{length-mapped}
-use Rattle.stor.specs.Layout.{bytesOf, parts, readings, Tabled}
+use Rattle.stor.specs.Layout.{fileBytes, parts, Tabled}
 use Rattle.stor.specs.declared.writer.entries.Table.{Table}
 use Rattle.stor.proofs.WrittenParts.{once-most, once-length, readings-few, readings-length, parts-length, parts-short}
 use Rattle.stor.proofs.WrittenBook.{tabled}
@@ -62,7 +60,7 @@ whole : (c : tie.After-as-long3)
     + c .before .before .before .before .before .table-length3 .result
     + c .before .before .as-long2 .result
     + c .as-long3 .result
-    ≡ length (bytesOf (parts (c .before .before .before .before .before .before .before .before .before .before .before .args .b) (c .before .before .before .before .before .before .before .before .before .before .before .args .meter .now)))
+    ≡ length (fileBytes (parts (c .before .before .before .before .before .before .before .before .before .before .before .args .b) (c .before .before .before .before .before .before .before .before .before .before .before .args .meter .now)))
 whole c =
     let t = c .before .before .before .before .before in
     let s = t .before .before .before .before .before .before in
@@ -79,7 +77,7 @@ whole c =
     )
 
 short : (c : tie.After-as-long3)
-    → length (bytesOf (parts (c .before .before .before .before .before .before .before .before .before .before .before .args .b) (c .before .before .before .before .before .before .before .before .before .before .before .args .meter .now))) ≤ 2000000
+    → length (fileBytes (parts (c .before .before .before .before .before .before .before .before .before .before .before .args .b) (c .before .before .before .before .before .before .before .before .before .before .before .args .meter .now))) ≤ 2000000
 short c =
     let s = c .before .before .before .before .before .before .before .before .before .before .before in
     parts-short (s .args .b) (s .args .meter .now) (tables s) (s .pre .month)

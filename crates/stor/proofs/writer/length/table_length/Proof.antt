@@ -1,6 +1,5 @@
 -- `writer::length::table_length` meets its contract: a table's entries are of one length.
 use mathlib.Core.Path.{_∙_}
-use native.Mathlib.Omega.{arith}
 use borrow.Author.Needs.{needs}
 use Rattle.stor.proofs.WrittenParts.{entries-length}
 use Rattle.stor.proofs.writer.length.table_length.Statement.{statement}
