@@ -47,9 +47,15 @@ kept b meter e h =
 
 -- each of its tables, in arrays of their lengths
 pub tabled : (b : Book) {size : ℕ} → Shaped b → Kept b size → (t : Table) → Tabled b t
-tabled b s k Windows = record { least = omega (arith, length-map (b .windows) windowᶜ, s .windows); most = omega (arith, length-map (b .windows) windowᶜ, s .windows); few = omega (arith, length-map (b .windows) windowᶜ, s .windows, k .windows) }
-tabled b s k Instructions = record { least = omega (arith, length-map (b .instructions) instructionᶜ, s .instructions); most = omega (arith, length-map (b .instructions) instructionᶜ, s .instructions); few = omega (arith, length-map (b .instructions) instructionᶜ, s .instructions, k .instructions) }
-tabled b s k Defaults = record { least = omega (arith, length-map (b .defaults) defaultᶜ, s .defaults); most = omega (arith, length-map (b .defaults) defaultᶜ, s .defaults); few = omega (arith, length-map (b .defaults) defaultᶜ, s .defaults, k .defaults) }
+tabled b s k Windows =
+    let long : length (map windowᶜ (b .windows)) ≡ 128 = length-map (b .windows) windowᶜ ∙ s .windows in
+    record { least = omega arith; most = omega arith; few = omega arith }
+tabled b s k Instructions =
+    let long : length (map instructionᶜ (b .instructions)) ≡ 64 = length-map (b .instructions) instructionᶜ ∙ s .instructions in
+    record { least = omega arith; most = omega arith; few = omega arith }
+tabled b s k Defaults =
+    let long : length (map defaultᶜ (b .defaults)) ≡ 128 = length-map (b .defaults) defaultᶜ ∙ s .defaults in
+    record { least = omega arith; most = omega arith; few = omega arith }
 
 -- ---- its parts
 
