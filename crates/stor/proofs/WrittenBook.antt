@@ -23,11 +23,11 @@ use Rattle.book.specs.Sound.{sound, Shaped}
 use Rattle.book.specs.declared.Book.{Book}
 use Rattle.book.proofs.Tested.{sound-parts, sound-used, sound-empty}
 use Rattle.settlement.proofs.Sound.{span-sound}
-use Rattle.stor.specs.Layout.{bytesOf, Laid, readings, parts, Tabled, Kept}
+use Rattle.stor.specs.Layout.{fileBytes, Laid, readings, parts, Tabled, Kept}
 use Rattle.stor.specs.Write.{writeConditions, writeBook}
 use Rattle.stor.specs.declared.writer.Written.{Written}
-use Rattle.stor.specs.declared.writer.Table.{Table}
-use Rattle.stor.specs.declared.writer.Table.the-variants.{Windows, Instructions, Defaults}
+use Rattle.stor.specs.declared.writer.entries.Table.{Table}
+use Rattle.stor.specs.declared.writer.entries.Table.the-variants.{Windows, Instructions, Defaults}
 use Rattle.stor.proofs.WrittenParts.{take-map}
 
 -- ---- a book that commands leave
@@ -47,9 +47,15 @@ kept b meter e h =
 
 -- each of its tables, in arrays of their lengths
 pub tabled : (b : Book) {size : ℕ} → Shaped b → Kept b size → (t : Table) → Tabled b t
-tabled b s k Windows = record { least = omega (arith, length-map (b .windows) windowᶜ, s .windows); most = omega (arith, length-map (b .windows) windowᶜ, s .windows); few = omega (arith, length-map (b .windows) windowᶜ, s .windows, k .windows) }
-tabled b s k Instructions = record { least = omega (arith, length-map (b .instructions) instructionᶜ, s .instructions); most = omega (arith, length-map (b .instructions) instructionᶜ, s .instructions); few = omega (arith, length-map (b .instructions) instructionᶜ, s .instructions, k .instructions) }
-tabled b s k Defaults = record { least = omega (arith, length-map (b .defaults) defaultᶜ, s .defaults); most = omega (arith, length-map (b .defaults) defaultᶜ, s .defaults); few = omega (arith, length-map (b .defaults) defaultᶜ, s .defaults, k .defaults) }
+tabled b s k Windows =
+    let long : length (map windowᶜ (b .windows)) ≡ 128 = length-map (b .windows) windowᶜ ∙ s .windows in
+    record { least = omega arith; most = omega arith; few = omega arith }
+tabled b s k Instructions =
+    let long : length (map instructionᶜ (b .instructions)) ≡ 64 = length-map (b .instructions) instructionᶜ ∙ s .instructions in
+    record { least = omega arith; most = omega arith; few = omega arith }
+tabled b s k Defaults =
+    let long : length (map defaultᶜ (b .defaults)) ≡ 128 = length-map (b .defaults) defaultᶜ ∙ s .defaults in
+    record { least = omega arith; most = omega arith; few = omega arith }
 
 -- ---- its parts
 
@@ -84,9 +90,9 @@ module _ (b : Book) (meter : List ℤ) (e : sound b ≡ true) where
       readings-written)
       refl
 
-  file-is : fileOf (ledgerIn b meter) ≡ bytesOf (parts b meter)
+  file-is : fileOf (ledgerIn b meter) ≡ fileBytes (parts b meter)
   unfolding fileOf
-  file-is = ap bytesOf written-parts
+  file-is = ap fileBytes written-parts
 
 -- ---- the answer, and the bytes after it
 
@@ -108,7 +114,7 @@ module _ (b : Book) (meter : List ℤ) (memory : List ℕ) (e : sound b ≡ true
   refused-15 h = rw (e, span-sound b meter e, lt-ltb (length meter) (spanOf (b .contract)) h) (refl, refl)
 
   module _ (h : spanOf (b .contract) ≤ length meter) where
-    pub refused-26 : length memory < length (bytesOf (parts b meter)) → Gives b meter memory (no 26) memory
+    pub refused-26 : length memory < length (fileBytes (parts b meter)) → Gives b meter memory (no 26) memory
     unfolding writeBook writeConditions lowest
     refused-26 short =
         rw (
@@ -116,21 +122,21 @@ module _ (b : Book) (meter : List ℤ) (memory : List ℕ) (e : sound b ≡ true
           span-sound b meter e,
           le-ltb (length meter) (spanOf (b .contract)) h,
           file-is b meter e,
-          lt-ltb (length memory) (length (bytesOf (parts b meter))) short,
+          lt-ltb (length memory) (length (fileBytes (parts b meter))) short,
         ) (refl, refl)
 
-    pub written-whole : length (bytesOf (parts b meter)) ≤ length memory → {after : List ℕ} {next : ℕ} → Laid (parts b meter) memory 0 after next
+    pub written-whole : length (fileBytes (parts b meter)) ≤ length memory → {after : List ℕ} {next : ℕ} → Laid (parts b meter) memory 0 after next
         → Gives b meter memory (record { answer = Taken; size = next }) after
     unfolding writeBook writeConditions lowest putAt
     written-whole long {after} {next} l =
-        let file : bytesOf (parts b meter) ≡ fileOf (ledgerIn b meter) = sym (file-is b meter e) in
+        let file : fileBytes (parts b meter) ≡ fileOf (ledgerIn b meter) = sym (file-is b meter e) in
         rw (
           e,
           span-sound b meter e,
           le-ltb (length meter) (spanOf (b .contract)) h,
           file-is b meter e,
-          le-ltb (length memory) (length (bytesOf (parts b meter))) long,
+          le-ltb (length memory) (length (fileBytes (parts b meter))) long,
         ) (
-          ap (λ n. record { answer = Taken; size = n }) (l .ends ∙ zero-add (length (bytesOf (parts b meter))) ∙ ap length file),
+          ap (λ n. record { answer = Taken; size = n }) (l .ends ∙ zero-add (length (fileBytes (parts b meter))) ∙ ap length file),
           l .holds ∙ rw (zero-add, file),
         )

@@ -13,16 +13,16 @@ use Rattle.unitfile.specs.Write.{putAt, writeAt}
 use Rattle.unitfile.specs.declared.encode.Written.{Written as Wr}
 use Rattle.unitfile.specs.declared.encode.Written.the-variants.{Next, Refused}
 use Rattle.unitfile.proofs.Puts.{put-none, length-put, put-put, write-room}
-use Rattle.stor.specs.Layout.{bytesOf, Room, Laid}
+use Rattle.stor.specs.Layout.{fileBytes, Room, Laid}
 
 -- ---- one after the other
 
-pub bytes-one : (c : Command) → bytesOf (c ∷ []) ≡ write c
+pub bytes-one : (c : Command) → fileBytes (c ∷ []) ≡ write c
 unfolding concatMap
 bytes-one c = append-nil (write c)
 
-pub length-both : (cs ds : List Command) → length (bytesOf (cs ++ ds)) ≡ length (bytesOf cs) + length (bytesOf ds)
-length-both cs ds = ap length (concatMap-append write cs ds) ∙ length-append (bytesOf cs) (bytesOf ds)
+pub length-both : (cs ds : List Command) → length (fileBytes (cs ++ ds)) ≡ length (fileBytes cs) + length (fileBytes ds)
+length-both cs ds = ap length (concatMap-append write cs ds) ∙ length-append (fileBytes cs) (fileBytes ds)
 
 -- no command changes nothing
 pub laid-none : (m : List ℕ) (at : ℕ) → Laid [] m at m at
@@ -47,7 +47,7 @@ module _ (c : Command) (m : List ℕ) (at : ℕ) (r : Room (c ∷ []) m at) wher
 
 -- memory keeps its length
 pub laid-long : {cs : List Command} {m after : List ℕ} {at next : ℕ} → Room cs m at → Laid cs m at after next → length after ≡ length m
-laid-long {cs} {m} {at = at} r l = ap length (l .holds) ∙ length-put (bytesOf cs) m at (r .fits)
+laid-long {cs} {m} {at = at} r l = ap length (l .holds) ∙ length-put (fileBytes cs) m at (r .fits)
 
 module _ (cs ds : List Command) {m : List ℕ} {at : ℕ} (r : Room (cs ++ ds) m at) where
   pub room-first : Room cs m at
@@ -64,7 +64,7 @@ module _ (cs ds : List Command) {m : List ℕ} {at : ℕ} (r : Room (cs ++ ds) m
           holds =
               n .holds
               ∙ rw (l .holds, concatMap-append write cs ds)
-              (put-put (bytesOf cs) (bytesOf ds) m at at₁ (l .ends) (omega (arith, r .fits, length-both cs ds, l .ends)));
+              (put-put (fileBytes cs) (fileBytes ds) m at at₁ (l .ends) (omega (arith, r .fits, length-both cs ds, l .ends)));
         }
 
 -- ---- a loop that puts commands, some each turn
@@ -74,11 +74,11 @@ pub record Turns (so turn : ℕ → List Command) (n : ℕ) : Type 0 where
   pub more : (i : ℕ) → i < n → so (i + 1) ≡ so i ++ turn i
 
 module _ {so turn : ℕ → List Command} {n : ℕ} (turns : Turns so turn n) where
-  longer : (k i : ℕ) → i + k ≡ n → length (bytesOf (so i)) ≤ length (bytesOf (so n))
-  longer zero i e = let same : i ≡ n = omega arith in rw same (le-refl (length (bytesOf (so n))))
+  longer : (k i : ℕ) → i + k ≡ n → length (fileBytes (so i)) ≤ length (fileBytes (so n))
+  longer zero i e = let same : i ≡ n = omega arith in rw same (le-refl (length (fileBytes (so n))))
   longer (suc k) i e =
       let less : i < n = omega arith in
-      omega (arith, longer k (i + 1) (omega arith), ap (λ cs. length (bytesOf cs)) (turns .more i less), length-both (so i) (turn i))
+      omega (arith, longer k (i + 1) (omega arith), ap (λ cs. length (fileBytes cs)) (turns .more i less), length-both (so i) (turn i))
 
   module _ {m : List ℕ} {at : ℕ} (r : Room (so n) m at) where
     pub room-so : (i : ℕ) → i ≤ n → Room (so i) m at

@@ -2,7 +2,7 @@
 use mathlib.Core.Path.{_≡_, refl, sym, ap, _∙_}
 use mathlib.Core.Bool.{Bool, true, false, cond}
 use mathlib.Core.List.{List, [], _∷_, _++_, map, append-nil}
-use mathlib.Core.Option.{Option, none, some}
+use mathlib.Core.Option.{none, some}
 use Prim.Native.Nat.{ℕ, zero, suc, _+_, _*_, _≤_, _<_}
 use native.Mathlib.Nat.{le-refl, suc-mul, zero-mul, one-mul}
 use native.Mathlib.Numerals.{add-one}
@@ -14,7 +14,7 @@ use Rattle.energy.specs.Lists.{concatMap, run, between}
 use Rattle.energy.proofs.Sums.{between-snoc}
 use Rattle.rules.specs.Ledger.{spanOf}
 use Rattle.rules.specs.Refusal.{isReading}
-use Rattle.rules.specs.File.{table, widthsOf, bytesOf as word, writeOperands, write, readingAt}
+use Rattle.rules.specs.File.{table, widthsOf, bytesOf, writeOperands, write, readingAt}
 use Rattle.rules.specs.declared.entries.Reading.{Reading}
 use Rattle.rules.specs.declared.entries.Command.{Command}
 use Rattle.rules.specs.declared.entries.Command.the-variants.{Contract as contractᶜ, Window as windowᶜ, Instruction as instructionᶜ, Default as defaultᶜ, Reading as readingᶜ, Close as closeᶜ}
@@ -22,9 +22,9 @@ use Rattle.rules.proofs.Taken.{concatMap-append}
 use Rattle.book.specs.Book.{cell, missing}
 use Rattle.book.specs.declared.Book.{Book}
 use Rattle.book.proofs.Tables.{getD-within}
-use Rattle.stor.specs.Layout.{bytesOf, Room, Laid, placesIn, usedIn, entries, readings, parts, Tabled}
-use Rattle.stor.specs.declared.writer.Table.{Table}
-use Rattle.stor.specs.declared.writer.Table.the-variants.{Windows, Instructions, Defaults}
+use Rattle.stor.specs.Layout.{fileBytes, Room, Laid, placesIn, usedIn, entries, readings, parts, Tabled}
+use Rattle.stor.specs.declared.writer.entries.Table.{Table}
+use Rattle.stor.specs.declared.writer.entries.Table.the-variants.{Windows, Instructions, Defaults}
 use Rattle.stor.proofs.WrittenLaid.{bytes-one, length-both, room-first, room-next, laid-both, Turns}
 
 -- ---- how long a command is
@@ -38,7 +38,7 @@ sizeOf (readingᶜ r) = 7
 sizeOf closeᶜ = 1
 
 size : (c : Command) → length (write c) ≡ sizeOf c
-unfolding table widthsOf word writeOperands write sizeOf
+unfolding table widthsOf bytesOf writeOperands write sizeOf
 size (contractᶜ k) = refl
 size (windowᶜ w) = refl
 size (instructionᶜ i) = refl
@@ -55,10 +55,10 @@ write-short (defaultᶜ d) = omega (arith, size (defaultᶜ d))
 write-short (readingᶜ r) = omega (arith, size (readingᶜ r))
 write-short closeᶜ = omega (arith, size closeᶜ)
 
-pub bytes-short : (cs : List Command) → length (bytesOf cs) ≤ 32 * length cs
+pub bytes-short : (cs : List Command) → length (fileBytes cs) ≤ 32 * length cs
 unfolding concatMap
 bytes-short [] = le-refl 0
-bytes-short (c ∷ cs) = omega (arith, length-append (write c) (bytesOf cs), write-short c, bytes-short cs)
+bytes-short (c ∷ cs) = omega (arith, length-append (write c) (fileBytes cs), write-short c, bytes-short cs)
 
 -- ---- a table
 
@@ -77,25 +77,25 @@ module _ {A : Type 0} (f : A → Command) (xs : List A) (i : ℕ) (h : i < lengt
 
 -- entries of one length
 module _ {A : Type 0} (f : A → Command) (k : ℕ) (alike : (x : A) → length (write (f x)) ≡ k) where
-  length-alike : (xs : List A) → length (bytesOf (map f xs)) ≡ length xs * k
+  length-alike : (xs : List A) → length (fileBytes (map f xs)) ≡ length xs * k
   unfolding concatMap
   length-alike [] = sym (zero-mul k)
-  length-alike (x ∷ xs) = omega (arith, length-append (write (f x)) (bytesOf (map f xs)), alike x, length-alike xs, suc-mul (length xs) k)
+  length-alike (x ∷ xs) = omega (arith, length-append (write (f x)) (fileBytes (map f xs)), alike x, length-alike xs, suc-mul (length xs) k)
 
   length-table : (xs : List A) (n : ℕ) → 0 < length (map f xs) → n ≤ length (map f xs)
-      → n * length (write (getD (map f xs) 0 closeᶜ)) ≡ length (bytesOf (take n (map f xs)))
+      → n * length (write (getD (map f xs) 0 closeᶜ)) ≡ length (fileBytes (take n (map f xs)))
   length-table [] n least few = absurd (omega arith)
   length-table (x ∷ xs) n least few =
       let long : length (take n (x ∷ xs)) ≡ n = length-take-le n (x ∷ xs) (omega (arith, length-map xs f)) in
-      sym (ap (λ cs. length (bytesOf cs)) (take-map f n (x ∷ xs)) ∙ length-alike (take n (x ∷ xs)) ∙ rw (long, alike x))
+      sym (ap (λ cs. length (fileBytes cs)) (take-map f n (x ∷ xs)) ∙ length-alike (take n (x ∷ xs)) ∙ rw (long, alike x))
 
-pub entries-length : (b : Book) (t : Table) → Tabled b t → usedIn b t * length (write (getD (placesIn b t) 0 closeᶜ)) ≡ length (bytesOf (entries b t))
+pub entries-length : (b : Book) (t : Table) → Tabled b t → usedIn b t * length (write (getD (placesIn b t) 0 closeᶜ)) ≡ length (fileBytes (entries b t))
 unfolding sizeOf
 entries-length b Windows h = length-table windowᶜ 6 (λ w. size (windowᶜ w)) (b .windows) (b .nwindows) (h .least) (h .few)
 entries-length b Instructions h = length-table instructionᶜ 5 (λ i. size (instructionᶜ i)) (b .instructions) (b .ninstructions) (h .least) (h .few)
 entries-length b Defaults h = length-table defaultᶜ 5 (λ d. size (defaultᶜ d)) (b .defaults) (b .ndefaults) (h .least) (h .few)
 
-pub entries-short : (b : Book) (t : Table) → Tabled b t → length (bytesOf (entries b t)) ≤ 4096
+pub entries-short : (b : Book) (t : Table) → Tabled b t → length (fileBytes (entries b t)) ≤ 4096
 entries-short b t h = omega (arith, bytes-short (entries b t), length-take-le (usedIn b t) (placesIn b t) (h .few), h .few, h .most)
 
 pub entries-turns : (places : List Command) (n : ℕ) → n ≤ length places → Turns (λ i. take i places) (λ i. getD places i closeᶜ ∷ []) n
@@ -121,11 +121,11 @@ pub once-most : (holds : Bool) → cond holds 1 0 ≤ 1
 once-most true = le-refl 1
 once-most false = omega arith
 
-cell-length : (z : ℤ) (m : ℕ) → length (bytesOf (readingAt (cell z) m)) ≡ length (readingAt (cell z) m) * 7
+cell-length : (z : ℤ) (m : ℕ) → length (fileBytes (readingAt (cell z) m)) ≡ length (readingAt (cell z) m) * 7
 unfolding concatMap sizeOf
 cell-length z m = go (isReading z)
   where
-    go : (b : Bool) → length (bytesOf (readingAt (cond b (some z) none) m)) ≡ length (readingAt (cond b (some z) none) m) * 7
+    go : (b : Bool) → length (fileBytes (readingAt (cond b (some z) none) m)) ≡ length (readingAt (cond b (some z) none) m) * 7
     go true = ap length (bytes-one (readingᶜ (record { minute = record { 0 = m }; kw = record { 0 = z } }))) ∙ size (readingᶜ (record { minute = record { 0 = m }; kw = record { 0 = z } }))
     go false = refl
 
@@ -150,25 +150,25 @@ module _ (meter : List ℤ) where
   readings-few zero = rw readings-none (le-refl 0)
   readings-few (suc n) = rw (← add-one n) (omega (arith, readings-few n, readings-count n, once-most (isReading (getD meter n missing))))
 
-  sevens : (n : ℕ) → length (bytesOf (readings meter n)) ≡ length (readings meter n) * 7
+  sevens : (n : ℕ) → length (fileBytes (readings meter n)) ≡ length (readings meter n) * 7
   unfolding concatMap
   sevens zero = rw readings-none
   sevens (suc n) =
       rw (← add-one n, readings-turns (n + 1) .more n (omega arith))
       (omega (arith, length-both (readings meter n) (turn n), length-append (readings meter n) (turn n), sevens n, cell-length (getD meter n missing) n))
 
-  pub readings-length : {n span long : ℕ} (r : Reading) (k : ℕ) → span ≡ k → n ≡ length (readings meter span) → long ≡ n * length (write (readingᶜ r)) → long ≡ length (bytesOf (readings meter k))
+  pub readings-length : {n span long : ℕ} (r : Reading) (k : ℕ) → span ≡ k → n ≡ length (readings meter span) → long ≡ n * length (write (readingᶜ r)) → long ≡ length (fileBytes (readings meter k))
   unfolding sizeOf
   readings-length r k e f g = g ∙ rw (f, e, size (readingᶜ r)) (sym (sevens k))
 
 -- ---- all of them
 
-pub once-length : {n long : ℕ} (holds : Bool) (c : Command) → n ≡ cond holds 1 0 → long ≡ n * length (write c) → long ≡ length (bytesOf (cond holds (c ∷ []) []))
+pub once-length : {n long : ℕ} (holds : Bool) (c : Command) → n ≡ cond holds 1 0 → long ≡ n * length (write c) → long ≡ length (fileBytes (cond holds (c ∷ []) []))
 unfolding concatMap
 once-length true c e f = f ∙ rw (e, one-mul) (sym (ap length (bytes-one c)))
 once-length false c e f = f ∙ rw (e, zero-mul)
 
-once-short : (holds : Bool) (c : Command) → length (bytesOf (cond holds (c ∷ []) [])) ≤ 32
+once-short : (holds : Bool) (c : Command) → length (fileBytes (cond holds (c ∷ []) [])) ≤ 32
 unfolding concatMap
 once-short true c = rw (bytes-one c) (write-short c)
 once-short false c = omega arith
@@ -176,15 +176,15 @@ once-short false c = omega arith
 module _ (b : Book) (meter : List ℤ) where
   -- the length of the whole is that of the parts
   pub parts-length :
-      length (bytesOf (cond (b .agreed) (contractᶜ (b .contract) ∷ []) [])) + length (bytesOf (entries b Windows)) + length (bytesOf (entries b Instructions)) + length (bytesOf (entries b Defaults))
-      + length (bytesOf (readings meter (spanOf (b .contract))))
-      + length (bytesOf (cond (b .closed) (closeᶜ ∷ []) []))
-      ≡ length (bytesOf (parts b meter))
+      length (fileBytes (cond (b .agreed) (contractᶜ (b .contract) ∷ []) [])) + length (fileBytes (entries b Windows)) + length (fileBytes (entries b Instructions)) + length (fileBytes (entries b Defaults))
+      + length (fileBytes (readings meter (spanOf (b .contract))))
+      + length (fileBytes (cond (b .closed) (closeᶜ ∷ []) []))
+      ≡ length (fileBytes (parts b meter))
   unfolding parts
   parts-length = sym (simp length-both)
 
   -- and a small number
-  pub parts-short : ((t : Table) → Tabled b t) → spanOf (b .contract) ≤ 44640 → length (bytesOf (parts b meter)) ≤ 2000000
+  pub parts-short : ((t : Table) → Tabled b t) → spanOf (b .contract) ≤ 44640 → length (fileBytes (parts b meter)) ≤ 2000000
   parts-short tables month =
       omega (
         arith,

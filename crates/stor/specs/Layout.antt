@@ -1,4 +1,4 @@
--- Commands laid out one after another in lent bytes: what the parts of the writer promise each other.
+-- Commands laid out one after another in lent bytes: what the parts of the writer promise each other. Nothing here is a rule of its own.
 use mathlib.Core.Path.{_≡_}
 use mathlib.Core.Bool.{cond}
 use mathlib.Core.List.{List, [], _∷_, _++_, map}
@@ -13,21 +13,21 @@ use Rattle.rules.specs.declared.entries.Command.the-variants.{Contract as contr
 use Rattle.unitfile.specs.Write.{putAt}
 use Rattle.book.specs.Book.{cell, missing}
 use Rattle.book.specs.declared.Book.{Book}
-use Rattle.stor.specs.declared.writer.Table.{Table}
-use Rattle.stor.specs.declared.writer.Table.the-variants.{Windows, Instructions, Defaults}
+use Rattle.stor.specs.declared.writer.entries.Table.{Table}
+use Rattle.stor.specs.declared.writer.entries.Table.the-variants.{Windows, Instructions, Defaults}
 
 -- the bytes of commands, one after the other
-abbrev pub bytesOf : List Command → List ℕ
-bytesOf cs = concatMap write cs
+abbrev pub fileBytes : List Command → List ℕ
+fileBytes cs = concatMap write cs
 
 -- memory has room for them from a position on
 pub record Room (cs : List Command) (memory : List ℕ) (at : ℕ) : Type 0 where
-  pub fits : at + length (bytesOf cs) ≤ length memory
+  pub fits : at + length (fileBytes cs) ≤ length memory
 
--- they are put into memory from a position on, which leaves it so; and the position after them
+-- put there, they leave the memory `after`, and end before the position `next`
 pub record Laid (cs : List Command) (memory : List ℕ) (at : ℕ) (after : List ℕ) (next : ℕ) : Type 0 where
-  pub ends : next ≡ at + length (bytesOf cs)
-  pub holds : after ≡ putAt (bytesOf cs) memory at
+  pub ends : next ≡ at + length (fileBytes cs)
+  pub holds : after ≡ putAt (fileBytes cs) memory at
 
 -- ---- a book's entries as commands
 
@@ -51,7 +51,7 @@ entries b t = take (usedIn b t) (placesIn b t)
 unfoldable pub readings : List ℤ → ℕ → List Command
 readings meter span = concatMap (λ m. readingAt (cell (getD meter m missing)) m) (between 0 span)
 
--- the commands that a book that commands leave is written as
+-- what a book that commands leave is written as, table by table
 unfoldable pub parts : Book → List ℤ → List Command
 parts b meter =
     cond (b .agreed) (contractᶜ (b .contract) ∷ []) [] ++ entries b Windows ++ entries b Instructions ++ entries b Defaults

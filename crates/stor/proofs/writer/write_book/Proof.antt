@@ -8,7 +8,7 @@ use borrow.Author.Tests.{not-true, not-false}
 use lib.ListN.{length}
 use Rattle.rules.specs.Ledger.{spanOf}
 use Rattle.book.specs.Sound.{sound}
-use Rattle.stor.specs.Layout.{bytesOf, parts}
+use Rattle.stor.specs.Layout.{fileBytes, parts}
 use Rattle.stor.proofs.WrittenBook.{kept, refused-11, refused-15, refused-26, written-whole}
 use Rattle.stor.proofs.writer.write_book.Statement.{statement}
 use Rattle.stor.proofs.writer.write_book.Tie as tie
@@ -66,7 +66,7 @@ returns-3 c =
 
 -- past 26
 long : (c : tie.Else3)
-    → length (bytesOf (parts (c .before .before .before .before .before .before .before .before .args .b) (c .before .before .before .before .before .before .before .before .args .meter .now)))
+    → length (fileBytes (parts (c .before .before .before .before .before .before .before .before .args .b) (c .before .before .before .before .before .before .before .before .args .meter .now)))
     ≤ length (c .before .before .before .before .before .before .before .before .args .out .now)
 long c = rw (c .before .file-length .ensures) at (c .if3 .left)
 
