@@ -107,7 +107,7 @@ pub fn load(b: Book, s: &[u8], meter: &mut [i32]) -> Loaded
 
 // All commands of a file into the empty book.
 pub fn load_file(s: &[u8], meter: &mut [i32]) -> Loaded
-    ensures { λ r. ⌜ (r ≡ loadOf (now (s .entry)) emptyBook (now (meter .entry)) .loaded) × (now (meter .exit) ≡ loadOf (now (s .entry)) emptyBook (now (meter .entry)) .meter) × (sound (r .book) ≡ true) × (r .at ≤ length (now (s .entry))) ⌝ }
+    ensures { λ r. ⌜ (r ≡ loadOf (now (s .entry)) emptyBook (now (meter .entry)) .loaded) × (now (meter .exit) ≡ loadOf (now (s .entry)) emptyBook (now (meter .entry)) .meter) × (sound (r .book) ≡ true) ⌝ }
 {
     load(Book::empty(), s, meter)
 }

@@ -15,7 +15,9 @@ same-length : tie.Need-same-length
 same-length c = search needs
 
 returns : tie.Need-returns
-returns c = rw (← c .before .before .before .empty .ensures) (c .before .load .ensures)
+returns c =
+    let e = c .before .load .ensures in
+    rw (← c .before .before .before .empty .ensures) (e .0, e .1, e .2)
 
 pub load-file-spec : {M : Type 1} → statement M
 load-file-spec = tie.close (tie.spec empty-requires load-requires same-length returns)
