@@ -13,7 +13,6 @@ use Rattle.rules.specs.declared.contract.Contract.{Contract}
 use Rattle.rules.specs.declared.entries.Window.{Window}
 use Rattle.rules.specs.declared.entries.Instruction.{Instruction}
 use Rattle.rules.specs.declared.entries.Default.{Default}
-use Rattle.rules.specs.declared.entries.Reading.{Reading}
 use Rattle.rules.specs.declared.entries.Command.{Command}
 
 -- what has been entered. There is at most one contract

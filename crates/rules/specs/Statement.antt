@@ -1,5 +1,5 @@
 -- "Energy and money": a segment's two sums and its line, paid periods and P, the statement, the exact sums, and when settling is turned down.
-use mathlib.Core.Bool.{Bool, true, false, not, _&&_, _||_, cond}
+use mathlib.Core.Bool.{Bool, not, _&&_, _||_, cond}
 use mathlib.Core.List.{List, [], _∷_, _++_, map}
 use mathlib.Core.Option.{Option}
 use Prim.Native.Nat.{ℕ, _+_, _-_, _*_, _/_, _≤_, min}
@@ -7,7 +7,6 @@ use lib.IntN.{ℤ, pos, natAbs, _+ℤ_, _-ℤ_, _*ℤ_}
 use lib.Dec.{eqb, leb, ltb}
 use lib.ListN.{length, replicate}
 use Rattle.energy.specs.Lists.{any, filter, count, sum, sumℕ, between, else}
-use Rattle.energy.specs.Number.{lesser}
 use Rattle.energy.specs.Energy.{steadyQuarters, rampQuarters, delivers, kwh, capped, payment, periodParts, penceOfParts}
 use Rattle.rules.specs.Ledger.{Ledger, contractOf, spanOf, kwOf, within}
 use Rattle.rules.specs.Refusal.{Condition, _when_, lowest}
