@@ -24,7 +24,7 @@ use Rattle.rules.specs.declared.entries.Command.{Command}
 use Rattle.rules.specs.declared.entries.Command.the-variants.{Contract as contractᶜ, Window as windowᶜ, Instruction as instructionᶜ, Default as defaultᶜ, Reading as readingᶜ}
 use Rattle.rules.proofs.Taken.{Allowed, allowed, clear}
 use Rattle.book.specs.Book.{ledgerIn, putBook, putMeter}
-use Rattle.book.specs.Enter.{enterBook}
+use Rattle.book.specs.Enter.{Enters, enterBook}
 use Rattle.book.specs.Numbers.{refusalOf}
 use Rattle.book.specs.Sound.{sound}
 use Rattle.book.specs.declared.Book.{Book}
@@ -61,15 +61,15 @@ module _ (b : Book) (meter : List ℤ) (c : Command) (n : ℕ) (e : n ≡ refusa
 
   -- ---- what entering gives
 
-  pub refused-entry : n ≢ 0 → (record { answer = Refused n; book = b } ≡ enterBook b meter c .entry) × (meter ≡ enterBook b meter c .meter)
+  pub refused-entry : n ≢ 0 → Enters b meter c (record { answer = Refused n; book = b }) meter
   unfolding enterBook refusalOf
   refused-entry h =
       let r : refusal (not (sound b)) (length meter) (ledgerIn b meter) c ≡ some n = some-number (refusal (not (sound b)) (length meter) (ledgerIn b meter) c) n e h in
-      (rw r, rw r)
+      record { entry = rw r; meter = rw r }
 
-  pub taken-entry : n ≡ 0 → (record { answer = Taken; book = putBook b c } ≡ enterBook b meter c .entry) × (putMeter meter c ≡ enterBook b meter c .meter)
+  pub taken-entry : n ≡ 0 → Enters b meter c (record { answer = Taken; book = putBook b c }) (putMeter meter c)
   unfolding enterBook
-  taken-entry z = (rw (unrefused z), rw (unrefused z))
+  taken-entry z = record { entry = rw (unrefused z); meter = rw (unrefused z) }
 
   -- ---- what is known of a command that nothing refuses
 

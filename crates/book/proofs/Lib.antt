@@ -5,8 +5,8 @@ pub mod Cells
 pub mod Numbers
 pub mod Walks
 pub mod Entered
-pub mod Kept
 pub mod Holds
 pub mod Follow
 pub mod Determined
 pub mod Left
+pub mod Kept

@@ -19,7 +19,7 @@ use Rattle.rules.specs.declared.entries.Instruction.{Instruction}
 use Rattle.rules.specs.declared.entries.Default.{Default}
 use Rattle.rules.specs.declared.entries.Command.the-variants.{Contract as contractᶜ, Window as windowᶜ, Instruction as instructionᶜ, Default as defaultᶜ}
 use Rattle.book.specs.Book.{noWindow, noInstruction}
-use Rattle.book.specs.Numbers.{windowFits, instructionFits, Held}
+use Rattle.book.specs.Numbers.{Held}
 use Rattle.book.proofs.Tables.{slice-turn}
 use Rattle.book.proofs.Numbers.{input-none}
 use Rattle.book.proofs.Search.{startOf, endsAt, in-table}
@@ -38,34 +38,43 @@ contract-input k = input-none (contractᶜ k) ∙ ap (λ b. inRange (contractᶜ
 pub default-input : (d : Default) → eqb (inputRefusal (defaultᶜ d)) 0 ≡ inRange (defaultᶜ d)
 default-input d = input-none (defaultᶜ d) ∙ and-true (inRange (defaultᶜ d))
 
+-- ---- a table is sound where its first entry is, and the rest after it
+
+windows-first : (k : Contract) (e : ℕ) (w : Window) (ws : List Window) → windowsSound k e (w ∷ ws) ≡ (windowsSound k e (w ∷ []) && windowsSound k (w .end .0) ws)
+unfolding windowsSound
+windows-first k e w ws = rw and-true
+
+instructions-first : (k : Contract) (e : ℕ) (i : Instruction) (is : List Instruction)
+    → instructionsSound k e (i ∷ is) ≡ (instructionsSound k e (i ∷ []) && instructionsSound k (endOf k i + k .recovery .0) is)
+unfolding instructionsSound
+instructions-first k e i is = rw and-true
+
 -- ---- a walk at entry i of the first n: what it has still to find is what it was asked
 
 module _ {a : Bool} (k : Contract) (e : ℕ) (ws : List Window) (i n : ℕ) (h : i < n) (r : n ≤ length ws) (inv : a ≡ windowsSound k e (slice i n ws)) where
   abbrev window : Window
   window = getD ws i noWindow
 
-  window-turn : a ≡ (windowFits k e window && windowsSound k (window .end .0) (slice (i + 1) n ws))
-  unfolding windowsSound windowFits
-  window-turn = inv ∙ rw (slice-turn ws i n noWindow h r)
+  window-turn : a ≡ (windowsSound k e (window ∷ []) && windowsSound k (window .end .0) (slice (i + 1) n ws))
+  window-turn = inv ∙ rw (slice-turn ws i n noWindow h r) (windows-first k e window (slice (i + 1) n ws))
 
-  pub windows-fail : windowFits k e window ≡ false → false ≡ a
+  pub windows-fail : windowsSound k e (window ∷ []) ≡ false → false ≡ a
   windows-fail q = sym (window-turn ∙ rw q)
 
-  pub windows-on : windowFits k e window ≡ true → a ≡ windowsSound k (window .end .0) (slice (i + 1) n ws)
+  pub windows-on : windowsSound k e (window ∷ []) ≡ true → a ≡ windowsSound k (window .end .0) (slice (i + 1) n ws)
   windows-on q = window-turn ∙ rw q
 
 module _ {a : Bool} (k : Contract) (e : ℕ) (is : List Instruction) (i n : ℕ) (h : i < n) (r : n ≤ length is) (inv : a ≡ instructionsSound k e (slice i n is)) where
   abbrev instruction : Instruction
   instruction = getD is i noInstruction
 
-  instruction-turn : a ≡ (instructionFits k e instruction && instructionsSound k (endOf k instruction + k .recovery .0) (slice (i + 1) n is))
-  unfolding instructionsSound instructionFits
-  instruction-turn = inv ∙ rw (slice-turn is i n noInstruction h r)
+  instruction-turn : a ≡ (instructionsSound k e (instruction ∷ []) && instructionsSound k (endOf k instruction + k .recovery .0) (slice (i + 1) n is))
+  instruction-turn = inv ∙ rw (slice-turn is i n noInstruction h r) (instructions-first k e instruction (slice (i + 1) n is))
 
-  pub instructions-fail : instructionFits k e instruction ≡ false → false ≡ a
+  pub instructions-fail : instructionsSound k e (instruction ∷ []) ≡ false → false ≡ a
   instructions-fail q = sym (instruction-turn ∙ rw q)
 
-  pub instructions-on : instructionFits k e instruction ≡ true → a ≡ instructionsSound k (endOf k instruction + k .recovery .0) (slice (i + 1) n is)
+  pub instructions-on : instructionsSound k e (instruction ∷ []) ≡ true → a ≡ instructionsSound k (endOf k instruction + k .recovery .0) (slice (i + 1) n is)
   instructions-on q = instruction-turn ∙ rw q
 
 -- when an instruction may be issued, by the last one

@@ -1,4 +1,5 @@
 -- "A book takes a command and hands back the book after it": answer, book and meter memory after, by one equation over the rules.
+use mathlib.Core.Path.{_≡_}
 use mathlib.Core.Bool.{not}
 use mathlib.Core.List.{List}
 use mathlib.Core.Option.{Option, none, some}
@@ -22,6 +23,11 @@ abbrev pub enteredBy : Option ℕ → Book → List ℤ → Command → Entered
 enteredBy none b meter c = record { entry = record { answer = answerOf none; book = putBook b c }; meter = putMeter meter c }
 enteredBy (some n) b meter c = record { entry = record { answer = answerOf (some n); book = b }; meter = meter }
 
--- entering a command: what every method of the book promises
+-- entering a command
 unfoldable pub enterBook : Book → List ℤ → Command → Entered
 enterBook b meter c = enteredBy (refusal (not (sound b)) (length meter) (ledgerIn b meter) c) b meter c
+
+-- what a method promises: its entry, and meter memory after it
+pub record Enters (b : Book) (before : List ℤ) (c : Command) (e : Entry) (after : List ℤ) : Type 0 where
+  pub entry : e ≡ enterBook b before c .entry
+  pub meter : after ≡ enterBook b before c .meter

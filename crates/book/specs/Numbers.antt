@@ -1,20 +1,13 @@
--- What the book's own functions answer on the way: a refusal as one number, 0 for none, and tests of one entry.
+-- What the book's own functions answer on the way: a refusal as one number, 0 for none, and the place of a minute among the windows.
 use mathlib.Core.Bool.{Bool, not, _&&_, cond}
 use mathlib.Core.List.{List}
 use Prim.Native.Nat.{ℕ, _≤_, _<_}
 use lib.IntN.{ℤ}
-use lib.Dec.{eqb, leb}
+use lib.Dec.{eqb}
 use lib.ListN.{length, getD}
-use Rattle.rules.specs.Ledger.{spanOf, expiry, endOf}
-use Rattle.rules.specs.Refusal.{inRange, badWindow, refusal}
+use Rattle.rules.specs.Refusal.{refusal}
 use Rattle.rules.specs.Input.{orZero}
-use Rattle.rules.specs.declared.answer.Answer.{Answer}
-use Rattle.rules.specs.declared.answer.Answer.the-variants.{Taken, Refused}
-use Rattle.rules.specs.declared.contract.Contract.{Contract}
-use Rattle.rules.specs.declared.entries.Window.{Window}
-use Rattle.rules.specs.declared.entries.Instruction.{Instruction}
 use Rattle.rules.specs.declared.entries.Command.{Command}
-use Rattle.rules.specs.declared.entries.Command.the-variants.{Window as windowᶜ, Instruction as instructionᶜ}
 use Rattle.book.specs.Book.{ledgerIn}
 use Rattle.book.specs.Sound.{sound}
 use Rattle.book.specs.declared.Book.{Book}
@@ -35,23 +28,6 @@ firstNumber input left closed agreed first short =
     (cond (not agreed && not first) 13
     (cond (agreed && first) 14
     (cond short 15 0)))))
-
--- the answer for a number
-abbrev pub answerFor : ℕ → Answer
-answerFor n = cond (eqb n 0) Taken (Refused n)
-
--- ---- one entry after those before it
-
--- a window after one that ends at e
-unfoldable pub windowFits : Contract → ℕ → Window → Bool
-windowFits k e w =
-    inRange (windowᶜ w) && not (badWindow (windowᶜ w)) && leb (w .end .0) (spanOf k) && not (eqb (k .service) 0 && eqb (w .verdict) 1)
-    && leb e (w .start .0)
-
--- an instruction where none may be issued before e
-unfoldable pub instructionFits : Contract → ℕ → Instruction → Bool
-instructionFits k e i =
-    inRange (instructionᶜ i) && leb (endOf k i) (spanOf k) && leb (expiry k i) (i .cease .0) && leb e (i .issue .0)
 
 -- ---- the windows' times as columns
 

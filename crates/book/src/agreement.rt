@@ -1,7 +1,7 @@
 // The contract of a book.
 ghost use mathlib.Core.Path.{_≡_};
 ghost use Rattle.rules.specs.Ledger.{spanOf};
-ghost use Rattle.book.specs.Enter.{enterBook};
+ghost use Rattle.book.specs.Enter.{Enters};
 ghost use Rattle.book.specs.Numbers.{refusalOf};
 ghost use Rattle.book.specs.Sound.{sound};
 use crate::Book;
@@ -15,20 +15,22 @@ use rules::entries::Command;
 pub(crate) fn span_of(k: Contract) -> usize
     ensures { λ r. ⌜ r ≡ spanOf k ⌝ }
 {
-    1440 * k.days as usize
+    Contract::DAY.0 as usize * k.days as usize
 }
 
 impl Book {
+    // Enters a contract.
     pub fn contract(self, k: Contract, meter: &mut [i32]) -> Entry
-        ensures { λ r. ⌜ (r ≡ enterBook self (now (meter .entry)) (Command.Contract k) .entry) × (now (meter .exit) ≡ enterBook self (now (meter .entry)) (Command.Contract k) .meter) ⌝ }
+        ensures { λ r. ⌜ Enters self (now (meter .entry)) (Command.Contract k) r (now (meter .exit)) ⌝ }
     {
         let left = self.sound();
         self.enter_contract(left, k, meter)
     }
 
+    // The same where it is known whether commands leave the book.
     pub(crate) fn enter_contract(mut self, left: bool, k: Contract, meter: &mut [i32]) -> Entry
         requires { ⌜ left ≡ sound self ⌝ }
-        ensures { λ r. ⌜ (r ≡ enterBook self (now (meter .entry)) (Command.Contract k) .entry) × (now (meter .exit) ≡ enterBook self (now (meter .entry)) (Command.Contract k) .meter) ⌝ }
+        ensures { λ r. ⌜ Enters self (now (meter .entry)) (Command.Contract k) r (now (meter .exit)) ⌝ }
     {
         let number = self.contract_refusal(left, k, meter);
         if number != 0 {
@@ -40,6 +42,7 @@ impl Book {
         self.taken()
     }
 
+    // The lowest refusal that a contract meets, 0 for none.
     fn contract_refusal(self, left: bool, k: Contract, meter: &[i32]) -> u8
         requires { ⌜ left ≡ sound self ⌝ }
         ensures { λ r. ⌜ r ≡ refusalOf self (now (meter .entry)) (Command.Contract k) ⌝ }

@@ -6,14 +6,16 @@ ghost use Rattle.rules.specs.declared.entries.Window.{Window};
 ghost use Rattle.book.specs.Numbers.{Rising, Started, Ordered, Held};
 ghost use mathlib.Core.Logic.{_↔_};
 ghost use lib.Dec.{T};
+use rules::contract::Contract;
 use rules::entries::Window;
 
+// The starts of a table of windows.
 pub(crate) fn starts_of(windows: [Window; 128]) -> [u16; 128]
     ensures { λ r. ⌜ r ≡ map (λ (w : Window). w .start .0) windows ⌝ }
 {
     let mut starts = [0u16; 128];
     let mut i = 0;
-    while i < 128 {
+    while i < Contract::WINDOWS_MOST {
         let w = windows[i];
         starts[i] = w.start.0;
         i += 1;
@@ -21,12 +23,13 @@ pub(crate) fn starts_of(windows: [Window; 128]) -> [u16; 128]
     starts
 }
 
+// Their ends.
 pub(crate) fn ends_of(windows: [Window; 128]) -> [u16; 128]
     ensures { λ r. ⌜ r ≡ map (λ (w : Window). w .end .0) windows ⌝ }
 {
     let mut ends = [0u16; 128];
     let mut i = 0;
-    while i < 128 {
+    while i < Contract::WINDOWS_MOST {
         let w = windows[i];
         ends[i] = w.end.0;
         i += 1;

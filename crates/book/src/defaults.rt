@@ -6,7 +6,7 @@ ghost use lib.ListN.{take, drop};
 ghost use Rattle.energy.specs.Lists.{all, any};
 ghost use Rattle.rules.specs.Ledger.{within};
 ghost use Rattle.rules.specs.Reached.{windowsSound, defaultSound};
-ghost use Rattle.book.specs.Enter.{enterBook};
+ghost use Rattle.book.specs.Enter.{Enters};
 ghost use Rattle.book.specs.Numbers.{refusalOf};
 ghost use Rattle.book.specs.Sound.{isNoDefault, sound};
 use crate::Book;
@@ -23,16 +23,18 @@ use rules::entries::Default;
 use rules::entries::Window;
 
 impl Book {
+    // Enters a default.
     pub fn default(self, d: Default, meter: &[i32]) -> Entry
-        ensures { λ r. ⌜ (r ≡ enterBook self (now (meter .entry)) (Command.Default d) .entry) × (now (meter .entry) ≡ enterBook self (now (meter .entry)) (Command.Default d) .meter) ⌝ }
+        ensures { λ r. ⌜ Enters self (now (meter .entry)) (Command.Default d) r (now (meter .exit)) ⌝ }
     {
         let left = self.sound();
         self.enter_default(left, d, meter)
     }
 
+    // The same where it is known whether commands leave the book.
     pub(crate) fn enter_default(mut self, left: bool, d: Default, meter: &[i32]) -> Entry
         requires { ⌜ left ≡ sound self ⌝ }
-        ensures { λ r. ⌜ (r ≡ enterBook self (now (meter .entry)) (Command.Default d) .entry) × (now (meter .entry) ≡ enterBook self (now (meter .entry)) (Command.Default d) .meter) ⌝ }
+        ensures { λ r. ⌜ Enters self (now (meter .entry)) (Command.Default d) r (now (meter .exit)) ⌝ }
     {
         let number = self.default_refusal(left, d, meter);
         if number != 0 {
@@ -44,6 +46,7 @@ impl Book {
         self.taken()
     }
 
+    // The lowest refusal that a default meets, 0 for none.
     fn default_refusal(self, left: bool, d: Default, meter: &[i32]) -> u8
         requires { ⌜ left ≡ sound self ⌝ }
         ensures { λ r. ⌜ r ≡ refusalOf self (now (meter .entry)) (Command.Default d) ⌝ }
@@ -57,9 +60,11 @@ impl Book {
         let windows = self.windows;
         let minute = d.minute;
         let inside = in_window(k, windows, self.nwindows, minute);
-        let r23 = pick(128 <= self.ndefaults, 23, 0);
+        let beyond = span <= minute.0 as usize;
+        let full = Contract::DEFAULTS_MOST <= self.ndefaults;
+        let r23 = pick(full, 23, 0);
         let r21 = pick(!inside, 21, r23);
-        pick(span <= minute.0 as usize, 16, r21)
+        pick(beyond, 16, r21)
     }
 }
 
@@ -107,7 +112,7 @@ pub(crate) fn defaults_unused(defaults: [Default; 128], n: usize) -> bool
     ensures { λ r. ⌜ r ≡ all isNoDefault (drop n defaults) ⌝ }
 {
     let mut i = n;
-    while i < 128 {
+    while i < Contract::DEFAULTS_MOST {
         let d = defaults[i];
         let zero = (d.minute.0 == 0) & (d.kind == 0) & (d.reach == 0);
         if !zero {

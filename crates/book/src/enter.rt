@@ -1,7 +1,7 @@
 // Any command, and the close.
 ghost use mathlib.Core.Path.{_≡_};
 ghost use mathlib.Core.Bool.{true};
-ghost use Rattle.book.specs.Enter.{enterBook};
+ghost use Rattle.book.specs.Enter.{Enters};
 ghost use Rattle.book.specs.Numbers.{refusalOf};
 ghost use Rattle.book.specs.Sound.{sound};
 use crate::Book;
@@ -9,24 +9,26 @@ use crate::Entry;
 use rules::entries::Command;
 
 impl Book {
+    // Enters a command, by its own method.
     pub fn enter(self, c: Command, meter: &mut [i32]) -> Entry
-        ensures { λ r. ⌜ (r ≡ enterBook self (now (meter .entry)) c .entry) × (now (meter .exit) ≡ enterBook self (now (meter .entry)) c .meter) ⌝ }
+        ensures { λ r. ⌜ Enters self (now (meter .entry)) c r (now (meter .exit)) ⌝ }
     {
         let left = self.sound();
         self.enter_command(left, c, meter)
     }
 
-    // The same for a book that is known to be sound, as each of a list of commands leaves it: 11 is not asked again.
+    // The same for a book that commands leave, as each of a list of them does: 11 is not tested again.
     pub fn enter_known(self, c: Command, meter: &mut [i32]) -> Entry
         requires { ⌜ sound self ≡ true ⌝ }
-        ensures { λ r. ⌜ (r ≡ enterBook self (now (meter .entry)) c .entry) × (now (meter .exit) ≡ enterBook self (now (meter .entry)) c .meter) ⌝ }
+        ensures { λ r. ⌜ Enters self (now (meter .entry)) c r (now (meter .exit)) ⌝ }
     {
         self.enter_command(true, c, meter)
     }
 
+    // The same where it is known whether commands leave the book.
     fn enter_command(self, left: bool, c: Command, meter: &mut [i32]) -> Entry
         requires { ⌜ left ≡ sound self ⌝ }
-        ensures { λ r. ⌜ (r ≡ enterBook self (now (meter .entry)) c .entry) × (now (meter .exit) ≡ enterBook self (now (meter .entry)) c .meter) ⌝ }
+        ensures { λ r. ⌜ Enters self (now (meter .entry)) c r (now (meter .exit)) ⌝ }
     {
         match c {
             Command::Contract(k) => self.enter_contract(left, k, meter),
@@ -38,16 +40,18 @@ impl Book {
         }
     }
 
+    // Enters a close.
     pub fn close(self, meter: &[i32]) -> Entry
-        ensures { λ r. ⌜ (r ≡ enterBook self (now (meter .entry)) Command.Close .entry) × (now (meter .entry) ≡ enterBook self (now (meter .entry)) Command.Close .meter) ⌝ }
+        ensures { λ r. ⌜ Enters self (now (meter .entry)) Command.Close r (now (meter .exit)) ⌝ }
     {
         let left = self.sound();
         self.enter_close(left, meter)
     }
 
+    // The same where it is known whether commands leave the book.
     pub(crate) fn enter_close(mut self, left: bool, meter: &[i32]) -> Entry
         requires { ⌜ left ≡ sound self ⌝ }
-        ensures { λ r. ⌜ (r ≡ enterBook self (now (meter .entry)) Command.Close .entry) × (now (meter .entry) ≡ enterBook self (now (meter .entry)) Command.Close .meter) ⌝ }
+        ensures { λ r. ⌜ Enters self (now (meter .entry)) Command.Close r (now (meter .exit)) ⌝ }
     {
         let number = self.close_refusal(left, meter);
         if number != 0 {
@@ -57,6 +61,7 @@ impl Book {
         self.taken()
     }
 
+    // The lowest refusal that a close meets, 0 for none.
     fn close_refusal(self, left: bool, meter: &[i32]) -> u8
         requires { ⌜ left ≡ sound self ⌝ }
         ensures { λ r. ⌜ r ≡ refusalOf self (now (meter .entry)) Command.Close ⌝ }

@@ -1,5 +1,6 @@
 // The table of instructions.
 ghost use mathlib.Core.Path.{_≡_};
+ghost use mathlib.Core.List.{[], _∷_};
 ghost use mathlib.Core.Bool.{true};
 ghost use Prim.Native.Nat.{_≤_};
 ghost use lib.ListN.{take, drop};
@@ -7,8 +8,8 @@ ghost use Rattle.energy.specs.Lists.{all};
 ghost use Rattle.rules.specs.Ledger.{downMinutes};
 ghost use Rattle.rules.specs.Refusal.{recovered, inRange};
 ghost use Rattle.rules.specs.Reached.{instructionsSound};
-ghost use Rattle.book.specs.Enter.{enterBook};
-ghost use Rattle.book.specs.Numbers.{refusalOf, instructionFits};
+ghost use Rattle.book.specs.Enter.{Enters};
+ghost use Rattle.book.specs.Numbers.{refusalOf};
 ghost use Rattle.book.specs.Sound.{isNoInstruction, sound};
 use crate::Book;
 use crate::Entry;
@@ -20,16 +21,18 @@ use rules::entries::Command;
 use rules::entries::Instruction;
 
 impl Book {
+    // Enters an instruction.
     pub fn instruction(self, i: Instruction, meter: &[i32]) -> Entry
-        ensures { λ r. ⌜ (r ≡ enterBook self (now (meter .entry)) (Command.Instruction i) .entry) × (now (meter .entry) ≡ enterBook self (now (meter .entry)) (Command.Instruction i) .meter) ⌝ }
+        ensures { λ r. ⌜ Enters self (now (meter .entry)) (Command.Instruction i) r (now (meter .exit)) ⌝ }
     {
         let left = self.sound();
         self.enter_instruction(left, i, meter)
     }
 
+    // The same where it is known whether commands leave the book.
     pub(crate) fn enter_instruction(mut self, left: bool, i: Instruction, meter: &[i32]) -> Entry
         requires { ⌜ left ≡ sound self ⌝ }
-        ensures { λ r. ⌜ (r ≡ enterBook self (now (meter .entry)) (Command.Instruction i) .entry) × (now (meter .entry) ≡ enterBook self (now (meter .entry)) (Command.Instruction i) .meter) ⌝ }
+        ensures { λ r. ⌜ Enters self (now (meter .entry)) (Command.Instruction i) r (now (meter .exit)) ⌝ }
     {
         let number = self.instruction_refusal(left, i, meter);
         if number != 0 {
@@ -41,6 +44,7 @@ impl Book {
         self.taken()
     }
 
+    // The lowest refusal that an instruction meets, 0 for none.
     fn instruction_refusal(self, left: bool, i: Instruction, meter: &[i32]) -> u8
         requires { ⌜ left ≡ sound self ⌝ }
         ensures { λ r. ⌜ r ≡ refusalOf self (now (meter .entry)) (Command.Instruction i) ⌝ }
@@ -53,14 +57,14 @@ impl Book {
         let span = span_of(k);
         let down = down_minutes(k);
         let ready = self.ready(down);
-        let r23 = pick(64 <= self.ninstructions, 23, 0);
-        let r20 = pick((i.issue.0 as usize) < ready, 20, r23);
-        let r19 = pick(
-            (i.cease.0 as usize) < i.issue.0 as usize + k.response.0 as usize,
-            19,
-            r20,
-        );
-        pick(span < i.cease.0 as usize + down as usize, 16, r19)
+        let beyond = span < i.cease.0 as usize + down as usize;
+        let ceased = (i.cease.0 as usize) < i.issue.0 as usize + k.response.0 as usize;
+        let early = (i.issue.0 as usize) < ready;
+        let full = Contract::INSTRUCTIONS_MOST <= self.ninstructions;
+        let r23 = pick(full, 23, 0);
+        let r20 = pick(early, 20, r23);
+        let r19 = pick(ceased, 19, r20);
+        pick(beyond, 16, r19)
     }
 
     // The last instruction's end plus recovery, 0 before the first.
@@ -69,12 +73,13 @@ impl Book {
         ensures { λ r. ⌜ r ≡ recovered (self .contract) (take (self .ninstructions) (self .instructions)) ⌝ }
     {
         let n = self.ninstructions;
+        let recovery = self.contract.recovery.0 as usize;
         if n == 0 {
             return 0;
         }
         let at = n - 1;
         let i = self.instructions[at];
-        i.cease.0 as usize + down as usize + self.contract.recovery.0 as usize
+        i.cease.0 as usize + down as usize + recovery
     }
 }
 
@@ -89,7 +94,7 @@ fn down_minutes(k: Contract) -> u32
 // Whether an instruction could be entered where none may be issued before a minute.
 fn instruction_fits(k: Contract, down: u32, ready: usize, i: Instruction) -> bool
     requires { ⌜ down ≡ downMinutes k ⌝ }
-    ensures { λ r. ⌜ r ≡ instructionFits k ready i ⌝ }
+    ensures { λ r. ⌜ r ≡ instructionsSound k ready (i ∷ []) ⌝ }
 {
     let span = span_of(k);
     (i.input_refusal() == 0)
@@ -124,7 +129,7 @@ pub(crate) fn instructions_unused(instructions: [Instruction; 64], n: usize) -> 
     ensures { λ r. ⌜ r ≡ all isNoInstruction (drop n instructions) ⌝ }
 {
     let mut x = n;
-    while x < 64 {
+    while x < Contract::INSTRUCTIONS_MOST {
         let i = instructions[x];
         let zero = (i.issue.0 == 0) & (i.cease.0 == 0);
         if !zero {

@@ -6,7 +6,7 @@ ghost use lib.Dec.{T};
 ghost use lib.ListN.{length, getD, set, drop, replicate};
 ghost use Rattle.rules.specs.Refusal.{isReading};
 ghost use Rattle.book.specs.Book.{missing};
-ghost use Rattle.book.specs.Enter.{enterBook};
+ghost use Rattle.book.specs.Enter.{Enters};
 ghost use Rattle.book.specs.Numbers.{refusalOf};
 ghost use Rattle.book.specs.Sound.{sound};
 use crate::Book;
@@ -21,16 +21,18 @@ use rules::entries::Command;
 use rules::entries::Reading;
 
 impl Book {
+    // Enters a reading.
     pub fn reading(self, r: Reading, meter: &mut [i32]) -> Entry
-        ensures { λ e. ⌜ (e ≡ enterBook self (now (meter .entry)) (Command.Reading r) .entry) × (now (meter .exit) ≡ enterBook self (now (meter .entry)) (Command.Reading r) .meter) ⌝ }
+        ensures { λ e. ⌜ Enters self (now (meter .entry)) (Command.Reading r) e (now (meter .exit)) ⌝ }
     {
         let left = self.sound();
         self.enter_reading(left, r, meter)
     }
 
+    // The same where it is known whether commands leave the book.
     pub(crate) fn enter_reading(self, left: bool, r: Reading, meter: &mut [i32]) -> Entry
         requires { ⌜ left ≡ sound self ⌝ }
-        ensures { λ e. ⌜ (e ≡ enterBook self (now (meter .entry)) (Command.Reading r) .entry) × (now (meter .exit) ≡ enterBook self (now (meter .entry)) (Command.Reading r) .meter) ⌝ }
+        ensures { λ e. ⌜ Enters self (now (meter .entry)) (Command.Reading r) e (now (meter .exit)) ⌝ }
     {
         let number = self.reading_refusal(left, r, meter);
         if number != 0 {
@@ -40,6 +42,7 @@ impl Book {
         self.taken()
     }
 
+    // The lowest refusal that a reading meets, 0 for none.
     fn reading_refusal(self, left: bool, r: Reading, meter: &[i32]) -> u8
         requires { ⌜ left ≡ sound self ⌝ }
         ensures { λ n. ⌜ n ≡ refusalOf self (now (meter .entry)) (Command.Reading r) ⌝ }
@@ -54,8 +57,9 @@ impl Book {
         let at = minute.0 as usize;
         let held = cell(meter, minute);
         let read = kw_from_to(Contract::READING_LEAST, Contract::READING_MOST, held);
+        let beyond = span <= at;
         let r22 = pick((at < span) & read, 22, 0);
-        pick(span <= at, 16, r22)
+        pick(beyond, 16, r22)
     }
 }
 

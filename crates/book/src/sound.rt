@@ -15,6 +15,7 @@ use crate::windows::windows_unused;
 use rules::contract::Contract;
 
 impl Book {
+    // Whether commands leave this book.
     pub fn sound(self) -> bool
         ensures { λ r. ⌜ r ≡ sound self ⌝ }
     {
@@ -36,7 +37,9 @@ impl Book {
         let w = self.nwindows;
         let i = self.ninstructions;
         let d = self.ndefaults;
-        let within = (w <= 128) & (i <= 64) & (d <= 128);
+        let within = (w <= Contract::WINDOWS_MOST)
+            & (i <= Contract::INSTRUCTIONS_MOST)
+            & (d <= Contract::DEFAULTS_MOST);
         if !within {
             return false;
         }
@@ -68,8 +71,13 @@ impl Book {
         if !spaced {
             return false;
         }
+        // a search among the windows is prepared only where there is a default
+        let d = self.ndefaults;
+        if d == 0 {
+            return true;
+        }
         let defaults = self.defaults;
-        defaults_sound(k, windows, w, defaults, self.ndefaults)
+        defaults_sound(k, windows, w, defaults, d)
     }
 
     // Without a contract nothing is entered.
@@ -86,6 +94,7 @@ impl Book {
     }
 }
 
+// Whether a contract is all zeros.
 fn is_no_contract(k: Contract) -> bool
     ensures { λ r. ⌜ r ≡ pass (noContractTests k) ⌝ }
 {

@@ -1,12 +1,13 @@
 // The table of windows.
 ghost use mathlib.Core.Path.{_≡_};
+ghost use mathlib.Core.List.{[], _∷_};
 ghost use Prim.Native.Nat.{_≤_};
 ghost use lib.ListN.{take, drop};
 ghost use Rattle.energy.specs.Lists.{all, last};
 ghost use Rattle.rules.specs.Reached.{windowsSound};
 ghost use Rattle.book.specs.Book.{noWindow};
-ghost use Rattle.book.specs.Enter.{enterBook};
-ghost use Rattle.book.specs.Numbers.{refusalOf, windowFits};
+ghost use Rattle.book.specs.Enter.{Enters};
+ghost use Rattle.book.specs.Numbers.{refusalOf};
 ghost use Rattle.book.specs.Sound.{isNoWindow, sound};
 use crate::Book;
 use crate::Entry;
@@ -18,16 +19,18 @@ use rules::entries::Command;
 use rules::entries::Window;
 
 impl Book {
+    // Enters a window.
     pub fn window(self, w: Window, meter: &[i32]) -> Entry
-        ensures { λ r. ⌜ (r ≡ enterBook self (now (meter .entry)) (Command.Window w) .entry) × (now (meter .entry) ≡ enterBook self (now (meter .entry)) (Command.Window w) .meter) ⌝ }
+        ensures { λ r. ⌜ Enters self (now (meter .entry)) (Command.Window w) r (now (meter .exit)) ⌝ }
     {
         let left = self.sound();
         self.enter_window(left, w, meter)
     }
 
+    // The same where it is known whether commands leave the book.
     pub(crate) fn enter_window(mut self, left: bool, w: Window, meter: &[i32]) -> Entry
         requires { ⌜ left ≡ sound self ⌝ }
-        ensures { λ r. ⌜ (r ≡ enterBook self (now (meter .entry)) (Command.Window w) .entry) × (now (meter .entry) ≡ enterBook self (now (meter .entry)) (Command.Window w) .meter) ⌝ }
+        ensures { λ r. ⌜ Enters self (now (meter .entry)) (Command.Window w) r (now (meter .exit)) ⌝ }
     {
         let number = self.window_refusal(left, w, meter);
         if number != 0 {
@@ -39,6 +42,7 @@ impl Book {
         self.taken()
     }
 
+    // The lowest refusal that a window meets, 0 for none.
     fn window_refusal(self, left: bool, w: Window, meter: &[i32]) -> u8
         requires { ⌜ left ≡ sound self ⌝ }
         ensures { λ r. ⌜ r ≡ refusalOf self (now (meter .entry)) (Command.Window w) ⌝ }
@@ -50,10 +54,14 @@ impl Book {
         let k = self.contract;
         let span = span_of(k);
         let end = self.last_end();
-        let r23 = pick(128 <= self.nwindows, 23, 0);
-        let r18 = pick(w.start.0 < end.0, 18, r23);
-        let r17 = pick((k.service == 0) & (w.verdict == 1), 17, r18);
-        pick(span < w.end.0 as usize, 16, r17)
+        let beyond = span < w.end.0 as usize;
+        let rejected = (k.service == Contract::COMMITTED) & (w.verdict == Contract::REJECTED);
+        let overlaps = w.start.0 < end.0;
+        let full = Contract::WINDOWS_MOST <= self.nwindows;
+        let r23 = pick(full, 23, 0);
+        let r18 = pick(overlaps, 18, r23);
+        let r17 = pick(rejected, 17, r18);
+        pick(beyond, 16, r17)
     }
 
     // The end of the last window entered, 0 before the first.
@@ -73,12 +81,12 @@ impl Book {
 
 // Whether a window could be entered after one that ends at a minute.
 fn window_fits(k: Contract, end: Minutes, w: Window) -> bool
-    ensures { λ r. ⌜ r ≡ windowFits k (end .0) w ⌝ }
+    ensures { λ r. ⌜ r ≡ windowsSound k (end .0) (w ∷ []) ⌝ }
 {
     let span = span_of(k);
     (w.input_refusal() == 0)
         & (w.end.0 as usize <= span)
-        & !((k.service == 0) & (w.verdict == 1))
+        & !((k.service == Contract::COMMITTED) & (w.verdict == Contract::REJECTED))
         & (end.0 <= w.start.0)
 }
 
@@ -108,7 +116,7 @@ pub(crate) fn windows_unused(windows: [Window; 128], n: usize) -> bool
     ensures { λ r. ⌜ r ≡ all isNoWindow (drop n windows) ⌝ }
 {
     let mut i = n;
-    while i < 128 {
+    while i < Contract::WINDOWS_MOST {
         let w = windows[i];
         let zero = (w.start.0 == 0) & (w.end.0 == 0) & (w.verdict == 0);
         if !zero {

@@ -2,8 +2,11 @@ use borrow.Author.Needs.{needs}
 use mathlib.Core.Path.{_≡_, sym, _∙_, subst}
 use mathlib.Core.Bool.{not, true}
 use lib.Dec.{T}
+use lib.ListN.{take}
 use borrow.Author.Tests.{eq-eqb, eqb-true, not-true, not-false}
 use Rattle.energy.proofs.Tests.{to-T, of-T, and-T, on-and}
+use Rattle.energy.specs.Lists.{all, pass}
+use Rattle.rules.specs.Reached.{defaultSound, agreedTests}
 use Rattle.rules.specs.Refusal.{inRange, rampTooLong}
 use Rattle.rules.specs.Input.{inputRefusal}
 use Rattle.rules.specs.declared.entries.Command.the-variants.{Contract as contractᶜ}
@@ -41,23 +44,34 @@ returns-3 : tie.Need-returns-3
 returns-3 c =
     refuted _ (λ t. let p = parts (c .before .before .before .before .before .before .before .before .before .args .self .contract) _ _ _ t in subst T (sym (c .before .instructions-sound .ensures) ∙ not-true _ (c .if3 .taken)) (p .instructions))
 
-defaults-sound-requires : tie.Need-defaults-sound-requires
-defaults-sound-requires c κs = (c .before .before .before .before .before .before .before .before .before .before .pre .2, c .before .before .before .before .before .before .before .before .before .before .pre .0, sym (c .before .before .before .before .before .windows-sound .ensures) ∙ not-false _ (c .before .before .before .before .if2 .left))
-
-returns-4 : tie.Need-returns-4
-returns-4 c =
-    let k = c .before .before .before .before .before .before .before .before .before .before .before .args .self .contract in
-    rw (c .defaults-sound .ensures)
-    (same-test _ _ (λ t.
+-- past the other tests the defaults decide
+by-defaults : (c : tie.Else3)
+    → all (defaultSound (c .before .before .before .before .before .before .before .before .before .args .self .contract) (take (c .before .before .before .before .before .before .before .before .before .args .self .nwindows) (c .before .before .before .before .before .before .before .before .before .args .self .windows))) (take (c .before .before .before .before .before .before .before .before .before .args .self .ndefaults) (c .before .before .before .before .before .before .before .before .before .args .self .defaults))
+    ≡ pass (agreedTests (c .before .before .before .before .before .before .before .before .before .args .self .contract) (take (c .before .before .before .before .before .before .before .before .before .args .self .nwindows) (c .before .before .before .before .before .before .before .before .before .args .self .windows)) (take (c .before .before .before .before .before .before .before .before .before .args .self .ninstructions) (c .before .before .before .before .before .before .before .before .before .args .self .instructions)) (take (c .before .before .before .before .before .before .before .before .before .args .self .ndefaults) (c .before .before .before .before .before .before .before .before .before .args .self .defaults)))
+by-defaults c =
+    same-test _ _ (λ t.
     tested
     (record {
-      operands = to-T (agreed (c .before .before .before .before .before .before .before .before) .0);
-      ramps = to-T (agreed (c .before .before .before .before .before .before .before .before) .1);
-      windows = to-T (sym (c .before .before .before .before .before .before .windows-sound .ensures) ∙ not-false _ (c .before .before .before .before .before .if2 .left));
-      instructions = to-T (sym (c .before .before .before .instructions-sound .ensures) ∙ not-false _ (c .before .before .if3 .left));
+      operands = to-T (agreed (c .before .before .before .before .before .before) .0);
+      ramps = to-T (agreed (c .before .before .before .before .before .before) .1);
+      windows = to-T (sym (c .before .before .before .before .windows-sound .ensures) ∙ not-false _ (c .before .before .before .if2 .left));
+      instructions = to-T (sym (c .before .instructions-sound .ensures) ∙ not-false _ (c .if3 .left));
       defaults = t;
     }))
-    (λ t. parts k _ _ _ t .defaults))
+    (λ t. parts (c .before .before .before .before .before .before .before .before .before .args .self .contract) _ _ _ t .defaults)
+
+returns-4 : tie.Need-returns-4
+unfolding all
+returns-4 c =
+    sym (sym (by-defaults (c .before)) ∙ rw (c .if4 .taken))
+
+defaults-sound-requires : tie.Need-defaults-sound-requires
+defaults-sound-requires c κs =
+    let at = c .before .before .before .before .before .before .before .before .before .before .before in
+    (at .pre .2, at .pre .0, sym (c .before .before .before .before .before .before .windows-sound .ensures) ∙ not-false _ (c .before .before .before .before .before .if2 .left))
+
+returns-5 : tie.Need-returns-5
+returns-5 c = c .defaults-sound .ensures ∙ by-defaults (c .before .before .before)
 
 pub agreed-sound-spec : {M : Type 1} → statement M
 agreed-sound-spec =
@@ -69,5 +83,6 @@ agreed-sound-spec =
     returns-2
     instructions-sound-requires
     returns-3
+    returns-4
     defaults-sound-requires
-    returns-4)
+    returns-5)

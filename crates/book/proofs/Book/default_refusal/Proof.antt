@@ -49,14 +49,14 @@ in-window-requires c κs =
     let b = past .before .before .before .args .self in
     (used past .windows, of-T (windowsSound (b .contract) 0 (take (b .nwindows) (b .windows))) (sound-used b (late past .leaves) (late past .contracted) .windows))
 
+cast-beyond : tie.Need-cast-beyond
+cast-beyond c = search needs
+
 pick-requires : tie.Need-pick-requires
 pick-requires c κs = search needs
 
 pick-requires-2 : tie.Need-pick-requires-2
 pick-requires-2 c κs = search needs
-
-cast-pick : tie.Need-cast-pick
-cast-pick c = search needs
 
 pick-requires-3 : tie.Need-pick-requires-3
 pick-requires-3 c κs = search needs
@@ -67,7 +67,7 @@ returns-2 c =
     let at = past .before .before .before in
     let b = at .args .self in
     let n : b .ndefaults ≤ length (b .defaults) = rw (cells at) (used past .defaults) in
-    rw (c .pick3 .ensures, c .before .before .pick2 .ensures, c .before .before .before .pick .ensures, c .before .before .before .before .before .in-window .ensures, c .before .before .before .before .before .before .before .before .span-of .ensures)
+    rw (c .pick3 .ensures, c .before .pick2 .ensures, c .before .before .pick .ensures, c .before .before .before .before .before .in-window .ensures, c .before .before .before .before .before .before .before .before .span-of .ensures)
     (sym (late past .number ∙ default-later b (at .args .meter .now) (late past .contracted) (at .args .d) n))
 
 pub default-refusal-spec : {M : Type 1} → statement M
@@ -79,8 +79,8 @@ default-refusal-spec =
     returns
     span-of-requires
     in-window-requires
+    cast-beyond
     pick-requires
     pick-requires-2
-    cast-pick
     pick-requires-3
     returns-2)

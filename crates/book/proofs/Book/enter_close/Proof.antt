@@ -1,5 +1,4 @@
 use borrow.Author.Needs.{needs}
-use mathlib.Core.Path.{_∙_}
 use Rattle.rules.specs.declared.entries.Command.the-variants.{Close as closeᶜ}
 use Rattle.book.proofs.Entered.{refused-entry, taken-entry}
 use Rattle.book.proofs.Book.enter_close.Statement.{statement}
@@ -14,8 +13,7 @@ refused-requires c κs = search needs
 returns : tie.Need-returns
 returns c =
     let at = c .before .before .before in
-    let e = refused-entry (at .args .self) (at .args .meter .now) closeᶜ (c .before .before .close-refusal .result) (c .before .before .close-refusal .ensures) (c .before .if1 .taken) in
-    (c .refused .ensures ∙ e .0, e .1)
+    rw (c .refused .ensures) (refused-entry (at .args .self) (at .args .meter .now) closeᶜ (c .before .before .close-refusal .result) (c .before .before .close-refusal .ensures) (c .before .if1 .taken))
 
 taken-requires : tie.Need-taken-requires
 taken-requires c κs = search needs
@@ -23,8 +21,7 @@ taken-requires c κs = search needs
 returns-2 : tie.Need-returns-2
 returns-2 c =
     let at = c .before .before .before in
-    let e = taken-entry (at .args .self) (at .args .meter .now) closeᶜ (c .before .before .close-refusal .result) (c .before .before .close-refusal .ensures) (c .before .if1 .left) in
-    (c .taken .ensures ∙ e .0, e .1)
+    rw (c .taken .ensures) (taken-entry (at .args .self) (at .args .meter .now) closeᶜ (c .before .before .close-refusal .result) (c .before .before .close-refusal .ensures) (c .before .if1 .left))
 
 pub enter-close-spec : {M : Type 1} → statement M
 enter-close-spec =

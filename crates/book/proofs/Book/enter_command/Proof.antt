@@ -44,7 +44,7 @@ same-length c = search needs
 returns : tie.Need-returns
 returns c =
     let e = c .before .before .before .before .c .given .1 in
-    (rw e (c .before .enter-contract .ensures .0), rw e (c .before .enter-contract .ensures .1))
+    rw e (c .before .enter-contract .ensures)
 
 same-length-2 : tie.Need-same-length-2
 same-length-2 c = search needs
@@ -52,7 +52,7 @@ same-length-2 c = search needs
 returns-2 : tie.Need-returns-2
 returns-2 c =
     let e = c .before .before .before .c2 .given .1 in
-    (rw e (c .enter-window .ensures .0), rw e (c .enter-window .ensures .1))
+    rw e (c .enter-window .ensures)
 
 same-length-3 : tie.Need-same-length-3
 same-length-3 c = search needs
@@ -60,7 +60,7 @@ same-length-3 c = search needs
 returns-3 : tie.Need-returns-3
 returns-3 c =
     let e = c .before .before .before .c3 .given .1 in
-    (rw e (c .enter-instruction .ensures .0), rw e (c .enter-instruction .ensures .1))
+    rw e (c .enter-instruction .ensures)
 
 same-length-4 : tie.Need-same-length-4
 same-length-4 c = search needs
@@ -68,7 +68,7 @@ same-length-4 c = search needs
 returns-4 : tie.Need-returns-4
 returns-4 c =
     let e = c .before .before .before .c4 .given .1 in
-    (rw e (c .enter-default .ensures .0), rw e (c .enter-default .ensures .1))
+    rw e (c .enter-default .ensures)
 
 same-length-5 : tie.Need-same-length-5
 same-length-5 c = search needs
@@ -76,7 +76,7 @@ same-length-5 c = search needs
 returns-5 : tie.Need-returns-5
 returns-5 c =
     let e = c .before .before .before .before .c5 .given .1 in
-    (rw e (c .before .enter-reading .ensures .0), rw e (c .before .enter-reading .ensures .1))
+    rw e (c .before .enter-reading .ensures)
 
 same-length-6 : tie.Need-same-length-6
 same-length-6 c = search needs
@@ -84,7 +84,7 @@ same-length-6 c = search needs
 returns-6 : tie.Need-returns-6
 returns-6 c =
     let e = c .before .before .enum-told .given .1 in
-    (rw e (c .enter-close .ensures .0), rw e (c .enter-close .ensures .1))
+    rw e (c .enter-close .ensures)
 
 pub enter-command-spec : {M : Type 1} → statement M
 enter-command-spec =

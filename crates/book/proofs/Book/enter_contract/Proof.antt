@@ -1,5 +1,4 @@
 use borrow.Author.Needs.{needs}
-use mathlib.Core.Path.{_∙_}
 use Rattle.rules.specs.declared.entries.Command.the-variants.{Contract as contractᶜ}
 use Rattle.book.proofs.Entered.{refused-entry, taken-entry, contract-fits}
 use Rattle.book.proofs.Book.enter_contract.Statement.{statement}
@@ -17,8 +16,7 @@ same-length c = search needs
 returns : tie.Need-returns
 returns c =
     let at = c .before .before .before .before in
-    let e = refused-entry (at .args .self) (at .args .meter .now) (contractᶜ (at .args .k)) (c .before .before .contract-refusal .result) (c .before .before .contract-refusal .ensures) (c .before .if1 .taken) in
-    (c .refused .ensures ∙ e .0, e .1)
+    rw (c .refused .ensures) (refused-entry (at .args .self) (at .args .meter .now) (contractᶜ (at .args .k)) (c .before .before .contract-refusal .result) (c .before .before .contract-refusal .ensures) (c .before .if1 .taken))
 
 span-of-requires : tie.Need-span-of-requires
 span-of-requires c κs = search needs
@@ -37,8 +35,7 @@ same-length-2 c = search needs
 returns-2 : tie.Need-returns-2
 returns-2 c =
     let at = c .before .before .before .before .before .before .before .before in
-    let e = taken-entry (at .args .self) (at .args .meter .now) (contractᶜ (at .args .k)) (c .before .before .before .before .before .before .contract-refusal .result) (c .before .before .before .before .before .before .contract-refusal .ensures) (c .before .before .before .before .before .if1 .left) in
-    (c .taken .ensures ∙ e .0, c .before .before .mark .ensures ∙ rw (c .before .before .before .span-of .ensures) (e .1))
+    rw (c .taken .ensures, c .before .before .mark .ensures, c .before .before .before .span-of .ensures) (taken-entry (at .args .self) (at .args .meter .now) (contractᶜ (at .args .k)) (c .before .before .before .before .before .before .contract-refusal .result) (c .before .before .before .before .before .before .contract-refusal .ensures) (c .before .before .before .before .before .if1 .left))
 
 pub enter-contract-spec : {M : Type 1} → statement M
 enter-contract-spec =

@@ -1,5 +1,5 @@
 use borrow.Author.Needs.{needs}
-use mathlib.Core.Path.{_≡_, _∙_}
+use mathlib.Core.Path.{_≡_}
 use Prim.Native.Nat.{_<_}
 use native.Mathlib.Omega.{arith}
 use lib.ListN.{length}
@@ -18,8 +18,7 @@ refused-requires c κs = search needs
 returns : tie.Need-returns
 returns c =
     let at = c .before .before .before in
-    let e = refused-entry (at .args .t1) (at .args .meter .now) (defaultᶜ (at .args .d)) (c .before .before .default-refusal .result) (c .before .before .default-refusal .ensures) (c .before .if1 .taken) in
-    (c .refused .ensures ∙ e .0, e .1)
+    rw (c .refused .ensures) (refused-entry (at .args .t1) (at .args .meter .now) (defaultᶜ (at .args .d)) (c .before .before .default-refusal .result) (c .before .before .default-refusal .ensures) (c .before .if1 .taken))
 
 -- the table's length
 cells : (c : tie.Start) → length (c .args .t1 .defaults) ≡ 128
@@ -46,8 +45,7 @@ taken-requires c κs = search needs
 returns-2 : tie.Need-returns-2
 returns-2 c =
     let at = c .before .before .before in
-    let e = taken-entry (at .args .t1) (at .args .meter .now) (defaultᶜ (at .args .d)) (c .before .before .default-refusal .result) (c .before .before .default-refusal .ensures) (c .before .if1 .left) in
-    (c .taken .ensures ∙ e .0, e .1)
+    rw (c .taken .ensures) (taken-entry (at .args .t1) (at .args .meter .now) (defaultᶜ (at .args .d)) (c .before .before .default-refusal .result) (c .before .before .default-refusal .ensures) (c .before .if1 .left))
 
 pub enter-default-spec : {M : Type 1} → statement M
 enter-default-spec =

@@ -1,5 +1,4 @@
 use borrow.Author.Needs.{needs}
-use mathlib.Core.Path.{_∙_}
 use Rattle.rules.specs.declared.entries.Command.the-variants.{Reading as readingᶜ}
 use Rattle.book.proofs.Entered.{refused-entry, taken-entry, reading-fits}
 use Rattle.book.proofs.Book.enter_reading.Statement.{statement}
@@ -17,8 +16,7 @@ same-length c = search needs
 returns : tie.Need-returns
 returns c =
     let at = c .before .before .before .before in
-    let e = refused-entry (at .args .self) (at .args .meter .now) (readingᶜ (at .args .r)) (c .before .before .reading-refusal .result) (c .before .before .reading-refusal .ensures) (c .before .if1 .taken) in
-    (c .refused .ensures ∙ e .0, e .1)
+    rw (c .refused .ensures) (refused-entry (at .args .self) (at .args .meter .now) (readingᶜ (at .args .r)) (c .before .before .reading-refusal .result) (c .before .before .reading-refusal .ensures) (c .before .if1 .taken))
 
 put-reading-requires : tie.Need-put-reading-requires
 put-reading-requires c κs =
@@ -34,8 +32,7 @@ same-length-2 c = search needs
 returns-2 : tie.Need-returns-2
 returns-2 c =
     let at = c .before .before .before .before .before .before .before in
-    let e = taken-entry (at .args .self) (at .args .meter .now) (readingᶜ (at .args .r)) (c .before .before .before .before .before .reading-refusal .result) (c .before .before .before .before .before .reading-refusal .ensures) (c .before .before .before .before .if1 .left) in
-    (c .taken .ensures ∙ e .0, c .before .before .put-reading .ensures ∙ e .1)
+    rw (c .taken .ensures, c .before .before .put-reading .ensures) (taken-entry (at .args .self) (at .args .meter .now) (readingᶜ (at .args .r)) (c .before .before .before .before .before .reading-refusal .result) (c .before .before .before .before .before .reading-refusal .ensures) (c .before .before .before .before .if1 .left))
 
 pub enter-reading-spec : {M : Type 1} → statement M
 enter-reading-spec =

@@ -51,38 +51,38 @@ down-minutes-requires c κs =
 ready-requires : tie.Need-ready-requires
 ready-requires c κs = (used (c .before .before .before), c .down-minutes .ensures)
 
+cast-beyond : tie.Need-cast-beyond
+cast-beyond c = search needs
+
+cast-beyond-2 : tie.Need-cast-beyond-2
+cast-beyond-2 c = search needs
+
+add-beyond : tie.Need-add-beyond
+add-beyond c = search needs
+
+cast-ceased : tie.Need-cast-ceased
+cast-ceased c = search needs
+
+cast-ceased-2 : tie.Need-cast-ceased-2
+cast-ceased-2 c = search needs
+
+cast-ceased-3 : tie.Need-cast-ceased-3
+cast-ceased-3 c = search needs
+
+add-ceased : tie.Need-add-ceased
+add-ceased c = search needs
+
+cast-early : tie.Need-cast-early
+cast-early c = search needs
+
 pick-requires : tie.Need-pick-requires
 pick-requires c κs = search needs
-
-cast-pick : tie.Need-cast-pick
-cast-pick c = search needs
 
 pick-requires-2 : tie.Need-pick-requires-2
 pick-requires-2 c κs = search needs
 
-cast-pick-2 : tie.Need-cast-pick-2
-cast-pick-2 c = search needs
-
-cast-pick-3 : tie.Need-cast-pick-3
-cast-pick-3 c = search needs
-
-cast-pick-4 : tie.Need-cast-pick-4
-cast-pick-4 c = search needs
-
-add-pick : tie.Need-add-pick
-add-pick c = search needs
-
 pick-requires-3 : tie.Need-pick-requires-3
 pick-requires-3 c κs = search needs
-
-cast-pick-5 : tie.Need-cast-pick-5
-cast-pick-5 c = search needs
-
-cast-pick-6 : tie.Need-cast-pick-6
-cast-pick-6 c = search needs
-
-add-pick-2 : tie.Need-add-pick-2
-add-pick-2 c = search needs
 
 pick-requires-4 : tie.Need-pick-requires-4
 pick-requires-4 c κs = search needs
@@ -93,7 +93,7 @@ returns-2 c =
     let at = past .before .before .before in
     let b = at .args .self in
     let n : b .ninstructions ≤ length (b .instructions) = rw (cells at) (used past) in
-    rw (c .pick4 .ensures, c .before .before .pick3 .ensures, c .before .before .before .before .before .before .pick2 .ensures, c .before .before .before .before .before .before .before .before .pick .ensures, c .before .before .before .before .before .before .before .before .before .before .ready .ensures, c .before .before .before .before .before .before .before .before .before .before .before .down-minutes .ensures, c .before .before .before .before .before .before .before .before .before .before .before .before .span-of .ensures)
+    rw (c .pick4 .ensures, c .before .pick3 .ensures, c .before .before .pick2 .ensures, c .before .before .before .pick .ensures, c .before .before .before .before .before .before .before .before .before .before .ready .ensures, c .before .before .before .before .before .before .before .before .before .before .before .down-minutes .ensures, c .before .before .before .before .before .before .before .before .before .before .before .before .span-of .ensures)
     (sym (late past .number ∙ instruction-later b (at .args .meter .now) (late past .contracted) (at .args .i) n))
 
 pub instruction-refusal-spec : {M : Type 1} → statement M
@@ -106,16 +106,16 @@ instruction-refusal-spec =
     span-of-requires
     down-minutes-requires
     ready-requires
+    cast-beyond
+    cast-beyond-2
+    add-beyond
+    cast-ceased
+    cast-ceased-2
+    cast-ceased-3
+    add-ceased
+    cast-early
     pick-requires
-    cast-pick
     pick-requires-2
-    cast-pick-2
-    cast-pick-3
-    cast-pick-4
-    add-pick
     pick-requires-3
-    cast-pick-5
-    cast-pick-6
-    add-pick-2
     pick-requires-4
     returns-2)

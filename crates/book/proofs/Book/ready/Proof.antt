@@ -12,6 +12,9 @@ use Rattle.book.proofs.Walks.{recovered-last}
 use Rattle.book.proofs.Book.ready.Statement.{statement}
 use Rattle.book.proofs.Book.ready.Tie as tie
 
+cast-recovery : tie.Need-cast-recovery
+cast-recovery c = search needs
+
 -- the table's length
 table : (c : tie.Start) → length (c .args .t1 .instructions) ≡ 64
 table c = search (length-mapped, needs)
@@ -34,9 +37,6 @@ cast-result c = search needs
 add-result : tie.Need-add-result
 add-result c = search needs
 
-cast-result-2 : tie.Need-cast-result-2
-cast-result-2 c = search needs
-
 add-result-2 : tie.Need-add-result-2
 add-result-2 c = search needs
 
@@ -54,12 +54,12 @@ pub ready-spec : {M : Type 1} → statement M
 ready-spec =
     tie.close
     (tie.spec
+    cast-recovery
     returns
     sub-at
     mul-i
     element-copy-out-i
     cast-result
     add-result
-    cast-result-2
     add-result-2
     returns-2)

@@ -44,6 +44,9 @@ span-of-requires c κs = search needs
 last-end-requires : tie.Need-last-end-requires
 last-end-requires c κs = used (c .before .before)
 
+cast-beyond : tie.Need-cast-beyond
+cast-beyond c = search needs
+
 pick-requires : tie.Need-pick-requires
 pick-requires c κs = search needs
 
@@ -52,9 +55,6 @@ pick-requires-2 c κs = search needs
 
 pick-requires-3 : tie.Need-pick-requires-3
 pick-requires-3 c κs = search needs
-
-cast-pick : tie.Need-cast-pick
-cast-pick c = search needs
 
 pick-requires-4 : tie.Need-pick-requires-4
 pick-requires-4 c κs = search needs
@@ -65,7 +65,7 @@ returns-2 c =
     let at = past .before .before .before in
     let b = at .args .self in
     let n : b .nwindows ≤ length (b .windows) = rw (cells at) (used past) in
-    rw (c .pick4 .ensures, c .before .before .pick3 .ensures, c .before .before .before .before .before .pick2 .ensures, c .before .before .before .before .before .before .before .before .pick .ensures, c .before .before .before .before .before .before .before .before .before .before .last-end .ensures, c .before .before .before .before .before .before .before .before .before .before .before .span-of .ensures)
+    rw (c .pick4 .ensures, c .before .pick3 .ensures, c .before .before .pick2 .ensures, c .before .before .before .pick .ensures, c .before .before .before .before .before .before .before .before .before .before .last-end .ensures, c .before .before .before .before .before .before .before .before .before .before .before .span-of .ensures)
     (sym (late past .number ∙ window-later b (at .args .meter .now) (late past .contracted) (at .args .w) n))
 
 pub window-refusal-spec : {M : Type 1} → statement M
@@ -77,9 +77,9 @@ window-refusal-spec =
     returns
     span-of-requires
     last-end-requires
+    cast-beyond
     pick-requires
     pick-requires-2
     pick-requires-3
-    cast-pick
     pick-requires-4
     returns-2)

@@ -1,5 +1,6 @@
+use mathlib.Core.Bool.{and-true}
 use borrow.Author.Needs.{needs}
-use Rattle.book.specs.Numbers.{instructionFits}
+use Rattle.rules.specs.Reached.{instructionsSound}
 use Rattle.book.proofs.Walks.{instruction-input}
 use Rattle.book.proofs.instructions.instruction_fits.Statement.{statement}
 use Rattle.book.proofs.instructions.instruction_fits.Tie as tie
@@ -32,10 +33,10 @@ cast-result-5 : tie.Need-cast-result-5
 cast-result-5 c = search needs
 
 returns : tie.Need-returns
-unfolding instructionFits
+unfolding instructionsSound
 returns c =
     let at = c .before .before .before .before .before .before .before in
-    rw (c .before .before .before .before .before .input-refusal .ensures, instruction-input (at .args .i), c .before .before .before .before .before .before .span-of .ensures, at .pre)
+    rw (c .before .before .before .before .before .input-refusal .ensures, instruction-input (at .args .i), c .before .before .before .before .before .before .span-of .ensures, at .pre, and-true)
 
 pub instruction-fits-spec : {M : Type 1} → statement M
 instruction-fits-spec =

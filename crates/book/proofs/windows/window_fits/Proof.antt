@@ -1,5 +1,6 @@
+use mathlib.Core.Bool.{and-true}
 use borrow.Author.Needs.{needs}
-use Rattle.book.specs.Numbers.{windowFits}
+use Rattle.rules.specs.Reached.{windowsSound}
 use Rattle.book.proofs.Walks.{window-input}
 use Rattle.book.proofs.windows.window_fits.Statement.{statement}
 use Rattle.book.proofs.windows.window_fits.Tie as tie
@@ -14,10 +15,10 @@ cast-result : tie.Need-cast-result
 cast-result c = search needs
 
 returns : tie.Need-returns
-unfolding windowFits
+unfolding windowsSound
 returns c =
     let w = c .before .before .before .before .before .before .before .args .w in
-    rw (c .before .before .before .before .before .input-refusal .ensures, window-input w, c .before .before .before .before .before .before .span-of .ensures)
+    rw (c .before .before .before .before .before .input-refusal .ensures, window-input w, c .before .before .before .before .before .before .span-of .ensures, and-true)
 
 pub window-fits-spec : {M : Type 1} → statement M
 window-fits-spec = tie.close (tie.spec span-of-requires input-refusal-requires cast-result returns)

@@ -46,7 +46,7 @@ returns-3 c =
     let read = c .before .before .before .before .before .before .before .read-at .ensures in
     let got = c .before .before .before .before .before .c .given .1 in
     let e = c .before .before .enter-known .ensures in
-    rw (← read, got) (rw (← e .0) (c .entered .ensures), e .1)
+    rw (← read, got) (rw (← e .entry) (c .entered .ensures), e .meter)
 
 pub read-and-enter-spec : {M : Type 1} → statement M
 read-and-enter-spec =
