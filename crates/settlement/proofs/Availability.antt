@@ -1,5 +1,5 @@
 -- The availability from the tables is the rules': paid periods, P, the entries and their pence.
-use mathlib.Core.Path.{_≡_, refl, sym, _∙_, ap, ap₂, subst}
+use mathlib.Core.Path.{_≡_, refl, sym, _∙_, ap, ap₂}
 use mathlib.Core.Bool.{Bool, true, false, cond, not, _&&_, _||_}
 use mathlib.Core.List.{List, [], _∷_, _++_, map, append-assoc}
 use Prim.Native.Nat.{ℕ, zero, suc, _+_, _-_, _*_, _/_, _%_, _≤_, _<_, min}
@@ -21,9 +21,9 @@ use Rattle.rules.specs.declared.entries.Default.{Default}
 use Rattle.rules.specs.declared.entries.Window.{Window}
 use Rattle.rules.specs.declared.statement.Available.{Available}
 use Rattle.book.specs.Book.{noDefault, noWindow}
-use Rattle.settlement.specs.Live.{covers}
-use Rattle.settlement.specs.Paid.{numberOf, windowOf, reachFrom, reachTo, loses, strikes, lostTo, struckTo, penaltyBy, paidBy, entryOf, entryBy, entriesTo, periodsTo}
-use Rattle.settlement.proofs.Folds.{any-all, count-snoc, sum-snoc, count-filter, map-snoc, count-none, count-shift}
+use Rattle.availability.specs.Live.{covers}
+use Rattle.availability.specs.Paid.{numberOf, windowOf, reachFrom, reachTo, loses, strikes, lostTo, struckTo, penaltyBy, paidBy, entryOf, entryBy, entriesTo, periodsTo}
+use Rattle.availability.proofs.Folds.{any-all, count-snoc, sum-snoc, count-filter, map-snoc, count-none, count-shift}
 use Rattle.settlement.proofs.Lights.{covers-is}
 
 -- the tables are a ledger's: n windows, d defaults, and the number of the live window at each place

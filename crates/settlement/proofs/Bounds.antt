@@ -1,5 +1,5 @@
 -- How large a line's energy and money can be.
-use mathlib.Core.Path.{_≡_, subst}
+use mathlib.Core.Path.{subst}
 use mathlib.Core.Bool.{Bool, true, false, cond}
 use mathlib.Core.List.{List}
 use Prim.Native.Nat.{ℕ, _+_, _-_, _*_, _/_, _≤_, _<_}
@@ -16,10 +16,10 @@ use Rattle.energy.proofs.Sums.{sum-within}
 use Rattle.rules.specs.declared.statement.Line.{Line}
 use Rattle.rules.specs.declared.statement.Rate.{Rate}
 use Rattle.rules.specs.declared.statement.Rate.the-variants.{Utilisation, Optional}
-use Rattle.settlement.specs.declared.terms.Terms.{Terms}
-use Rattle.settlement.specs.declared.cursor.Cursor.{Cursor}
-use Rattle.settlement.specs.Cursor.{rateBy, priceBy, steadyAt, lineBy, cutBy, Plan, Ready}
-use Rattle.settlement.proofs.Step.{Next, next}
+use Rattle.lines.specs.declared.terms.Terms.{Terms}
+use Rattle.lines.specs.declared.cursor.Cursor.{Cursor}
+use Rattle.lines.specs.Cursor.{rateBy, priceBy, steadyAt, lineBy, cutBy, Plan, Ready}
+use Rattle.lines.proofs.Step.{next}
 
 -- a quotient is within K where the dividend is within d * K
 nearest-bound : (n : ℤ) (d K : ℕ) → 0 < d → Within (d * K) n → Within K (nearest n d)

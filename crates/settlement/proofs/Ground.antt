@@ -1,14 +1,14 @@
 -- From a sound book with a contract to what the laws of settling ask, for the book's ledger, the table of times and meter memory of the span or more.
-use mathlib.Core.Path.{_≡_, refl, sym, _∙_, ap, ap₂, subst}
+use mathlib.Core.Path.{_≡_, refl, sym, _∙_, ap}
 use mathlib.Core.Bool.{Bool, true, false, cond, _&&_}
 use mathlib.Core.List.{List, [], _∷_}
-use mathlib.Core.Option.{Option, none, some}
-use Prim.Native.Nat.{ℕ, zero, suc, _+_, _-_, _*_, _/_, _≤_, _<_}
+use mathlib.Core.Option.{none, some}
+use Prim.Native.Nat.{ℕ, zero, suc, _+_, _-_, _/_, _≤_, _<_}
 use native.Mathlib.Decide.{ℕ-discrete}
 use native.Mathlib.Omega.{arith}
 use lib.IntN.{ℤ, pos, negsuc}
-use lib.ListN.{length, getD, take, set, length-set}
-use lib.Seq.{getD-take, length-take-le, getD-set-same, getD-set-other}
+use lib.ListN.{length, getD}
+use lib.Seq.{getD-take, length-take-le}
 use lib.Signed.{leZ}
 use borrow.Author.Tests.{lt-ltb}
 use Rattle.energy.specs.Energy.{cell}
@@ -16,9 +16,9 @@ use Rattle.energy.specs.Lists.{all, first, isSome, else, run, between}
 use Rattle.energy.specs.Number.{Within}
 use Rattle.energy.proofs.Integers.{leZ-true, leZ-yes}
 use Rattle.energy.proofs.Tests.{on-and}
-use Rattle.rules.specs.Ledger.{Ledger, contractOf, spanOf, kwOf, upMinutes, downMinutes, endOf}
+use Rattle.rules.specs.Ledger.{Ledger, contractOf, spanOf, kwOf, upMinutes, downMinutes}
 use Rattle.rules.specs.Refusal.{isReading}
-use Rattle.rules.specs.Segment.{complete, inLive}
+use Rattle.rules.specs.Segment.{complete}
 use Rattle.rules.specs.Statement.{reads}
 use Rattle.rules.specs.declared.contract.Contract.{Contract}
 use Rattle.rules.specs.declared.entries.Default.{Default}
@@ -27,45 +27,17 @@ use Rattle.rules.specs.declared.entries.Window.{Window}
 use Rattle.book.specs.Book.{noWindow, noInstruction, noDefault, missing, cell as reading, ledgerIn}
 use Rattle.book.specs.Sound.{Shaped}
 use Rattle.book.specs.declared.Book.{Book}
-use Rattle.settlement.specs.declared.terms.Terms.{Terms}
-use Rattle.settlement.specs.Terms.{termsOf, issueOf, ceaseOf, Timed}
-use Rattle.settlement.specs.Survey.{LaidAt, Laid, has, surveyOf, surveyTo}
-use Rattle.settlement.specs.Live.{Cleared, Windows, isLive, Lit, lit, numberTo}
-use Rattle.settlement.specs.Paid.{numberOf, windowOf, Placed, Spans}
-use Rattle.settlement.specs.Cursor.{Planned, Plan}
+use Rattle.lines.specs.declared.terms.Terms.{Terms}
+use Rattle.lines.specs.Terms.{termsOf, issueOf, ceaseOf, Timed}
+use Rattle.lines.specs.Survey.{LaidAt, Laid, has, surveyOf, surveyTo}
+use Rattle.availability.specs.Live.{Cleared, Windows, isLive, Lit}
+use Rattle.availability.specs.Paid.{numberOf, windowOf, Placed, Spans}
+use Rattle.lines.specs.Cursor.{Planned}
 use Rattle.settlement.proofs.Sound.{SoundBook, SoundCall, SoundWindow, SoundDefault}
 use Rattle.settlement.proofs.Surveyed.{Surveyed, survey-complete}
 use Rattle.settlement.proofs.Lights.{Shown, lights-tied, number-at, number-small}
 use Rattle.settlement.proofs.Availability.{Priced, Home, home, Inside, reach-inside}
 use Rattle.settlement.proofs.Tied.{Tied, instructionAt}
-
--- ---- the table of times, row by row
-module _ (at f : ℕ → ℕ) where
-  -- place (at j) of a table holds f j, for the first n j
-  abbrev Column : ℕ → List ℕ → Type 0
-  Column n t = (j : ℕ) → j < n → getD t (at j) 0 ≡ f j
-
-  column-put : (n : ℕ) (t : List ℕ) (x : ℕ) → at n < length t → ((j : ℕ) → j < n → at j ≡ at n → ⊥) → x ≡ f n → Column n t → Column (n + 1) (set t (at n) x)
-  column-put n t x h d e c j l = go (ℕ-discrete j n)
-    where
-      go : Dec (j ≡ n) → getD (set t (at n) x) (at j) 0 ≡ f j
-      go (yes q) = rw q (getD-set-same t (at n) x 0 h ∙ e)
-      go (no q) = getD-set-other t (at n) (at j) x 0 (d j (omega (arith, q))) ∙ c j (omega (arith, q))
-
-  column-keep : (n : ℕ) (t : List ℕ) (a x : ℕ) → ((j : ℕ) → j < n → at j ≡ a → ⊥) → Column n t → Column n (set t a x)
-  column-keep n t a x d c j l = getD-set-other t a (at j) x 0 (d j l) ∙ c j l
-
-pub timed-next : (is : List Instruction) (n : ℕ) (times : List ℕ) (x y : ℕ) → n < 64 → x ≡ getD is n noInstruction .issue .0 → y ≡ getD is n noInstruction .cease .0
-    → Timed is n times → Timed is (n + 1) (set (set times n x) (64 + n) y)
-timed-next is n times x y h e d t =
-    let i : ℕ → ℕ = λ j. getD is j noInstruction .issue .0 in
-    let c : ℕ → ℕ = λ j. getD is j noInstruction .cease .0 in
-    let l : length (set times n x) ≡ 128 = length-set times n x ∙ t .size in
-    record {
-      size = length-set (set times n x) (64 + n) y ∙ l;
-      issue = column-keep (λ j. j) i (n + 1) (set times n x) (64 + n) y (λ j k q. omega arith) (column-put (λ j. j) i n times x (omega (arith, t .size)) (λ j k q. omega arith) e (t .issue));
-      cease = column-put (λ j. 64 + j) c n (set times n x) y (omega arith) (λ j k q. omega arith) d (column-keep (λ j. 64 + j) c n times n x (λ j k q. omega arith) (t .cease));
-    }
 
 -- ---- readings
 -- each of a row passes, if all do

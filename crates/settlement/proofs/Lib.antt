@@ -1,11 +1,8 @@
-pub mod Step
 pub mod Bounds
 pub mod Tied
 pub mod Sequence
 pub mod Surveyed
-pub mod Folds
 pub mod Lights
-pub mod Struck
 pub mod Availability
 pub mod Chains
 pub mod Sound

@@ -18,9 +18,9 @@ use Rattle.rules.specs.declared.answer.Answer.the-variants.{Refused}
 use Rattle.book.specs.Book.{ledgerIn}
 use Rattle.book.specs.Sound.{sound}
 use Rattle.book.specs.declared.Book.{Book}
-use Rattle.settlement.specs.declared.cursor.Cursor.{Cursor}
-use Rattle.settlement.specs.Terms.{noTerms}
-use Rattle.settlement.specs.Cursor.{startOf, enterOf}
+use Rattle.lines.specs.declared.cursor.Cursor.{Cursor}
+use Rattle.lines.specs.Terms.{noTerms}
+use Rattle.lines.specs.Cursor.{startOf, enterOf}
 use Rattle.settlement.specs.Settle.{noStatement, settledBy, settleBook}
 use Rattle.settlement.specs.Prepared.{summed, refusalOf, lastCursor, settledWith, Prepares}
 use Rattle.settlement.proofs.Sound.{span-sound}

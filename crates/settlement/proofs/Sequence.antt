@@ -24,11 +24,11 @@ use Rattle.rules.specs.declared.entries.Instruction.{Instruction}
 use Rattle.rules.specs.declared.statement.Line.{Line}
 use Rattle.rules.proofs.Cuts.{cut, cutsFrom, segmentAt, segments-cuts, Timed}
 use Rattle.book.specs.Book.{noInstruction}
-use Rattle.settlement.specs.declared.terms.Terms.{Terms}
-use Rattle.settlement.specs.declared.cursor.Cursor.{Cursor}
-use Rattle.settlement.specs.Terms.{issueOf}
-use Rattle.settlement.specs.Cursor.{callOf, lineBy, startOf, cursorAt, steppedLine, stored, enterOf, moved, cutBy, stepOf, either, Ready}
-use Rattle.settlement.proofs.Step.{Next, next}
+use Rattle.lines.specs.declared.terms.Terms.{Terms}
+use Rattle.lines.specs.declared.cursor.Cursor.{Cursor}
+use Rattle.lines.specs.Terms.{issueOf}
+use Rattle.lines.specs.Cursor.{callOf, lineBy, startOf, cursorAt, steppedLine, stored, enterOf, moved, cutBy, stepOf, either, Ready}
+use Rattle.lines.proofs.Step.{Next, next}
 use Rattle.settlement.proofs.Bounds.{Bounded, bounded}
 use Rattle.settlement.proofs.Tied.{Tied, instructionAt, end-is, cut-is, line-tied}
 

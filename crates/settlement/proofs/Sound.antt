@@ -10,7 +10,7 @@ use lib.IntN.{ℤ, pos, negsuc, natAbs}
 use lib.ListN.{length, getD, take}
 use lib.Signed.{leZ}
 use borrow.Author.Tests.{leb-true, leb-false, ltb-true, eqb-true, ltb-false, not-true, not-false}
-use Rattle.energy.specs.Lists.{all, any, first, pass}
+use Rattle.energy.specs.Lists.{any, first, pass}
 use Rattle.energy.specs.Number.{ceiling}
 use Rattle.energy.proofs.Integers.{leZ-true}
 use Rattle.energy.proofs.Tests.{on-and}
@@ -21,7 +21,6 @@ use Rattle.rules.specs.declared.contract.Contract.{Contract}
 use Rattle.rules.specs.declared.entries.Default.{Default}
 use Rattle.rules.specs.declared.entries.Instruction.{Instruction}
 use Rattle.rules.specs.declared.entries.Window.{Window}
-use Rattle.rules.specs.declared.entries.Command.{Command}
 use Rattle.rules.specs.declared.entries.Command.the-variants.{Contract as contractᶜ, Window as windowᶜ, Instruction as instructionᶜ, Default as defaultᶜ}
 use Rattle.book.specs.Book.{noWindow, noInstruction, noDefault, ledgerIn}
 use Rattle.book.specs.Sound.{noContractTests, tableTests, emptyTests, sound}

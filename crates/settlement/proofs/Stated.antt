@@ -24,14 +24,14 @@ use Rattle.book.specs.Book.{ledgerIn}
 use Rattle.book.specs.Sound.{sound}
 use Rattle.book.specs.declared.Book.{Book}
 use Rattle.settlement.specs.declared.Settlement.{Settlement}
-use Rattle.settlement.specs.declared.cursor.Cursor.{Cursor}
-use Rattle.settlement.specs.declared.paid.Entries.{Entries}
+use Rattle.lines.specs.declared.cursor.Cursor.{Cursor}
+use Rattle.availability.specs.declared.paid.Entries.{Entries}
 use Rattle.settlement.specs.declared.prepare.Prepared.{Prepared}
-use Rattle.settlement.specs.declared.terms.Terms.{Terms}
-use Rattle.settlement.specs.Terms.{termsOf}
-use Rattle.settlement.specs.Live.{isLive, Lit}
-use Rattle.settlement.specs.Paid.{struckTo, penaltyBy, entriesBy, eachBy, availabilityBy}
-use Rattle.settlement.specs.Cursor.{startOf, enterOf, stepOf, cursorAt, steppedLine, stored, either}
+use Rattle.lines.specs.declared.terms.Terms.{Terms}
+use Rattle.lines.specs.Terms.{termsOf}
+use Rattle.availability.specs.Live.{isLive, Lit}
+use Rattle.availability.specs.Paid.{struckTo, penaltyBy, entriesBy, eachBy, availabilityBy}
+use Rattle.lines.specs.Cursor.{startOf, enterOf, stepOf, cursorAt, steppedLine, stored, either}
 use Rattle.settlement.specs.Settle.{Settled, settledBy, settleBook}
 use Rattle.settlement.specs.Prepared.{unsummed, summed, LaidOut, lastCursor, settledWith, Prepares}
 use Rattle.settlement.proofs.Bounds.{bounded}

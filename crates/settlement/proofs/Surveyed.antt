@@ -17,19 +17,10 @@ use Rattle.rules.specs.declared.entries.Instruction.{Instruction}
 use Rattle.rules.proofs.Cuts.{Timed}
 use Rattle.rules.proofs.Count.{touched, count-segments}
 use Rattle.book.specs.Book.{noInstruction}
-use Rattle.settlement.specs.declared.terms.Terms.{Terms}
-use Rattle.settlement.specs.declared.survey.Survey.{Survey}
-use Rattle.settlement.specs.Terms.{issueOf, ceaseOf}
-use Rattle.settlement.specs.Survey.{Laid, has, surveyOf, surveyTo}
+use Rattle.lines.specs.declared.terms.Terms.{Terms}
+use Rattle.lines.specs.Terms.{issueOf, ceaseOf}
+use Rattle.lines.specs.Survey.{Laid, has, surveyOf, surveyTo}
 use Rattle.settlement.proofs.Tied.{instructionAt}
-
--- a survey from its parts
-pub survey-made : (t : Terms) (times : List ℕ) (meter : List ℤ) (j : ℕ) (s : Survey) (i c : ℕ) (b a : Bool) (x y z : ℕ)
-    → i ≡ issueOf times j → c ≡ ceaseOf times j → b ≡ all (has meter) (between (i - 3) (i + 1)) → a ≡ all (has meter) (between (i + t .response - t .rise) (c + t .fall))
-    → x ≡ touched (i + t .response - t .rise) (i + t .response) → y ≡ touched (i + t .response) c → z ≡ touched c (c + t .fall)
-    → _≡_ {A = Survey} (record { complete = s .complete && (b && a); count = s .count + (x + y + z) }) (surveyOf t times meter j s)
-unfolding surveyOf
-survey-made t times meter j s i c b a x y z e₁ e₂ e₃ e₄ e₅ e₆ e₇ = cc
 
 -- the table of instructions is a ledger's, and so are the cells
 pub record Surveyed (g : Ledger) (t : Terms) (times : List ℕ) (meter : List ℤ) : Type 0 where

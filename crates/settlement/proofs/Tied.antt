@@ -1,5 +1,5 @@
 -- The numbers that settling holds are the rules': a line at the cursor is a line of the rules.
-use mathlib.Core.Path.{_≡_, refl, sym, _∙_, ap, ap₂, subst}
+use mathlib.Core.Path.{_≡_, refl, sym, _∙_, ap, ap₂}
 use mathlib.Core.Bool.{Bool, true, false, cond, _&&_, _||_}
 use mathlib.Core.List.{List}
 use Prim.Native.Nat.{ℕ, _+_, _-_, _*_, _≤_, _<_}
@@ -7,7 +7,7 @@ use native.Mathlib.Omega.{arith}
 use lib.Dec.{leb, ltb}
 use lib.IntN.{ℤ, pos, _*ℤ_, pos-*ℤ-pos}
 use lib.ListN.{length, getD}
-use borrow.Author.Tests.{lt-ltb, le-ltb, le-leb, lt-leb}
+use borrow.Author.Tests.{le-leb, lt-leb}
 use Rattle.energy.specs.Energy.{cell, steadyQuarters, rampQuarters, delivers, expectedIn, deliveredIn}
 use Rattle.energy.specs.Lists.{sum, between}
 use Rattle.energy.specs.Number.{Within}
@@ -23,13 +23,13 @@ use Rattle.rules.specs.declared.statement.Rate.{Rate}
 use Rattle.rules.specs.declared.statement.Rate.the-variants.{Utilisation, Optional}
 use Rattle.rules.proofs.Cuts.{stageAt, split, cut, segmentAt, stage-flat}
 use Rattle.book.specs.Book.{noInstruction}
-use Rattle.settlement.specs.declared.terms.Terms.{Terms}
-use Rattle.settlement.specs.declared.cursor.Call.{Call}
-use Rattle.settlement.specs.declared.cursor.Cursor.{Cursor}
-use Rattle.settlement.specs.Terms.{issueOf, ceaseOf}
-use Rattle.settlement.specs.Live.{lit}
-use Rattle.settlement.specs.Cursor.{callOf, rateBy, priceBy, steadyAt, lineBy, cutBy, Planned, Plan, Ready}
-use Rattle.settlement.proofs.Step.{Next, next}
+use Rattle.lines.specs.declared.terms.Terms.{Terms}
+use Rattle.lines.specs.declared.cursor.Call.{Call}
+use Rattle.lines.specs.declared.cursor.Cursor.{Cursor}
+use Rattle.lines.specs.Terms.{issueOf, ceaseOf}
+use Rattle.lines.specs.Cursor.{lit}
+use Rattle.lines.specs.Cursor.{callOf, rateBy, priceBy, steadyAt, lineBy, cutBy, Planned, Plan, Ready}
+use Rattle.lines.proofs.Step.{Next, next}
 
 -- instruction j of a ledger, from 0
 abbrev pub instructionAt : Ledger → ℕ → Instruction

@@ -1,7 +1,2 @@
 pub mod Settle
-pub mod Terms
-pub mod Survey
-pub mod Live
-pub mod Paid
-pub mod Cursor
 pub mod Prepared

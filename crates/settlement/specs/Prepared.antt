@@ -11,15 +11,15 @@ use Rattle.rules.specs.declared.statement.Line.{Line}
 use Rattle.rules.specs.declared.statement.Statement.{Statement}
 use Rattle.book.specs.declared.Book.{Book}
 use Rattle.settlement.specs.declared.Settlement.{Settlement}
-use Rattle.settlement.specs.declared.cursor.Cursor.{Cursor}
-use Rattle.settlement.specs.declared.paid.Entries.{Entries}
+use Rattle.lines.specs.declared.cursor.Cursor.{Cursor}
+use Rattle.availability.specs.declared.paid.Entries.{Entries}
 use Rattle.settlement.specs.declared.prepare.Prepared.{Prepared}
-use Rattle.settlement.specs.declared.terms.Terms.{Terms}
-use Rattle.settlement.specs.Cursor.{Plan, Ready, cursorAt, steppedLine, stored}
-use Rattle.settlement.specs.Live.{isLive, Lit}
-use Rattle.settlement.specs.Paid.{availabilityBy}
+use Rattle.lines.specs.declared.terms.Terms.{Terms}
+use Rattle.lines.specs.Cursor.{Plan, Ready, cursorAt, steppedLine, stored}
+use Rattle.availability.specs.Live.{isLive, Lit}
+use Rattle.availability.specs.Paid.{availabilityBy}
 use Rattle.settlement.specs.Settle.{Settled, noStatement, settleBook}
-use Rattle.settlement.specs.Terms.{noTerms}
+use Rattle.lines.specs.Terms.{noTerms}
 
 -- a statement of n lines with the windows' entries, without the lines' sums
 abbrev pub unsummed : ℕ → Entries → Statement

@@ -3,14 +3,9 @@ use rules::answer::Answer;
 use rules::statement::Line;
 use rules::statement::Statement;
 
-mod cursor;
 pub mod listed;
-mod live;
-mod paid;
 mod prepare;
 pub mod settle;
-mod survey;
-mod terms;
 
 // The answer, and the statement: zeros where settling is refused.
 pub struct Settlement {

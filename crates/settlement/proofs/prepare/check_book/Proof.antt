@@ -1,14 +1,13 @@
 -- `settlement::prepare::check_book` meets its contract. Assumes nothing.
 use mathlib.Core.Path.{_≡_, sym, _∙_, subst}
-use mathlib.Core.Bool.{true, false}
-use Prim.Native.Nat.{_*_, _≤_, _<_}
+use mathlib.Core.Bool.{true}
+use Prim.Native.Nat.{_≤_}
 use native.Mathlib.Omega.{arith}
 use lib.ListN.{length}
 use borrow.Author.Needs.{needs}
 use borrow.Author.Tests.{not-true, not-false}
 use Rattle.rules.specs.Ledger.{spanOf}
 use Rattle.book.specs.Sound.{sound}
-use Rattle.settlement.specs.declared.prepare.Prepared.{Prepared}
 use Rattle.settlement.specs.Prepared.{Prepares}
 use Rattle.settlement.proofs.Refused.{refused, is-11, is-15, is-24}
 use Rattle.settlement.proofs.prepare.check_book.Statement.{statement}

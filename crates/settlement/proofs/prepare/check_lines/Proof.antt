@@ -1,7 +1,7 @@
 -- `settlement::prepare::check_lines` meets its contract. Assumes nothing.
 use mathlib.Core.Path.{_≡_, sym, _∙_, ap, subst}
 use mathlib.Core.Bool.{true, false}
-use mathlib.Core.List.{List, map}
+use mathlib.Core.List.{List}
 use Prim.Native.Nat.{ℕ, _≤_, _<_}
 use native.Mathlib.Omega.{arith}
 use lib.IntN.{ℤ}
@@ -13,13 +13,13 @@ use Rattle.rules.specs.Segment.{complete, segments}
 use Rattle.book.specs.Book.{ledgerIn}
 use Rattle.book.specs.Sound.{Shaped}
 use Rattle.book.specs.declared.Book.{Book}
-use Rattle.settlement.specs.declared.survey.Survey.{Survey}
+use Rattle.lines.specs.declared.survey.Survey.{Survey}
 use Rattle.settlement.specs.declared.prepare.Prepared.{Prepared}
-use Rattle.settlement.specs.declared.terms.Terms.{Terms}
-use Rattle.settlement.specs.Terms.{Timed, termsOf}
-use Rattle.settlement.specs.Survey.{Laid, surveyTo}
+use Rattle.lines.specs.declared.terms.Terms.{Terms}
+use Rattle.lines.specs.Terms.{Timed, termsOf}
+use Rattle.lines.specs.Survey.{Laid, surveyTo}
 use Rattle.settlement.specs.Prepared.{Prepares, refusalOf, LaidOut}
-use Rattle.settlement.proofs.Folds.{length-mapped}
+use Rattle.availability.proofs.Folds.{length-mapped}
 use Rattle.settlement.proofs.Sound.{SoundBook, sound-book, closed-agreed}
 use Rattle.settlement.proofs.Surveyed.{Surveyed, survey-complete, survey-count}
 use Rattle.settlement.proofs.Ground.{Grounds, surveyed}

@@ -1,28 +1,24 @@
 -- `settlement::prepare::lay_out` meets its contract. What it stands on does not look at the readings, so meter memory of the span stands in. Assumes nothing.
 use mathlib.Core.Path.{_≡_, refl, sym, _∙_, ap, subst}
-use mathlib.Core.List.{List, map}
-use Prim.Native.Nat.{ℕ, _+_, _≤_, _<_}
+use mathlib.Core.List.{List}
+use Prim.Native.Nat.{ℕ}
 use native.Mathlib.Omega.{arith}
 use lib.IntN.{ℤ, pos}
-use lib.ListN.{length, getD, replicate, length-replicate}
+use lib.ListN.{replicate, length-replicate}
 use borrow.Author.Needs.{needs}
 use Rattle.energy.specs.Number.{Within}
 use Rattle.rules.specs.Ledger.{spanOf, kwOf, downMinutes}
 use Rattle.rules.specs.declared.contract.Contract.{Contract}
 use Rattle.rules.specs.declared.statement.Statement.{Statement}
 use Rattle.rules.specs.declared.answer.Answer.the-variants.{Taken}
-use Rattle.book.specs.Book.{noDefault}
 use Rattle.book.specs.Sound.{Shaped}
-use Rattle.settlement.specs.declared.Settlement.{Settlement}
-use Rattle.settlement.specs.declared.paid.Entries.{Entries}
-use Rattle.settlement.specs.declared.terms.Terms.{Terms}
-use Rattle.settlement.specs.Terms.{termsOf}
-use Rattle.settlement.specs.Live.{Cleared, Windows, isLive, Lit}
-use Rattle.settlement.specs.Paid.{availabilityBy}
+use Rattle.lines.specs.declared.terms.Terms.{Terms}
+use Rattle.lines.specs.Terms.{termsOf}
+use Rattle.availability.specs.Live.{isLive, Lit}
 use Rattle.settlement.specs.Prepared.{unsummed}
-use Rattle.settlement.proofs.Folds.{length-mapped}
+use Rattle.availability.proofs.Folds.{length-mapped}
 use Rattle.settlement.proofs.Sound.{sound-book}
-use Rattle.settlement.proofs.Struck.{dark-zeros}
+use Rattle.availability.proofs.Struck.{dark-zeros}
 use Rattle.settlement.proofs.Ground.{Grounds, cleared, windows-fit, spans, placed}
 use Rattle.settlement.proofs.prepare.lay_out.Statement.{statement}
 use Rattle.settlement.proofs.prepare.lay_out.Tie as tie

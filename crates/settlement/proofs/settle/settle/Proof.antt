@@ -2,8 +2,7 @@
 -- of the three the proof knows only that they meet their contracts. The borrow is given up for good, to `fill`. The two tables are locals, lent to `fill` for a lifetime made for the call.
 -- Assumes nothing.
 use mathlib.Core.Path.{_≡_, refl, sym, _∙_, ap, subst}
-use Prim.Native.Nat.{ℕ, _<_, _≤_, _^_}
-use mathlib.Core.Bool.{true}
+use Prim.Native.Nat.{ℕ, _<_, _^_}
 use mathlib.Core.List.{[], _∷_, List, map, map-id}
 use lib.IntN.{ℤ}
 use lib.ListN.{length}
@@ -20,7 +19,7 @@ use prog.Wp.{Heap, Env, Calls, Loops, WpFn, Tables}
 use ghost.Atoms.{Atoms, sem}
 use contract.Monad.{Fun, fact}
 use contract.Running.{givenOf, tables, tablesOf}
-use types.Kit.{Given, Item, Sq, runs, atRet, ‵, raw, some, later, _⊛_, ⋆, _$_, _∵_, !, qed, by, move, keep, drop, use0, use1, use2, use3, split, join, pick, rewrite, fsplit, fjoin, fpick, feqL, suffices, frame, await, done}
+use types.Kit.{Given, Item, Sq, runs, atRet, ‵, raw, some, later, _⊛_, ⋆, _$_, _∵_, !, qed, by, move, drop, use0, use1, use2, use3, split, join, pick, rewrite, fsplit, fjoin, fpick, feqL, suffices, frame, await, done}
 use types.Run.{look, init, forget, stop, hop, fld, from, load, lit, of-opd, and-then, no-more, addr, assigns, land, returns, enter, alloc1, alloc0, params1, pass1, pass0, free1, free0}
 use types.Part.{whole, sub, look-in, agg}
 use types.Tokens.{lft-new, lft-end, lent-back}
@@ -43,16 +42,15 @@ use denote.Triple.Clauses.{ensured, lasts}
 use denote.Triple.Entry.{Vals, onEntry}
 use denote.Triple.Spec.{Meets, tripleOf}
 use denote.Triple.Table.{entered, cited}
-use denote.Triple.Walked.{says, needs, Stays, stay-none, stay-none-slice, gave-slice, walkOf, goes-none, goes-none-slice, goes-gave-slice, Walks, ends-at, walked, walk-meets}
+use denote.Triple.Walked.{says, Stays, stay-none, stay-none-slice, gave-slice, walkOf, goes-none, goes-none-slice, goes-gave-slice, Walks, ends-at, walked, walk-meets}
 use denote.Exit.{yes}
 use Rattle.energy.specs.Number.{Within}
 use Rattle.rules.specs.declared.statement.Line.{Line}
 use Rattle.book.specs.declared.Book.{Book}
 use Rattle.settlement.specs.declared.Settlement.{Settlement}
-use Rattle.settlement.specs.declared.cursor.Cursor.{Cursor}
+use Rattle.lines.specs.declared.cursor.Cursor.{Cursor}
 use Rattle.settlement.specs.declared.prepare.Prepared.{Prepared}
-use Rattle.settlement.specs.Cursor.{cursorAt, steppedLine, stored}
-use Rattle.settlement.specs.Settle.{settleBook}
+use Rattle.lines.specs.Cursor.{steppedLine, stored}
 use Rattle.settlement.specs.Prepared.{Prepares, lastCursor, summed}
 use Rattle.settlement.proofs.Stated.{settled-answer, settled-memory}
 use Rattle.settlement.proofs.Walk.{big-lit}
@@ -62,10 +60,10 @@ use Rattle.book.proofs.Book as B
 use Rattle.book.proofs.Book.Laws as B′
 use Rattle.settlement.proofs.Settlement as O
 use Rattle.settlement.proofs.Settlement.Laws as O′
-use Rattle.settlement.proofs.cursor.Cursor as K
-use Rattle.settlement.proofs.cursor.Cursor.Laws as K′
-use Rattle.settlement.proofs.terms.Terms as E
-use Rattle.settlement.proofs.terms.Terms.Laws as E′
+use Rattle.lines.proofs.cursor.Cursor as K
+use Rattle.lines.proofs.cursor.Cursor.Laws as K′
+use Rattle.lines.proofs.terms.Terms as E
+use Rattle.lines.proofs.terms.Terms.Laws as E′
 use Rattle.settlement.proofs.prepare.Prepared as N
 use Rattle.settlement.proofs.prepare.Prepared.Laws as N′
 use Rattle.settlement.proofs.prepare.prepare as prepare

@@ -1,6 +1,5 @@
 -- `settlement::settle::sum_up` meets its contract. Assumes nothing.
-use mathlib.Core.Path.{_≡_, refl}
-use Prim.Native.Nat.{_≤_}
+use mathlib.Core.Path.{refl}
 use native.Mathlib.Omega.{arith}
 use lib.IntN.{ℤ, _+ℤ_}
 use mir.Syntax.{w64}

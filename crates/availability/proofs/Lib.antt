@@ -1,0 +1,3 @@
+pub mod Folds
+pub mod Marks
+pub mod Struck

@@ -1,0 +1,76 @@
+-- `settlement::paid::strike_all` meets its contract. The invariant: the tables are those of the first i defaults. Assumes nothing.
+use mathlib.Core.Path.{_≡_, refl, sym, _∙_, subst}
+use Prim.Native.Nat.{_-_, _≤_}
+use native.Mathlib.Omega.{arith}
+use lib.ListN.{length, getD}
+use borrow.Author.Needs.{needs}
+use Rattle.book.specs.Book.{noDefault}
+use Rattle.availability.specs.Paid.{Placed, Struck}
+use Rattle.availability.proofs.Struck.{struck-none, struck-next}
+use Rattle.availability.proofs.paid.strike_all.Statement.{statement}
+use Rattle.availability.proofs.paid.strike_all.Tie as tie
+
+abbrev Inv-loop : tie.InvT-loop
+Inv-loop lost₀ struck₀ live windows n defaults i₀ lost struck i =
+    (i ≤ n) × (length lost ≡ length lost₀) × (length struck ≡ length struck₀) × Struck live windows defaults i lost struck
+
+abbrev μ-loop : tie.MeasureT-loop
+μ-loop lost₀ struck₀ live windows n defaults i₀ lost struck i = n - i
+
+loop-holds : tie.Need-loop-holds Inv-loop μ-loop
+loop-holds c = let p = c .before .before .before .pre in (omega arith, refl, refl, struck-none _ _ _ _ _ (p .3) (p .4))
+
+mul-d : tie.Need-mul-d Inv-loop μ-loop
+mul-d c = search needs
+
+array-copy-out-d : tie.Need-array-copy-out-d Inv-loop μ-loop
+array-copy-out-d c = search needs
+
+strike-requires : tie.Need-strike-requires Inv-loop μ-loop
+strike-requires c κs =
+    let s = c .before .before .before .before .before .before .before .before in
+    let l = c .before .before .before .before .loop in
+    (subst (λ z. Placed (s .args .live .now) (s .args .windows) z (getD (s .args .t5) (l .i) noDefault)) (sym (l .inv .1)) (s .pre .0 (l .i) (omega arith)), omega (arith, s .pre .2, l .inv .2))
+
+add-i : tie.Need-add-i Inv-loop μ-loop
+add-i c = search needs
+
+loop-less : tie.Need-loop-less Inv-loop μ-loop
+loop-less c = search needs
+
+loop-again : tie.Need-loop-again Inv-loop μ-loop
+loop-again c =
+    let a = c .before .before .before .before .before .before .before .before .before .before .before .before .before .args in
+    let l = c .before .before .before .before .before .before .before .before .before .loop in
+    let r = c .before .before .before .before .strike in
+    (omega arith, r .ensures .same .0 ∙ l .inv .1, r .ensures .same .1 ∙ l .inv .2, struck-next (a .live .now) (a .windows) (a .t5) (l .i) (l .lost) (r .last .0) (l .struck) (r .last .1 .0) (l .inv .3) (r .ensures))
+
+same-length : tie.Need-same-length Inv-loop μ-loop
+same-length c = search needs
+
+same-length-2 : tie.Need-same-length-2 Inv-loop μ-loop
+same-length-2 c = search needs
+
+returns : tie.Need-returns Inv-loop μ-loop
+returns c =
+    let a = c .before .before .before .before .before .args in
+    let l = c .before .loop in
+    let e : l .i ≡ a .n = omega arith in
+    (subst (λ z. Struck (a .live .now) (a .windows) (a .t5) z (l .lost) (l .struck)) e (l .inv .3), l .inv .1, l .inv .2)
+
+pub strike-all-spec : {M : Type 1} → statement M
+strike-all-spec =
+    tie.close
+    (tie.spec
+    Inv-loop
+    μ-loop
+    loop-holds
+    mul-d
+    array-copy-out-d
+    strike-requires
+    add-i
+    loop-less
+    loop-again
+    same-length
+    same-length-2
+    returns)

@@ -1,0 +1,3 @@
+// Availability: which windows are live, which of their periods are paid, and what they are paid.
+pub mod live;
+pub mod paid;

@@ -1,0 +1,98 @@
+-- `settlement::cursor::line_of` meets its contract: the parts of the line are its callees' promises. Assumes nothing.
+use mathlib.Core.Path.{_∙_, ap}
+use Prim.Native.Nat.{_-_}
+use native.Mathlib.Omega.{arith}
+use lib.IntN.{pos}
+use borrow.Author.Needs.{needs}
+use mir.Syntax.{w32}
+use mir.Val.{SFits}
+use mir.Facts.{toZ-ofZ}
+use Rattle.energy.specs.Energy.{kwh, payment, deliveredIn}
+use Rattle.energy.proofs.Integers.{fits-parts}
+use Rattle.lines.proofs.Step.{line-made}
+use Rattle.lines.proofs.cursor.line_of.Statement.{statement}
+use Rattle.lines.proofs.cursor.line_of.Tie as tie
+
+sub-expected : tie.Need-sub-expected
+sub-expected c = search needs
+
+cast-expected : tie.Need-cast-expected
+cast-expected c = search needs
+
+expected-requires : tie.Need-expected-requires
+expected-requires c κs = search needs
+
+expected-kwh-requires : tie.Need-expected-kwh-requires
+expected-kwh-requires c κs = search needs
+
+delivered-requires : tie.Need-delivered-requires
+delivered-requires c κs = search needs
+
+delivered-kwh-requires : tie.Need-delivered-kwh-requires
+delivered-kwh-requires c κs = search needs
+
+capped-kwh-requires : tie.Need-capped-kwh-requires
+capped-kwh-requires c κs = search needs
+
+rate-of-requires : tie.Need-rate-of-requires
+rate-of-requires c κs = c .before .before .before .before .before .before .before .before .before .pre .1 .1 .1 .1
+
+price-of-requires : tie.Need-price-of-requires
+price-of-requires c κs = let p = c .before .before .before .before .before .before .before .before .before .before .pre .1 .1 .0 in (p .1, p .2)
+
+payment-pence-requires : tie.Need-payment-pence-requires
+payment-pence-requires c κs = search needs
+
+add-t17 : tie.Need-add-t17
+add-t17 c = omega (arith, c .before .before .before .before .before .before .before .before .before .before .before .before .pre .1 .1 .1)
+
+cast-t16 : tie.Need-cast-t16
+cast-t16 c = omega (arith, c .before .before .before .before .before .before .before .before .before .before .before .before .pre .1 .1 .1)
+
+add-t21 : tie.Need-add-t21
+add-t21 c = omega (arith, c .before .before .before .before .before .before .before .before .before .before .before .before .pre .1 .1 .1)
+
+cast-t18 : tie.Need-cast-t18
+cast-t18 c = omega (arith, c .before .before .before .before .before .before .before .before .before .before .before .before .pre .1 .1 .1)
+
+stage-of-requires : tie.Need-stage-of-requires
+stage-of-requires c κs = search needs
+
+returns : tie.Need-returns
+returns c =
+    let a = c .before .before .before .before .before .before .before .before .before .before .before .before .before .args in
+    let x = c .before .before .before .before .before .before .before .before .expected-kwh in
+    let d = c .before .before .before .before .before .delivered-kwh in
+    let l = c .before .before .before .before .capped-kwh in
+    let p = c .before .payment-pence in
+    let q = c .before .before .before .before .before .before .delivered in
+    let fq : SFits w32 (q .result) = record { sfits = q .ok } in
+    let fb : SFits w32 (a .c .base) = fits-parts w32 (a .c .base) (omega (arith, c .before .before .before .before .before .before .before .before .before .before .before .before .before .pre .1 .0)) in (
+      line-made (a .t) (a .c) (a .live .now) (a .meter .now) (a .at) (a .from) (a .to) (c .stage-of .result) (c .before .before .before .rate-of .result) (x .result .0) (d .result .0) (l .result .0) (p .result .0)
+          (c .stage-of .ensures) (c .before .before .before .rate-of .ensures) (x .ensures .0 ∙ ap (λ z. kwh (pos z)) (c .before .before .before .before .before .before .before .before .before .expected .ensures .0))
+          (simp toZ-ofZ at (d .ensures .0) ∙ ap kwh (q .ensures .0 ∙ ap (λ z. deliveredIn (a .t .kind) z (a .meter .now) (a .from) (a .to)) (toZ-ofZ fb)))
+          (l .ensures .0) (p .ensures .0 ∙ ap (payment (l .result .0)) (c .before .before .price-of .ensures .0)),
+      l .ensures .1,
+      p .ensures .1,
+    )
+
+pub line-of-spec : {M : Type 1} → statement M
+line-of-spec =
+    tie.close
+    (tie.spec
+    sub-expected
+    cast-expected
+    expected-requires
+    expected-kwh-requires
+    delivered-requires
+    delivered-kwh-requires
+    capped-kwh-requires
+    rate-of-requires
+    price-of-requires
+    payment-pence-requires
+    add-t17
+    cast-t16
+    add-t21
+    cast-t18
+    stage-of-requires
+    returns)
