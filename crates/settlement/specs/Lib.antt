@@ -1,4 +1,5 @@
 pub mod Settle
+pub mod Numbers
 pub mod Terms
 pub mod Survey
 pub mod Live

@@ -6,6 +6,7 @@ use rules::statement::Statement;
 mod cursor;
 pub mod listed;
 mod live;
+pub mod numbers;
 mod paid;
 mod prepare;
 pub mod settle;
