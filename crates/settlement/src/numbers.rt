@@ -44,16 +44,24 @@ fn put(numbers: &mut [i64], at: usize, l: Line)
     requires { ⌜ at + 8 ≤ length (now numbers) ⌝ }
     ensures { λ _. ⌜ now (numbers .exit) ≡ take at (now (numbers .entry)) ++ numbersOf l ++ drop (at + 8) (now (numbers .entry)) ⌝ }
 {
-    let stage = stage_number(l.stage);
-    let rate = rate_number(l.rate);
-    numbers[at] = l.instruction as i64;
-    numbers[at + 1] = l.period as i64;
+    let s = l.stage;
+    let r = l.rate;
+    let instruction = l.instruction as i64;
+    let period = l.period as i64;
+    let stage = stage_number(s);
+    let rate = rate_number(r);
+    let expected = l.expected.0;
+    let delivered = l.delivered.0;
+    let capped = l.capped.0;
+    let pence = l.pence.0;
+    numbers[at] = instruction;
+    numbers[at + 1] = period;
     numbers[at + 2] = stage;
     numbers[at + 3] = rate;
-    numbers[at + 4] = l.expected.0;
-    numbers[at + 5] = l.delivered.0;
-    numbers[at + 6] = l.capped.0;
-    numbers[at + 7] = l.pence.0;
+    numbers[at + 4] = expected;
+    numbers[at + 5] = delivered;
+    numbers[at + 6] = capped;
+    numbers[at + 7] = pence;
 }
 
 // The numbers of n lines, one line after the other, into the first of those lent; and the cursor after the lines, with their sums.
