@@ -7,7 +7,7 @@ use Prim.Native.Nat.{ℕ, _+_, _*_, _/_, _≤_}
 use native.Mathlib.Numerals.{add-one, add-two, add-three, add-four, add-five, add-six, add-seven}
 use native.Mathlib.Omega.{arith}
 use lib.IntN.{ℤ, pos}
-use lib.ListN.{length, take, drop, set, replicate, length-replicate}
+use lib.ListN.{length, take, drop, set, replicate, length-append, length-drop, length-replicate}
 use lib.Seq.{sets-eq, take-at, drop-at, drop-drop}
 use Rattle.energy.specs.Lists.{concatMap, run, between}
 use Rattle.rules.specs.Ledger.{Ledger}
@@ -48,6 +48,10 @@ module _ (f : ℕ → Line) where
 
   length-numbers : (n : ℕ) → length (numbersTo n) ≡ 8 * n
   length-numbers n = long (map f (between 0 n)) ∙ ap (λ m. 8 * m) (length-first f n)
+
+  -- the numbers of the lines take the place of as many
+  pub same-size : (n : ℕ) (ys zs : List ℤ) → 8 * n ≤ length ys → zs ≡ numbersTo n ++ drop (8 * n) ys → length zs ≡ length ys
+  same-size n ys zs h e = ap length e ∙ length-append (numbersTo n) (drop (8 * n) ys) ∙ omega (arith, length-numbers n, length-drop (8 * n) ys)
 
   -- the numbers of one line more
   pub put-next : (n : ℕ) (ys zs : List ℤ) → zs ≡ numbersTo n ++ drop (8 * n) ys → take (8 * n) zs ++ numbersOf (f n) ++ drop (8 * n + 8) zs ≡ numbersTo (n + 1) ++ drop (8 * (n + 1)) ys
