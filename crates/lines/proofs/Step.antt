@@ -1,15 +1,17 @@
 -- The parts of a call, a line, a step and a survey put together, and what follows for the segment at the cursor.
 use mathlib.Core.Path.{_≡_, refl, sym, _∙_, ap, ap₂, subst}
 use mathlib.Core.Bool.{Bool, true, false, _&&_}
-use mathlib.Core.List.{List}
+use mathlib.Core.List.{List, [], _∷_, _++_, map, append-assoc}
 use Prim.Native.Nat.{ℕ, zero, suc, _+_, _-_, _*_, _/_, _≤_, _<_}
+use native.Mathlib.Numerals.{add-one}
 use native.Mathlib.Omega.{arith}
 use lib.Dec.{ltb}
 use lib.IntN.{ℤ, pos}
-use lib.ListN.{length, length-set}
+use lib.ListN.{length, getD, drop, set, length-set}
+use lib.Seq.{drop-cons, set-at}
 use borrow.Author.Tests.{lt-ltb, le-ltb}
 use Rattle.energy.specs.Energy.{cell, Readable, kwh, capped, payment, expectedIn, deliveredIn}
-use Rattle.energy.specs.Lists.{all, sum, between}
+use Rattle.energy.specs.Lists.{all, sum, between, run}
 use Rattle.energy.specs.Number.{Within}
 use Rattle.energy.proofs.Sums.{sum-within}
 use Rattle.rules.specs.Segment.{periodOf}
@@ -26,6 +28,7 @@ use Rattle.lines.specs.Terms.{issueOf, ceaseOf}
 use Rattle.lines.specs.declared.survey.Survey.{Survey}
 use Rattle.lines.specs.Survey.{has, surveyOf}
 use Rattle.lines.specs.Cursor.{lit, callOf, rateBy, priceBy, steadyAt, lineBy, enterOf, moved, cutBy, stepOf, stored, Plan, Ready}
+use Rattle.lines.proofs.Folds.{length-first, first-snoc}
 
 -- an instruction from its two times and its base load
 pub call-made : (t : Terms) (times live : List ℕ) (meter : List ℤ) (j i c : ℕ) (b : ℤ)
@@ -63,6 +66,15 @@ module _ (t : Terms) (times live : List ℕ) (meter : List ℤ) (c : Cursor) (to
 pub length-stored : (f : ℕ → Line) (n : ℕ) (ys : List Line) → length (stored f n ys) ≡ length ys
 length-stored f zero ys = refl
 length-stored f (suc n) ys = length-set (stored f n ys) n (f n) ∙ length-stored f n ys
+
+-- the first n lines stand before the records that are as they were
+pub stored-first : (f : ℕ → Line) (n : ℕ) (ys : List Line) → n ≤ length ys → stored f n ys ≡ map f (between 0 n) ++ drop n ys
+unfolding between run
+stored-first f zero ys h = refl
+stored-first f (suc n) ys h =
+    ap (λ z. set z n (f n)) (stored-first f n ys (omega arith) ∙ ap (λ z. map f (between 0 n) ++ z) (drop-cons ys n (f n) h))
+    ∙ set-at (map f (between 0 n)) (getD ys n (f n)) (drop (suc n) ys) (f n) n (length-first f n)
+    ∙ sym (ap (λ m. map f (between 0 m) ++ drop (suc n) ys) (sym (add-one n)) ∙ ap (λ z. z ++ drop (suc n) ys) (first-snoc f n) ∙ append-assoc (map f (between 0 n)) (f n ∷ []) (drop (suc n) ys))
 
 -- ---- the segment at the cursor
 pub record Next (t : Terms) (times live : List ℕ) (meter : List ℤ) (c : Cursor) : Type 0 where

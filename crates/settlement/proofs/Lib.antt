@@ -9,5 +9,6 @@ pub mod Sound
 pub mod Ground
 pub mod Refused
 pub mod Stated
+pub mod Numbered
 pub mod Walk
 pub mod Whole

@@ -20,7 +20,7 @@ use Rattle.book.specs.Book.{noInstruction, noWindow}
 use Rattle.lines.specs.Terms.{ceaseOf}
 use Rattle.availability.specs.Live.{excludesAt, excludedTo, isLive, covers, numberTo, Lit}
 use Rattle.lines.specs.Cursor.{lit}
-use Rattle.availability.proofs.Folds.{any-all, any-and}
+use Rattle.lines.proofs.Folds.{any-all, any-and}
 use Rattle.settlement.proofs.Tied.{instructionAt}
 
 -- ---- the number at a place

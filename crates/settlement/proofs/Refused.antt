@@ -114,6 +114,7 @@ refused b meter room n e =
             order = λ j h. absurd (omega arith);
           };
       few = omega arith;
+      count = refl;
       ready = λ k h. absurd (omega arith);
       sums = (subst (λ (z : Cursor). Within 100000000000000 (z .pence)) (sym c) (omega arith), omega arith);
       settles = λ memory l.

@@ -2,17 +2,17 @@
 use mathlib.Core.Path.{_≡_, refl, sym, _∙_, ap, ap₂, subst}
 use mathlib.Core.Logic.{_⊎_, inl, inr}
 use mathlib.Core.Bool.{Bool, true, false, cond}
-use mathlib.Core.List.{List, [], _∷_, _++_, map, append-assoc}
+use mathlib.Core.List.{List, [], _∷_, _++_, map}
 use Prim.Native.Nat.{ℕ, zero, suc, _+_, _-_, _*_, _≤_, _<_, zero-le}
 use native.Mathlib.Nat.{le-refl}
 use native.Mathlib.Numerals.{add-one}
 use native.Mathlib.Omega.{arith}
 use lib.Dec.{ltb}
 use lib.IntN.{ℤ, pos, _+ℤ_, +ℤ-idr}
-use lib.ListN.{length, getD, take, drop, set, drop-of-length-le, length-drop, length-map}
-use lib.Seq.{drop-cons, take-suc, take-length, length-take-le, set-at}
+use lib.ListN.{length, getD, take, drop, drop-of-length-le, length-drop, length-map}
+use lib.Seq.{drop-cons, take-suc, take-length}
 use borrow.Author.Tests.{ltb-true, ltb-false, lt-ltb, le-ltb}
-use Rattle.energy.specs.Lists.{sum}
+use Rattle.energy.specs.Lists.{sum, run, between}
 use Rattle.energy.specs.Number.{Within}
 use Rattle.energy.proofs.Integers.{add-parts}
 use Rattle.energy.proofs.Sums.{sum-append}
@@ -28,7 +28,8 @@ use Rattle.lines.specs.declared.terms.Terms.{Terms}
 use Rattle.lines.specs.declared.cursor.Cursor.{Cursor}
 use Rattle.lines.specs.Terms.{issueOf}
 use Rattle.lines.specs.Cursor.{callOf, lineBy, startOf, cursorAt, steppedLine, stored, enterOf, moved, cutBy, stepOf, either, Ready}
-use Rattle.lines.proofs.Step.{Next, next}
+use Rattle.lines.proofs.Step.{Next, next, stored-first}
+use Rattle.lines.proofs.Folds.{first-snoc}
 use Rattle.settlement.proofs.Bounds.{Bounded, bounded}
 use Rattle.settlement.proofs.Tied.{Tied, instructionAt, end-is, cut-is, line-tied}
 
@@ -248,14 +249,14 @@ module _ (g : Ledger) (t : Terms) (times live : List ℕ) (meter : List ℤ) (T 
   unfolding lines
   pence-at = sum-at (λ (l : Line). l .pence .0) (λ c. c .pence) (entered-sums startOf .1) (λ n h. step-at n h .pence) (length ss) (le-refl (length ss)) ∙ ap (sum (λ (l : Line). l .pence .0)) (whole-lines g)
 
-  -- what the line memory holds
-  stored-go : (ys : List Line) (n : ℕ) → n ≤ length ss → n ≤ length ys → stored (steppedLine t times live meter) n ys ≡ take n (lines g) ++ drop n ys
-  stored-go ys zero h k = refl
-  stored-go ys (suc n) h k =
-      let len : length (take n (lines g)) ≡ n = length-take-le n (lines g) (omega (arith, lines-length g)) in
-      ap (λ z. set z n (steppedLine t times live meter n)) (stored-go ys n (omega arith) (omega arith) ∙ ap (λ z. take n (lines g) ++ z) (drop-cons ys n (lineOf g nowhere) k))
-      ∙ set-at (take n (lines g)) (getD ys n (lineOf g nowhere)) (drop (suc n) ys) (steppedLine t times live meter n) n len
-      ∙ sym (ap (λ z. z ++ drop (suc n) ys) (take-lines n h) ∙ append-assoc (take n (lines g)) (steppedLine t times live meter n ∷ []) (drop (suc n) ys))
+  -- the lines that are stepped through are the statement's, and so is what the line memory holds
+  lines-to : (n : ℕ) → n ≤ length ss → map (steppedLine t times live meter) (between 0 n) ≡ take n (lines g)
+  unfolding between run
+  lines-to zero h = refl
+  lines-to (suc n) h =
+      ap (λ m. map (steppedLine t times live meter) (between 0 m)) (sym (add-one n)) ∙ first-snoc (steppedLine t times live meter) n
+      ∙ ap (λ z. z ++ (steppedLine t times live meter n ∷ [])) (lines-to n (omega arith)) ∙ sym (take-lines n h)
 
   pub stored-lines : (ys : List Line) → length ss ≤ length ys → stored (steppedLine t times live meter) (length ss) ys ≡ lines g ++ drop (length ss) ys
-  stored-lines ys h = stored-go ys (length ss) (le-refl (length ss)) h ∙ ap (λ z. z ++ drop (length ss) ys) (whole-lines g)
+  stored-lines ys h =
+      stored-first (steppedLine t times live meter) (length ss) ys h ∙ ap (λ z. z ++ drop (length ss) ys) (lines-to (length ss) (le-refl (length ss)) ∙ whole-lines g)

@@ -139,6 +139,7 @@ module _ (b : Book) (times : List ℕ) (meter : List ℤ) (G : Grounds b times m
       record {
         plan = rw (O .terms, O .times) (T .plan);
         few = rw (O .lines) few;
+        count = ap (λ (s : Settlement). s .statement .lines) (O .settlement) ∙ sym (O .lines);
         ready = λ k h. rw (O .terms, O .times) (ready-at ledger t times (p .live) meter T k (omega (arith, O .lines, N)));
         sums = (subst (λ (c : Cursor). Within 100000000000000 (c .pence)) (sym last-is) (sum-within ledger t times (p .live) meter T (length (segments ledger)) (omega arith)), O .small);
         settles = λ memory l.

@@ -20,6 +20,7 @@ use Rattle.book.specs.Book.{noInstruction}
 use Rattle.lines.specs.declared.terms.Terms.{Terms}
 use Rattle.lines.specs.Terms.{issueOf, ceaseOf}
 use Rattle.lines.specs.Survey.{Laid, has, surveyOf, surveyTo}
+use Rattle.lines.proofs.Folds.{concatMap-snoc}
 use Rattle.settlement.proofs.Tied.{instructionAt}
 
 -- the table of instructions is a ledger's, and so are the cells
@@ -33,20 +34,6 @@ pub record Surveyed (g : Ledger) (t : Terms) (times : List ℕ) (meter : List �
   pub cease : (j : ℕ) → j < t .calls → ceaseOf times j ≡ instructionAt g j .cease .0
   pub spanned : (j : ℕ) → j < t .calls → ceaseOf times j + t .fall ≤ spanOf (contractOf g)
   pub reading : (m : ℕ) → m < spanOf (contractOf g) → isSome (g .reading m) ≡ has meter m
-
-module _ {A B : Type 0} where
-  concatMap-snoc : (f : A → List B) (xs : List A) (x : A) → concatMap f (xs ++ (x ∷ [])) ≡ concatMap f xs ++ f x
-  unfolding concatMap
-  concatMap-snoc f [] x = end-nil (f x)
-    where
-      end-nil : (ys : List B) → ys ++ [] ≡ ys
-      end-nil [] = refl
-      end-nil (y ∷ ys) = ap (λ l. y ∷ l) (end-nil ys)
-  concatMap-snoc f (y ∷ xs) x = ap (λ l. f y ++ l) (concatMap-snoc f xs x) ∙ sym (assoc (f y) (concatMap f xs) (f x))
-    where
-      assoc : (a b c : List B) → (a ++ b) ++ c ≡ a ++ (b ++ c)
-      assoc [] b c = refl
-      assoc (z ∷ a) b c = ap (λ l. z ∷ l) (assoc a b c)
 
 from-snoc : (k : Contract) (n : ℕ) (xs : List Instruction) (x : Instruction) → length (segmentsFrom k n (xs ++ (x ∷ []))) ≡ length (segmentsFrom k n xs) + length (segmentsOf k (n + length xs) x)
 unfolding segmentsFrom

@@ -1,2 +1,3 @@
 pub mod Settle
+pub mod Numbers
 pub mod Prepared

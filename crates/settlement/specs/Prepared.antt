@@ -94,6 +94,7 @@ settledWith p meter memory =
 pub record Prepares (b : Book) (meter : List ℤ) (room : ℕ) (p : Prepared) : Type 0 where
   pub plan : Plan (p .terms) (p .times) (p .live) meter
   pub few : p .lines ≤ room
+  pub count : p .settlement .statement .lines ≡ p .lines
   pub ready : (k : ℕ) → k < p .lines → Ready (p .terms) (p .times) (p .live) meter (cursorAt (p .terms) (p .times) (p .live) meter k)
   pub sums : Within 100000000000000 (lastCursor p meter .pence) × Within 100000000000000 (p .settlement .statement .availability .0)
   pub settles : (memory : List Line) → length memory ≡ room → settledWith p meter memory ≡ settleBook b meter memory

@@ -4,6 +4,7 @@ use rules::statement::Line;
 use rules::statement::Statement;
 
 pub mod listed;
+pub mod numbers;
 mod prepare;
 pub mod settle;
 

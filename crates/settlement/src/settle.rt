@@ -42,7 +42,7 @@ fn fill<'a, 'b, 'c>(
 }
 
 // The answer with the sums of the lines.
-fn sum_up(s: Settlement, c: Cursor) -> Settlement
+pub(crate) fn sum_up(s: Settlement, c: Cursor) -> Settlement
     requires { ⌜ Within 100000000000000 (c .pence) × Within 100000000000000 (s .statement .availability .0) ⌝ }
     ensures { λ r. ⌜ r ≡ summed s c ⌝ }
 {

@@ -19,7 +19,7 @@ use Rattle.lines.specs.declared.terms.Terms.{Terms}
 use Rattle.lines.specs.Terms.{Timed, termsOf}
 use Rattle.lines.specs.Survey.{Laid, surveyTo}
 use Rattle.settlement.specs.Prepared.{Prepares, refusalOf, LaidOut}
-use Rattle.availability.proofs.Folds.{length-mapped}
+use Rattle.lines.proofs.Folds.{length-mapped}
 use Rattle.settlement.proofs.Sound.{SoundBook, sound-book, closed-agreed}
 use Rattle.settlement.proofs.Surveyed.{Surveyed, survey-complete, survey-count}
 use Rattle.settlement.proofs.Ground.{Grounds, surveyed}

@@ -16,7 +16,7 @@ use Rattle.lines.specs.declared.terms.Terms.{Terms}
 use Rattle.lines.specs.Terms.{termsOf}
 use Rattle.availability.specs.Live.{isLive, Lit}
 use Rattle.settlement.specs.Prepared.{unsummed}
-use Rattle.availability.proofs.Folds.{length-mapped}
+use Rattle.lines.proofs.Folds.{length-mapped}
 use Rattle.settlement.proofs.Sound.{sound-book}
 use Rattle.availability.proofs.Struck.{dark-zeros}
 use Rattle.settlement.proofs.Ground.{Grounds, cleared, windows-fit, spans, placed}

@@ -1,14 +1,14 @@
 -- A test, a number or a list that grows with the first n elements is the whole list's at its length.
 use mathlib.Core.Path.{_≡_, refl, sym, _∙_, ap, ap₂}
 use mathlib.Core.Bool.{Bool, true, false, cond, _&&_, _||_}
-use mathlib.Core.List.{List, [], _∷_, _++_, map}
-use Prim.Native.Nat.{ℕ, zero, suc, _+_, _-_, _≤_, _<_}
+use mathlib.Core.List.{List, [], _∷_, _++_, map, append-assoc, append-nil}
+use Prim.Native.Nat.{ℕ, zero, suc, _+_, _-_, _≤_, _<_, zero-le}
 use native.Mathlib.Nat.{le-refl}
 use native.Mathlib.Omega.{arith}
 use lib.IntN.{ℤ, _+ℤ_, +ℤ-idr}
 use lib.ListN.{length, getD, take, length-map}
 use lib.Seq.{take-suc, take-length}
-use Rattle.energy.specs.Lists.{any, count, filter, sum, run, between}
+use Rattle.energy.specs.Lists.{any, concatMap, count, filter, sum, run, between}
 use Rattle.energy.proofs.Sums.{between-snoc, sum-append}
 
 module _ {A : Type 0} where
@@ -74,6 +74,11 @@ module _ {A B : Type 0} where
   map-snoc f [] x = refl
   map-snoc f (y ∷ xs) x = ap (λ l. f y ∷ l) (map-snoc f xs x)
 
+  pub concatMap-snoc : (f : A → List B) (xs : List A) (x : A) → concatMap f (xs ++ (x ∷ [])) ≡ concatMap f xs ++ f x
+  unfolding concatMap
+  concatMap-snoc f [] x = append-nil (f x)
+  concatMap-snoc f (y ∷ xs) x = ap (λ l. f y ++ l) (concatMap-snoc f xs x) ∙ sym (append-assoc (f y) (concatMap f xs) (f x))
+
   -- an array that is held as a list of another type is as long
   pub length-mapped : (f : A → B) (l : List A) (n : ℕ) → length (map f l) ≡ n → length l ≡ n
   length-mapped f l n e = sym (length-map l f) ∙ e
@@ -110,3 +115,17 @@ run-all f a (suc n) h = rw (h a) (ap suc (run-all f (suc a) n h))
 pub count-all : (f : ℕ → Bool) (a b : ℕ) → ((m : ℕ) → f m ≡ true) → count f (between a b) ≡ b - a
 unfolding between
 count-all f a b h = run-all f a (b - a) h
+
+-- what f gives of the first n numbers
+length-run : (a n : ℕ) → length (run a n) ≡ n
+unfolding run
+length-run a zero = refl
+length-run a (suc n) = ap suc (length-run (suc a) n)
+
+module _ {A : Type 0} (f : ℕ → A) where
+  pub length-first : (n : ℕ) → length (map f (between 0 n)) ≡ n
+  unfolding between
+  length-first n = length-map (run 0 (n - 0)) f ∙ length-run 0 (n - 0) ∙ omega arith
+
+  pub first-snoc : (n : ℕ) → map f (between 0 (n + 1)) ≡ map f (between 0 n) ++ (f n ∷ [])
+  first-snoc n = ap (map f) (between-snoc 0 n zero-le) ∙ map-snoc f (between 0 n) n
