@@ -178,11 +178,11 @@ fn defaults_of(s: &[u16]) -> [Default; 128]
 }
 
 // The closed book of these tables.
-pub(crate) fn book_of<'a>(
-    contract: &'a [u32],
-    windows: &'a [u16],
-    instructions: &'a [u16],
-    defaults: &'a [u16],
+pub(crate) fn book_of(
+    contract: &[u32],
+    windows: &[u16],
+    instructions: &[u16],
+    defaults: &[u16],
 ) -> Book
     ensures { λ r. ⌜ r ≡ bookOf (now (contract .entry)) (now (windows .entry)) (now (instructions .entry)) (now (defaults .entry)) ⌝ }
 {
