@@ -8,6 +8,9 @@ ghost use Rattle.host.specs.Sums.{pairOf, sumsOf, totalsOf};
 use rules::statement::Available;
 use rules::statement::Statement;
 
+// How many numbers a statement's sums are.
+pub(crate) const SUMS: usize = 262;
+
 // The first six numbers.
 fn put_totals(sums: &mut [i64], s: Statement, windows: usize)
     requires { ⌜ (6 ≤ length (now sums)) × (s .lines < 2 ^ 63) × (windows < 2 ^ 63) ⌝ }

@@ -20,8 +20,6 @@ use Rattle.host.specs.Sums.{pairOf}
 use Rattle.host.proofs.Laid.{put-two, concat-suc, length-pairs}
 use Rattle.host.proofs.sums.put_entries.Statement.{statement}
 use Rattle.host.proofs.sums.put_entries.Tie as tie
-use Rattle.host.proofs.sums.put_entries.Reads as reads
-use Rattle.host.proofs.sums.put_entries.Lts as lts
 
 -- sums with the pairs of the first i windows
 abbrev Laid : List ℤ → List Available → ℕ → List ℤ
@@ -53,7 +51,6 @@ Inv-loop sums₀ entries i₀ sums i = (i ≤ 128) × (length sums ≡ length su
 abbrev μ-loop : tie.MeasureT-loop
 μ-loop sums₀ entries i₀ sums i = 128 - i
 
--- src/sums.rt:34:5
 -- the number of entries
 whole : (c : tie.Start Inv-loop μ-loop) → length (c .args .t2) ≡ 128
 whole c = search (length-mapped, needs)
@@ -64,59 +61,45 @@ loop-holds c =
     let s = c .args .sums .now in
     (omega arith, refl, sym (ap (λ z. z ++ drop 6 s) (append-nil (take 6 s)) ∙ take-append-drop 6 s))
 
--- src/sums.rt:35:17
 mul-a : tie.Need-mul-a Inv-loop μ-loop
 mul-a c = search needs
 
--- src/sums.rt:35:17
 array-copy-out-a : tie.Need-array-copy-out-a Inv-loop μ-loop
 array-copy-out-a c = search needs
 
--- src/sums.rt:37:27
 cast-sums : tie.Need-cast-sums Inv-loop μ-loop
 cast-sums c = search needs
 
--- src/sums.rt:37:14
 mul-t8 : tie.Need-mul-t8 Inv-loop μ-loop
 mul-t8 c = search needs
 
--- src/sums.rt:37:14
 add-t13 : tie.Need-add-t13 Inv-loop μ-loop
 add-t13 c = search needs
 
--- src/sums.rt:37:9
 mul-t14 : tie.Need-mul-t14 Inv-loop μ-loop
 mul-t14 c = search needs
 
--- src/sums.rt:37:9
 slice-set-from-sums : tie.Need-slice-set-from-sums Inv-loop μ-loop
 slice-set-from-sums c = omega arith
 
--- src/sums.rt:38:14
 mul-pence : tie.Need-mul-pence Inv-loop μ-loop
 mul-pence c = search needs
 
--- src/sums.rt:38:14
 add-pence : tie.Need-add-pence Inv-loop μ-loop
 add-pence c = search needs
 
--- src/sums.rt:38:9
 mul-pence-2 : tie.Need-mul-pence-2 Inv-loop μ-loop
 mul-pence-2 c = search needs
 
--- src/sums.rt:38:9
 slice-set-from-pence : tie.Need-slice-set-from-pence Inv-loop μ-loop
 slice-set-from-pence c = simp length-set (omega arith)
 
--- src/sums.rt:39:9
 add-i : tie.Need-add-i Inv-loop μ-loop
 add-i c = search needs
 
--- src/sums.rt:34:5
 loop-less : tie.Need-loop-less Inv-loop μ-loop
 loop-less c = search needs
 
--- src/sums.rt:34:5
 loop-again : tie.Need-loop-again Inv-loop μ-loop
 loop-again c =
     let at = c .before .before .before .before .before in
@@ -130,11 +113,9 @@ loop-again c =
           (toZ-pos w64 (a .periods) (omega (arith, t .0 .1))) (toZ-ofZ fit),
     )
 
--- src/sums.rt:29:1
 same-length : tie.Need-same-length Inv-loop μ-loop
 same-length c = c .before .loop .inv .1
 
--- src/sums.rt:29:1
 returns : tie.Need-returns Inv-loop μ-loop
 returns c =
     let at = c .before .before in
