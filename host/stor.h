@@ -11,7 +11,7 @@
  * - Nothing else writes lent memory, and nothing reads what a call may write, until the call returns. Calls on different memory may run at once.
  * - All memory stays the caller's. A call holds it only until it returns.
  * - Input elements hold values: meter memory, line memory and sum memory have been written once, if only with zeros.
- * - A call needs some 16 KiB of stack.
+ * - A call needs some 20 KiB of stack.
  */
 #ifndef STOR_H
 #define STOR_H

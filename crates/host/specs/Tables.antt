@@ -25,8 +25,8 @@ abbrev pub wordAt : List ℕ → ℕ → ℕ
 wordAt s i = min (numberAt s i) 65535
 
 -- the contract of eleven numbers
-unfoldable pub contractOf : List ℕ → Contract
-contractOf s =
+unfoldable pub contractIn : List ℕ → Contract
+contractIn s =
     record {
       days = byteAt s 0;
       kind = byteAt s 1;
@@ -60,7 +60,7 @@ bookOf contract windows instructions defaults =
     record {
       agreed = true;
       closed = true;
-      contract = contractOf contract;
+      contract = contractIn contract;
       windows = map (windowAt windows) (between 0 128);
       nwindows = length windows / 3;
       instructions = map (instructionAt instructions) (between 0 64);

@@ -4,7 +4,7 @@ ghost use mathlib.Core.List.{map};
 ghost use Prim.Native.Nat.{_+_, _<_, _≤_, min};
 ghost use lib.ListN.{getD};
 ghost use Rattle.energy.specs.Lists.{between};
-ghost use Rattle.host.specs.Tables.{bookOf, contractOf, defaultAt, instructionAt, windowAt};
+ghost use Rattle.host.specs.Tables.{bookOf, contractIn, defaultAt, instructionAt, windowAt};
 use book::Book;
 use energy::units::Kw;
 use energy::units::Minutes;
@@ -64,7 +64,7 @@ fn places(whole: usize, most: usize) -> usize
 }
 
 fn contract_of(s: &[u32]) -> Contract
-    ensures { λ r. ⌜ r ≡ contractOf (now (s .entry)) ⌝ }
+    ensures { λ r. ⌜ r ≡ contractIn (now (s .entry)) ⌝ }
 {
     let contracted = Kw(operand_at(s, 3) as i64);
     let response = Minutes(word_of(operand_at(s, 6)));

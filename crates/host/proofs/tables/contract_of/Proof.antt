@@ -2,7 +2,7 @@
 use mir.Syntax.{w64}
 use mir.ValLaws.{toZ-pos}
 use native.Mathlib.Omega.{arith}
-use Rattle.host.specs.Tables.{contractOf}
+use Rattle.host.specs.Tables.{contractIn}
 use borrow.Author.Needs.{needs}
 use Rattle.host.proofs.tables.contract_of.Statement.{statement}
 use Rattle.host.proofs.tables.contract_of.Tie as tie
@@ -59,7 +59,7 @@ operand-at-requires-11 : tie.Need-operand-at-requires-11
 operand-at-requires-11 c κs = search needs
 
 returns : tie.Need-returns
-unfolding contractOf
+unfolding contractIn
 returns c =
     let k = c .before .before .before .before .before .before .before .before .before .before .before .before .before .before .before .operand-at in
     cc (toZ-pos w64 (k .result) (omega (arith, k .ok)))
