@@ -13,7 +13,7 @@ use Rattle.book.specs.declared.Book.{Book}
 use Rattle.settlement.specs.Numbers.{Numbered, numberBook}
 use Rattle.stor.specs.Files.{LoadedFile, load}
 use Rattle.host.specs.Answers.{numberOf, packed}
-use Rattle.host.specs.Sums.{sumsOf}
+use Rattle.host.specs.Sums.{sumCount, sumsOf}
 use Rattle.host.specs.Tables.{bookOf}
 
 -- ---- a file entered
@@ -37,9 +37,9 @@ pub record SettledBook : Type 0 where
   pub lines : List ℤ
   pub sums : List ℤ
 
--- a statement for so many windows goes into the first 262 numbers; a refusal alters none
+-- a statement for so many windows goes into the first numbers; a refusal alters none
 abbrev pub sumsBy : Answer → Statement → ℕ → List ℤ → List ℤ
-sumsBy Taken s windows sums = sumsOf s windows ++ drop 262 sums
+sumsBy Taken s windows sums = sumsOf s windows ++ drop sumCount sums
 sumsBy (Refused n) s windows sums = sums
 
 -- settling a book into numbers
@@ -55,7 +55,7 @@ settleInto b meter lines sums =
 -- the book that tables say, settled. Sums too short for a statement get 26 before all else
 unfoldable pub settleTables : List ℕ → List ℕ → List ℕ → List ℕ → List ℤ → List ℤ → List ℤ → SettledBook
 settleTables contract windows instructions defaults meter lines sums =
-    cond (ltb (length sums) 262) (record { number = 26; lines = lines; sums = sums })
+    cond (ltb (length sums) sumCount) (record { number = 26; lines = lines; sums = sums })
     (settleInto (bookOf contract windows instructions defaults) meter lines sums)
 
 -- ---- a file entered and settled
@@ -78,5 +78,5 @@ settlesBy (Refused n) l lines sums =
 -- a whole file, entered and settled. Sums too short for a statement get 26 before the file is read
 unfoldable pub settleFile : List ℕ → List ℤ → List ℤ → List ℤ → SettledFile
 settleFile file meter lines sums =
-    cond (ltb (length sums) 262) (record { answer = packed 26 0; meter = meter; lines = lines; sums = sums })
+    cond (ltb (length sums) sumCount) (record { answer = packed 26 0; meter = meter; lines = lines; sums = sums })
     (let l : LoadedFile = load file emptyBook meter in settlesBy (l .loaded .answer) l lines sums)

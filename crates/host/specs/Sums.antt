@@ -6,6 +6,10 @@ use Rattle.energy.specs.Lists.{concatMap}
 use Rattle.rules.specs.declared.statement.Available.{Available}
 use Rattle.rules.specs.declared.statement.Statement.{Statement}
 
+-- how many numbers a statement is
+abbrev pub sumCount : ℕ
+sumCount = 262
+
 -- lines, windows entered, capped kWh, utilisation pence, availability pence, all pence
 abbrev pub totalsOf : Statement → ℕ → List ℤ
 totalsOf s windows =

@@ -4,7 +4,7 @@ ghost use mathlib.Core.List.{_++_};
 ghost use Prim.Native.Nat.{_≤_, _<_, _^_};
 ghost use lib.ListN.{length, take, drop};
 ghost use Rattle.energy.specs.Lists.{concatMap};
-ghost use Rattle.host.specs.Sums.{pairOf, sumsOf, totalsOf};
+ghost use Rattle.host.specs.Sums.{pairOf, sumCount, sumsOf, totalsOf};
 use rules::statement::Available;
 use rules::statement::Statement;
 
@@ -30,8 +30,8 @@ fn put_totals(sums: &mut [i64], s: Statement, windows: usize)
 
 // Two numbers for each window's place, after these.
 fn put_entries(sums: &mut [i64], entries: [Available; 128])
-    requires { ⌜ 262 ≤ length (now sums) ⌝ }
-    ensures { λ _. ⌜ now (sums .exit) ≡ take 6 (now (sums .entry)) ++ concatMap pairOf entries ++ drop 262 (now (sums .entry)) ⌝ }
+    requires { ⌜ sumCount ≤ length (now sums) ⌝ }
+    ensures { λ _. ⌜ now (sums .exit) ≡ take 6 (now (sums .entry)) ++ concatMap pairOf entries ++ drop sumCount (now (sums .entry)) ⌝ }
 {
     let mut i = 0;
     while i < 128 {
@@ -45,8 +45,8 @@ fn put_entries(sums: &mut [i64], entries: [Available; 128])
 
 // All 262, for a statement of so many windows.
 pub(crate) fn put_sums(sums: &mut [i64], s: Statement, windows: usize)
-    requires { ⌜ (262 ≤ length (now sums)) × (s .lines < 2 ^ 63) × (windows < 2 ^ 63) ⌝ }
-    ensures { λ _. ⌜ now (sums .exit) ≡ sumsOf s windows ++ drop 262 (now (sums .entry)) ⌝ }
+    requires { ⌜ (sumCount ≤ length (now sums)) × (s .lines < 2 ^ 63) × (windows < 2 ^ 63) ⌝ }
+    ensures { λ _. ⌜ now (sums .exit) ≡ sumsOf s windows ++ drop sumCount (now (sums .entry)) ⌝ }
 {
     put_totals(sums, s, windows);
     let entries = s.windows;
