@@ -1,0 +1,13 @@
+use borrow.Author.Needs.{needs}
+use borrow.Author.Needs.{needs}
+use Rattle.settlement_statements.proofs.cells.lent.Statement.{statement}
+use Rattle.settlement_statements.proofs.cells.lent.Tie as tie
+
+at-most-requires : tie.Need-at-most-requires
+at-most-requires c κs = search needs
+
+returns : tie.Need-returns
+returns c = search needs
+
+pub lent-spec : {M : Type 1} → statement M
+lent-spec = tie.close (tie.spec at-most-requires returns)
