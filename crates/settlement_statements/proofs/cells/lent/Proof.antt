@@ -1,4 +1,5 @@
-use borrow.Author.Needs.{needs}
+use mathlib.Core.Path.{sym}
+use lib.Seq.{length-take-le}
 use borrow.Author.Needs.{needs}
 use Rattle.settlement_statements.proofs.cells.lent.Statement.{statement}
 use Rattle.settlement_statements.proofs.cells.lent.Tie as tie
@@ -7,7 +8,7 @@ at-most-requires : tie.Need-at-most-requires
 at-most-requires c κs = search needs
 
 returns : tie.Need-returns
-returns c = search needs
+returns c = (c .at-most .ensures, sym (length-take-le (c .at-most .result) (c .before .args .meter .now) (c .at-most .ensures)))
 
 pub lent-spec : {M : Type 1} → statement M
 lent-spec = tie.close (tie.spec at-most-requires returns)
