@@ -7,7 +7,8 @@
 //   N records           lends so many records from here on, each of which holds a mark
 //   P from to step kW   others write a cell, and each so many minutes on
 //   B field n           sets a field of the book by hand, as w, i and d do with an entry of a table (its place, then its fields)
-//   S step              settles into the records lent; prints the first line and each so many on, the windows and the totals
+//   S step              settles into the records lent; prints the first line and each so many on, the windows and the totals;
+//                       of step 0 only the totals
 //   F step              the same by `listed`, which has 719 blank records
 // After a settlement a row K says how many records there were, how many lines, and how many records hold what they held before.
 // A line that starts with # is printed as it stands. An empty line is printed too.

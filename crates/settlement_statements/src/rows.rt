@@ -124,6 +124,11 @@ fn kept(lines: [Line; 1679], n: usize, before: Line) -> u64 {
     count
 }
 
+// How many windows are printed: none where only the totals are.
+fn printed(nwindows: usize, step: u16) -> usize {
+    if step == 0 { 0 } else { nwindows }
+}
+
 // The rows of a statement, or of a refusal.
 fn statement(m: Month, nwindows: usize, step: u16) {
     let s = m.settlement;
@@ -134,7 +139,7 @@ fn statement(m: Month, nwindows: usize, step: u16) {
     match a {
         Answer::Taken => {
             line_rows(lines, t.lines, step);
-            window_rows(windows, nwindows);
+            window_rows(windows, printed(nwindows, step));
             row(totals_row(t));
         }
         Answer::Refused(n) => {
