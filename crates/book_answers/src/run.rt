@@ -9,6 +9,7 @@ use script::cells::at_most;
 use script::cells::fill;
 use script::cells::get;
 use script::cells::kw_of;
+use script::cells::lent;
 use script::cells::put;
 use script::change::with_default;
 use script::change::with_field;
@@ -46,7 +47,7 @@ fn entered(b: Book, letter: u8, line: &[u8], meter: &mut [i32]) -> Entry {
 
 fn enter(r: Run, letter: u8, line: &[u8], meter: &mut [i32]) -> Run {
     let mut next = r;
-    let n = at_most(r.cells, meter.len());
+    let n = lent(meter, r.cells);
     let b = r.book;
     let e = entered(b, letter, line, &mut meter[..n]);
     if !r.quiet {

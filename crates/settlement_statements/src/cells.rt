@@ -1,16 +1,6 @@
-// Cells of meter memory: how many are lent, and those that others write.
-ghost use mathlib.Core.Path.{_≡_};
+// Cells of meter memory that others write.
 ghost use Prim.Native.Nat.{_≤_};
-ghost use lib.ListN.{length, take};
 use script::cells::at_most;
-
-// How many cells are lent: no more than there are. The second part follows from the first; both are stated, so that a function that
-// lends these cells needs no proof.
-pub fn lent(meter: &[i32], cells: usize) -> usize
-    ensures { λ r. ⌜ (r ≤ length (now (meter .entry))) × (r ≡ length (take r (now (meter .entry)))) ⌝ }
-{
-    at_most(cells, meter.len())
-}
 
 // A step from 1.
 fn stride(step: u16) -> usize

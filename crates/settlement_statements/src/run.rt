@@ -1,5 +1,4 @@
 // The run of a script.
-use crate::cells::lent;
 use crate::cells::put_each;
 use crate::month::mark;
 use crate::month::settle_into;
@@ -14,6 +13,7 @@ use rules::entries::Command;
 use script::cells::at_most;
 use script::cells::fill;
 use script::cells::kw_of;
+use script::cells::lent;
 use script::change::with_default;
 use script::change::with_field;
 use script::change::with_instruction;

@@ -1,8 +1,8 @@
 use mathlib.Core.Path.{sym}
 use lib.Seq.{length-take-le}
 use borrow.Author.Needs.{needs}
-use Rattle.settlement_statements.proofs.cells.lent.Statement.{statement}
-use Rattle.settlement_statements.proofs.cells.lent.Tie as tie
+use Rattle.script.proofs.cells.lent.Statement.{statement}
+use Rattle.script.proofs.cells.lent.Tie as tie
 
 at-most-requires : tie.Need-at-most-requires
 at-most-requires c κs = search needs
