@@ -5,8 +5,8 @@ use mir.Syntax.{w32, w64}
 use mir.Val.{SFits}
 use mir.Facts.{toZ-ofZ}
 use Rattle.energy.proofs.Integers.{fits-parts, ltZ-false}
-use Rattle.book_answers.proofs.cells.kw_of.Statement.{statement}
-use Rattle.book_answers.proofs.cells.kw_of.Tie as tie
+use Rattle.script.proofs.cells.kw_of.Statement.{statement}
+use Rattle.script.proofs.cells.kw_of.Tie as tie
 
 returns : tie.Need-returns
 returns c = search needs

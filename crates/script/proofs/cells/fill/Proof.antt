@@ -2,8 +2,8 @@ use Prim.Native.Nat.{_≤_, _-_}
 use mathlib.Core.Path.{_≡_}
 use lib.ListN.{length}
 use borrow.Author.Needs.{needs}
-use Rattle.book_answers.proofs.cells.fill.Statement.{statement}
-use Rattle.book_answers.proofs.cells.fill.Tie as tie
+use Rattle.script.proofs.cells.fill.Statement.{statement}
+use Rattle.script.proofs.cells.fill.Tie as tie
 
 abbrev Inv-loop : tie.InvT-loop
 Inv-loop meter₀ kw i₀ meter i = (i ≤ length meter₀) × (length meter ≡ length meter₀)

@@ -1,14 +1,14 @@
 use Prim.Native.Nat.{_≤_, _-_}
 use lib.ListN.{length}
 use borrow.Author.Needs.{needs}
-use Rattle.book_answers.proofs.text.minus.Statement.{statement}
-use Rattle.book_answers.proofs.text.minus.Tie as tie
+use Rattle.script.proofs.text.digits.Statement.{statement}
+use Rattle.script.proofs.text.digits.Tie as tie
 
 abbrev Inv-loop : tie.InvT-loop
-Inv-loop line spaces left₀ at₀ left at = at ≤ length line
+Inv-loop line spaces n₀ left₀ at₀ n left at = at ≤ length line
 
 abbrev μ-loop : tie.MeasureT-loop
-μ-loop line spaces left₀ at₀ left at = length line - at
+μ-loop line spaces n₀ left₀ at₀ n left at = length line - at
 
 loop-holds : tie.Need-loop-holds Inv-loop μ-loop
 loop-holds c = search needs
@@ -22,8 +22,8 @@ returns c = search needs
 sub-left : tie.Need-sub-left Inv-loop μ-loop
 sub-left c = search needs
 
-returns-2 : tie.Need-returns-2 Inv-loop μ-loop
-returns-2 c = search needs
+with-digit-requires : tie.Need-with-digit-requires Inv-loop μ-loop
+with-digit-requires c κs = search needs
 
 add-at : tie.Need-add-at Inv-loop μ-loop
 add-at c = search needs
@@ -34,11 +34,11 @@ loop-less c = search needs
 loop-again : tie.Need-loop-again Inv-loop μ-loop
 loop-again c = search needs
 
-returns-3 : tie.Need-returns-3 Inv-loop μ-loop
-returns-3 c = search needs
+returns-2 : tie.Need-returns-2 Inv-loop μ-loop
+returns-2 c = search needs
 
-pub minus-spec : {M : Type 1} → statement M
-minus-spec =
+pub digits-spec : {M : Type 1} → statement M
+digits-spec =
     tie.close
     (tie.spec
     Inv-loop
@@ -47,8 +47,8 @@ minus-spec =
     shared-slice-read-c
     returns
     sub-left
-    returns-2
+    with-digit-requires
     add-at
     loop-less
     loop-again
-    returns-3)
+    returns-2)

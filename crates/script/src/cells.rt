@@ -1,11 +1,21 @@
 // Meter memory, as others may write it.
+ghost use mathlib.Core.Path.{_≡_};
 ghost use Prim.Native.Nat.{_≤_};
+ghost use lib.ListN.{length, take};
 
 // The lesser of two numbers, and at most the second.
 pub fn at_most(n: usize, most: usize) -> usize
     ensures { λ r. ⌜ r ≤ most ⌝ }
 {
     if n < most { n } else { most }
+}
+
+// How many cells are lent: no more than there are. The second part follows from the first; both are stated, so that a function that
+// lends these cells needs no proof.
+pub fn lent(meter: &[i32], cells: usize) -> usize
+    ensures { λ r. ⌜ (r ≤ length (now (meter .entry))) × (r ≡ length (take r (now (meter .entry)))) ⌝ }
+{
+    at_most(cells, meter.len())
 }
 
 // What a cell can hold of a kW, 0 of what it cannot.

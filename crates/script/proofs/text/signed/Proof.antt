@@ -5,8 +5,8 @@ use lib.IntN.{pos, _-ℤ_}
 use mir.Syntax.{w64}
 use mir.Facts.{toZ-pos}
 use Rattle.energy.proofs.Integers.{fits-parts, diff-parts}
-use Rattle.book_answers.proofs.text.signed.Statement.{statement}
-use Rattle.book_answers.proofs.text.signed.Tie as tie
+use Rattle.script.proofs.text.signed.Statement.{statement}
+use Rattle.script.proofs.text.signed.Tie as tie
 
 digits-requires : tie.Need-digits-requires
 digits-requires c κs = search needs
