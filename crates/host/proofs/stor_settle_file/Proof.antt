@@ -1,0 +1,122 @@
+-- `host::stor_settle_file` meets its contract: the room for sums decides first, then how entering ended, and then the settlement.
+use mathlib.Core.Path.{_≡_, refl, sym, _∙_, ap}
+use mathlib.Core.List.{List}
+use Prim.Native.Nat.{ℕ, _≤_, _<_, _^_}
+use native.Mathlib.Omega.{arith}
+use lib.IntN.{ℤ}
+use lib.ListN.{length}
+use borrow.Author.Tests.{le-ltb, lt-ltb}
+use Rattle.rules.specs.declared.answer.Answer.{Answer}
+use Rattle.rules.specs.declared.answer.Answer.the-variants.{Taken, Refused}
+use Rattle.book.specs.Book.{emptyBook}
+use Rattle.book.proofs.Tested.{sound-parts}
+use Rattle.stor.specs.Files.{LoadedFile, load}
+use Rattle.stor.specs.declared.file.Loaded.{Loaded}
+use Rattle.host.specs.Answers.{packed}
+use Rattle.host.specs.Calls.{SettledFile, settleInto, settlesBy, settleFile}
+use borrow.Author.Needs.{needs}
+use Rattle.host.proofs.stor_settle_file.Statement.{statement}
+use Rattle.host.proofs.stor_settle_file.Tie as tie
+
+module _ (file : List ℕ) (meter lines sums : List ℤ) where
+  abbrev whole : SettledFile
+  whole = settleFile file meter lines sums
+
+  abbrev entered : LoadedFile
+  entered = load file emptyBook meter
+
+  short : (r : ℕ) → length sums < 262 → r ≡ packed 26 0 → (r ≡ whole .answer) × (meter ≡ whole .meter) × (lines ≡ whole .lines) × (sums ≡ whole .sums)
+  unfolding settleFile
+  short r h e = rw (lt-ltb (length sums) 262 h) (e, refl, refl, refl)
+
+  module _ (h : 262 ≤ length sums) (l : Loaded) (el : l ≡ entered .loaded) where
+    long : (a : Answer) → l .answer ≡ a → whole ≡ settlesBy a entered lines sums
+    unfolding settleFile
+    long a e = rw (le-ltb (length sums) 262 h) (ap (λ z. settlesBy z entered lines sums) (ap (λ (z : Loaded). z .answer) (sym el) ∙ e))
+
+    taken :
+        (r n : ℕ) (meter′ lines′ sums′ : List ℤ) → l .answer ≡ Taken → meter′ ≡ entered .meter
+        → n ≡ settleInto (l .book) meter′ lines sums .number → lines′ ≡ settleInto (l .book) meter′ lines sums .lines
+        → sums′ ≡ settleInto (l .book) meter′ lines sums .sums → r ≡ packed n (l .at)
+        → (r ≡ whole .answer) × (meter′ ≡ whole .meter) × (lines′ ≡ whole .lines) × (sums′ ≡ whole .sums)
+    taken r n meter′ lines′ sums′ e em en els es er = rw (long Taken e, ← el, ← em) (er ∙ ap (λ z. packed z (l .at)) en, refl, els, es)
+
+    refused :
+        (r n : ℕ) (meter′ : List ℤ) → l .answer ≡ Refused n → meter′ ≡ entered .meter → r ≡ packed n (l .at)
+        → (r ≡ whole .answer) × (meter′ ≡ whole .meter) × (lines ≡ whole .lines) × (sums ≡ whole .sums)
+    refused r n meter′ e em er = rw (long (Refused n) e, ← el) (er, em, refl, refl)
+
+pack-requires : tie.Need-pack-requires
+pack-requires c κs = search needs
+
+returns : tie.Need-returns
+returns c =
+    let a = c .before .before .before .args in
+    short (a .file .now) (a .meter .now) (a .lines .now) (a .sums .now) _ (c .before .if1 .taken) (c .pack .ensures)
+
+load-file-requires : tie.Need-load-file-requires
+load-file-requires c κs = search needs
+
+enum-told : tie.Need-enum-told
+enum-told c = search needs
+
+settle-book-requires : tie.Need-settle-book-requires
+settle-book-requires c κs =
+    let l = c .before .before .before .before .before .before .before .load-file in
+    (c .before .before .before .before .before .before .before .before .before .if1 .left, omega (arith, sound-parts (l .result .book) (l .ensures .2) .tables .windows))
+
+pack-requires-2 : tie.Need-pack-requires-2
+pack-requires-2 c κs = search needs
+
+enum-known-answer : tie.Need-enum-known-answer
+enum-known-answer c = search needs
+
+pack-requires-3 : tie.Need-pack-requires-3
+pack-requires-3 c κs = search needs
+
+same-length : tie.Need-same-length
+same-length c = search needs
+
+same-length-2 : tie.Need-same-length-2
+same-length-2 c = search needs
+
+same-length-3 : tie.Need-same-length-3
+same-length-3 c = search needs
+
+returns-2 : tie.Need-returns-2
+returns-2 c =
+    let a = c .before .before .before .before .before .before .before .before .before .before .before .before .before .before .before .args in
+    let l = c .before .before .before .before .before .before .before .before .before .before .before .load-file in
+    let s = c .before .before .before .settle-book in
+    taken (a .file .now) (a .meter .now) (a .lines .now) (a .sums .now) (c .before .before .before .before .before .before .before .before .before .before .before .before .before .if1 .left) (l .result) (l .ensures .0) _ (s .result) _ _ _
+    (c .before .before .before .before .before .before .before .enum-told .given .1) (l .ensures .1)
+    (s .ensures .0) (s .ensures .1) (s .ensures .2) (c .pack2 .ensures)
+
+same-length-4 : tie.Need-same-length-4
+same-length-4 c = search needs
+
+returns-3 : tie.Need-returns-3
+returns-3 c =
+    let a = c .before .before .before .before .before .before .before .before .before .before .args in
+    let l = c .before .before .before .before .before .before .load-file in
+    refused (a .file .now) (a .meter .now) (a .lines .now) (a .sums .now) (c .before .before .before .before .before .before .before .before .if1 .left) (l .result) (l .ensures .0) _ _ _
+    (c .before .before .answer .given .1) (l .ensures .1) (c .pack3 .ensures)
+
+pub stor-settle-file-spec : {M : Type 1} → statement M
+stor-settle-file-spec =
+    tie.close
+    (tie.spec
+    pack-requires
+    returns
+    load-file-requires
+    enum-told
+    settle-book-requires
+    pack-requires-2
+    enum-known-answer
+    pack-requires-3
+    same-length
+    same-length-2
+    same-length-3
+    returns-2
+    same-length-4
+    returns-3)

@@ -1,0 +1,63 @@
+-- `host::tables::default_at` meets its contract: its numbers are read in order.
+use Rattle.host.specs.Tables.{defaultAt}
+use borrow.Author.Needs.{needs}
+use Rattle.host.proofs.tables.default_at.Statement.{statement}
+use Rattle.host.proofs.tables.default_at.Tie as tie
+
+mul-number-at : tie.Need-mul-number-at
+mul-number-at c = search needs
+
+number-at-requires : tie.Need-number-at-requires
+number-at-requires c κs = search needs
+
+mul-number-at-2 : tie.Need-mul-number-at-2
+mul-number-at-2 c = search needs
+
+add-number-at : tie.Need-add-number-at
+add-number-at c = search needs
+
+number-at-requires-2 : tie.Need-number-at-requires-2
+number-at-requires-2 c κs = search needs
+
+cast-byte-of : tie.Need-cast-byte-of
+cast-byte-of c = search needs
+
+byte-of-requires : tie.Need-byte-of-requires
+byte-of-requires c κs = search needs
+
+mul-number-at-3 : tie.Need-mul-number-at-3
+mul-number-at-3 c = search needs
+
+add-number-at-2 : tie.Need-add-number-at-2
+add-number-at-2 c = search needs
+
+number-at-requires-3 : tie.Need-number-at-requires-3
+number-at-requires-3 c κs = search needs
+
+cast-byte-of-2 : tie.Need-cast-byte-of-2
+cast-byte-of-2 c = search needs
+
+byte-of-requires-2 : tie.Need-byte-of-requires-2
+byte-of-requires-2 c κs = search needs
+
+returns : tie.Need-returns
+unfolding defaultAt
+returns c = cc
+
+pub default-at-spec : {M : Type 1} → statement M
+default-at-spec =
+    tie.close
+    (tie.spec
+    mul-number-at
+    number-at-requires
+    mul-number-at-2
+    add-number-at
+    number-at-requires-2
+    cast-byte-of
+    byte-of-requires
+    mul-number-at-3
+    add-number-at-2
+    number-at-requires-3
+    cast-byte-of-2
+    byte-of-requires-2
+    returns)

@@ -1,0 +1,55 @@
+-- `host::tables::window_at` meets its contract: its numbers are read in order.
+use Rattle.host.specs.Tables.{windowAt}
+use borrow.Author.Needs.{needs}
+use Rattle.host.proofs.tables.window_at.Statement.{statement}
+use Rattle.host.proofs.tables.window_at.Tie as tie
+
+mul-number-at : tie.Need-mul-number-at
+mul-number-at c = search needs
+
+number-at-requires : tie.Need-number-at-requires
+number-at-requires c κs = search needs
+
+mul-number-at-2 : tie.Need-mul-number-at-2
+mul-number-at-2 c = search needs
+
+add-number-at : tie.Need-add-number-at
+add-number-at c = search needs
+
+number-at-requires-2 : tie.Need-number-at-requires-2
+number-at-requires-2 c κs = search needs
+
+mul-number-at-3 : tie.Need-mul-number-at-3
+mul-number-at-3 c = search needs
+
+add-number-at-2 : tie.Need-add-number-at-2
+add-number-at-2 c = search needs
+
+number-at-requires-3 : tie.Need-number-at-requires-3
+number-at-requires-3 c κs = search needs
+
+cast-byte-of : tie.Need-cast-byte-of
+cast-byte-of c = search needs
+
+byte-of-requires : tie.Need-byte-of-requires
+byte-of-requires c κs = search needs
+
+returns : tie.Need-returns
+unfolding windowAt
+returns c = cc
+
+pub window-at-spec : {M : Type 1} → statement M
+window-at-spec =
+    tie.close
+    (tie.spec
+    mul-number-at
+    number-at-requires
+    mul-number-at-2
+    add-number-at
+    number-at-requires-2
+    mul-number-at-3
+    add-number-at-2
+    number-at-requires-3
+    cast-byte-of
+    byte-of-requires
+    returns)

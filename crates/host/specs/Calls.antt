@@ -1,0 +1,82 @@
+-- The calls for hosts: what each answers, and what all lent memory holds after it, by one equation over the rules, refusals included.
+use mathlib.Core.Bool.{cond}
+use mathlib.Core.List.{List, _++_}
+use Prim.Native.Nat.{ℕ}
+use lib.Dec.{ltb}
+use lib.IntN.{ℤ}
+use lib.ListN.{length, drop}
+use Rattle.rules.specs.declared.answer.Answer.{Answer}
+use Rattle.rules.specs.declared.answer.Answer.the-variants.{Taken, Refused}
+use Rattle.rules.specs.declared.statement.Statement.{Statement}
+use Rattle.book.specs.Book.{emptyBook}
+use Rattle.book.specs.declared.Book.{Book}
+use Rattle.settlement.specs.Numbers.{Numbered, numberBook}
+use Rattle.stor.specs.Files.{LoadedFile, load}
+use Rattle.host.specs.Answers.{numberOf, packed}
+use Rattle.host.specs.Sums.{sumsOf}
+use Rattle.host.specs.Tables.{bookOf}
+
+-- ---- a file entered
+
+-- the answer, and meter memory after it
+pub record EnteredFile : Type 0 where
+  pub answer : ℕ
+  pub meter : List ℤ
+
+-- a file's commands, entered into the empty book up to the file's end or the first refusal
+unfoldable pub enterFile : List ℕ → List ℤ → EnteredFile
+enterFile file meter =
+    let l : LoadedFile = load file emptyBook meter in
+    record { answer = packed (numberOf (l .loaded .answer)) (l .loaded .at); meter = l .meter }
+
+-- ---- a book settled
+
+-- the number of the answer, and line and sum memory after it
+pub record SettledBook : Type 0 where
+  pub number : ℕ
+  pub lines : List ℤ
+  pub sums : List ℤ
+
+-- a statement for so many windows goes into the first 262 numbers; a refusal alters none
+abbrev pub sumsBy : Answer → Statement → ℕ → List ℤ → List ℤ
+sumsBy Taken s windows sums = sumsOf s windows ++ drop 262 sums
+sumsBy (Refused n) s windows sums = sums
+
+-- settling a book into numbers
+unfoldable pub settleInto : Book → List ℤ → List ℤ → List ℤ → SettledBook
+settleInto b meter lines sums =
+    let s : Numbered = numberBook b meter lines in
+    record {
+      number = numberOf (s .settlement .answer);
+      lines = s .memory;
+      sums = sumsBy (s .settlement .answer) (s .settlement .statement) (b .nwindows) sums;
+    }
+
+-- the book that tables say, settled. Sums too short for a statement get 26 before all else
+unfoldable pub settleTables : List ℕ → List ℕ → List ℕ → List ℕ → List ℤ → List ℤ → List ℤ → SettledBook
+settleTables contract windows instructions defaults meter lines sums =
+    cond (ltb (length sums) 262) (record { number = 26; lines = lines; sums = sums })
+    (settleInto (bookOf contract windows instructions defaults) meter lines sums)
+
+-- ---- a file entered and settled
+
+-- the answer, and meter, line and sum memory after it
+pub record SettledFile : Type 0 where
+  pub answer : ℕ
+  pub meter : List ℤ
+  pub lines : List ℤ
+  pub sums : List ℤ
+
+-- a file that was entered whole is settled, and its offset is its length; one with a refusal is answered that, and nothing is settled
+abbrev pub settlesBy : Answer → LoadedFile → List ℤ → List ℤ → SettledFile
+settlesBy Taken l lines sums =
+    let s : SettledBook = settleInto (l .loaded .book) (l .meter) lines sums in
+    record { answer = packed (s .number) (l .loaded .at); meter = l .meter; lines = s .lines; sums = s .sums }
+settlesBy (Refused n) l lines sums =
+    record { answer = packed n (l .loaded .at); meter = l .meter; lines = lines; sums = sums }
+
+-- a whole file, entered and settled. Sums too short for a statement get 26 before the file is read
+unfoldable pub settleFile : List ℕ → List ℤ → List ℤ → List ℤ → SettledFile
+settleFile file meter lines sums =
+    cond (ltb (length sums) 262) (record { answer = packed 26 0; meter = meter; lines = lines; sums = sums })
+    (let l : LoadedFile = load file emptyBook meter in settlesBy (l .loaded .answer) l lines sums)

@@ -1,0 +1,88 @@
+/*
+ * The settlement package for a host in C. Link with libhost.a, which `rt staticlib host` proves and writes to target/staticlib/.
+ *
+ * Every call has an answer for every length and every contents of what it is lent; what it answers, and what all lent memory holds after it, is
+ * proved in crates/host/specs/Calls.antt. The package keeps nothing between calls, allocates nothing, and calls no function but memcpy and memset.
+ *
+ * What a caller owes:
+ * - Each pointer is followed by its length, in elements and not in bytes, and that many elements are there, aligned for their type. With length 0
+ *   a pointer is not followed, and may be null or any other.
+ * - Memory that a call may write does not overlap any other memory lent to that call.
+ * - Nothing else writes lent memory, and nothing reads what a call may write, until the call returns. Calls on different memory may run at once.
+ * - All memory stays the caller's. A call holds it only until it returns.
+ * - Input elements hold values: meter memory, line memory and sum memory have been written once, if only with zeros.
+ * - A call needs some 20 KiB of stack.
+ */
+#ifndef STOR_H
+#define STOR_H
+
+#include <stddef.h>
+#include <stdint.h>
+
+#ifdef __cplusplus
+extern "C" {
+#endif
+
+/* The number and the offset of a file's answer. Number 0: taken, and the offset is the file's length. Any other number is a refusal, and the offset
+ * is that of the refused command, or the file's length where settling was refused. (An offset of 2^56 or more would stand as 2^56 - 1.) */
+#define STOR_NUMBER(answer) ((unsigned)((answer) & 0xFF))
+#define STOR_OFFSET(answer) ((uint64_t)(answer) >> 8)
+
+/* Meter memory: the metered kW of each minute, from minute 0; 1,440 minutes a day. A cell outside -500,000 to 500,000 is no reading. */
+#define STOR_MINUTES_MOST 44640
+#define STOR_NO_READING INT32_MIN
+
+/* Line memory: a statement's lines one after the other, each as eight numbers. A statement has at most STOR_LINES_MOST lines. */
+#define STOR_LINES_MOST 1680
+enum {
+    STOR_LINE_INSTRUCTION = 0, /* from 1 */
+    STOR_LINE_PERIOD = 1,      /* from 1 */
+    STOR_LINE_STAGE = 2,       /* 0 ramp up, 1 steady, 2 ramp down */
+    STOR_LINE_RATE = 3,        /* 0 utilisation, 1 optional */
+    STOR_LINE_EXPECTED = 4,    /* kWh */
+    STOR_LINE_DELIVERED = 5,   /* kWh */
+    STOR_LINE_CAPPED = 6,      /* kWh */
+    STOR_LINE_PENCE = 7,
+    STOR_LINE_NUMBERS = 8
+};
+
+/* Sum memory: six numbers, then two for each of the 128 places for a window. */
+enum {
+    STOR_SUM_LINES = 0,        /* number of lines */
+    STOR_SUM_WINDOWS = 1,      /* number of windows entered */
+    STOR_SUM_CAPPED = 2,       /* kWh */
+    STOR_SUM_UTILISATION = 3,  /* pence */
+    STOR_SUM_AVAILABILITY = 4, /* pence */
+    STOR_SUM_ALL = 5,          /* pence */
+    STOR_SUM_NUMBERS = 262
+};
+/* A window's paid periods and pence; w counts from 0. */
+#define STOR_SUM_PERIODS(w) (6 + 2 * (w))
+#define STOR_SUM_PENCE(w) (7 + 2 * (w))
+
+/* Reads and enters a whole unit file, from the empty book. Meter memory after it holds what the commands taken left; a contract longer than meter
+ * memory is refused (15). */
+uint64_t stor_enter_file(const uint8_t *file, size_t file_length, int32_t *meter, size_t meter_length);
+
+/* The same, and settles the book. Taken, line memory holds the statement's lines and sum memory its sums, and what stands after them is as it was.
+ * On a refusal both are exactly as they were, and meter memory holds what the commands taken before it left. Sum memory of fewer than
+ * STOR_SUM_NUMBERS is refused (26, offset 0) before the file is read; line memory shorter than the statement is refused too (26). */
+uint64_t stor_settle_file(const uint8_t *file, size_t file_length, int32_t *meter, size_t meter_length, int64_t *lines, size_t lines_length,
+                          int64_t *sums, size_t sums_length);
+
+/* Settles the closed book that tables say, over readings in meter memory. The answer is the refusal's number, or 0.
+ *   contract      days, kind, service, contracted kW, ramp up, ramp down, response, recovery, availability, utilisation, optional rate
+ *   windows       start, end, verdict for each
+ *   instructions  issue, cease for each
+ *   defaults      minute, kind, reach for each
+ * There are as many windows, instructions and defaults as their tables have whole entries. A number that a table lacks is 0, and one that is too wide
+ * for its field stands as the field's largest value, so such a book is refused (11), as is every other that no list of commands leaves. */
+uint8_t stor_settle_tables(const uint32_t *contract, size_t contract_length, const uint16_t *windows, size_t windows_length,
+                           const uint16_t *instructions, size_t instructions_length, const uint16_t *defaults, size_t defaults_length,
+                           const int32_t *meter, size_t meter_length, int64_t *lines, size_t lines_length, int64_t *sums, size_t sums_length);
+
+#ifdef __cplusplus
+}
+#endif
+
+#endif
