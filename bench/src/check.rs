@@ -101,7 +101,7 @@ fn second_settled(
 
 /// Settles what a generated file leaves, also with too little memory.
 fn check_file(seed: u64) -> Result<usize, String> {
-    let file = scenes::file(seed, Target { days: 31 });
+    let file = scenes::file(seed, WHOLE_MONTHS);
     let (book, meter) = second_month(&file);
     let ours = plain_book(&book);
     let whole = alike(
@@ -122,7 +122,7 @@ fn check_file(seed: u64) -> Result<usize, String> {
 
 /// Changes a book in one place, so that mostly no commands leave it.
 fn check_made_up(seed: u64) -> Result<usize, String> {
-    let file = scenes::file(seed, Target { days: 2 });
+    let file = scenes::file(seed, TWO_DAYS);
     let (mut book, meter) = second_month(&file);
     let mut random = Random::new(seed);
     let near = |random: &mut Random, value: &mut i64| {
