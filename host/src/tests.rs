@@ -201,9 +201,12 @@ fn a_refusal_keeps_lines_and_sums() {
     let mut meter = [NO_READING; 1_440];
     let mut lines = [MARK; LINE_NUMBERS * (APPENDIX_2_LINES - 1)];
     let mut sums = [MARK; SUMS];
-    let answer = library::settle_file(APPENDIX_2, &mut meter, &mut lines, &mut sums);
-    assert_eq!(answer % 256, 26);
-    assert!(lines.iter().chain(&sums).all(|&number| number == MARK));
+    let open = &APPENDIX_2[..APPENDIX_2.len() - 1];
+    for (file, number) in [(APPENDIX_2, 26), (open, 24), (b"Z", 13)] {
+        let answer = library::settle_file(file, &mut meter, &mut lines, &mut sums);
+        assert_eq!(answer % 256, number);
+        assert!(lines.iter().chain(&sums).all(|&number| number == MARK));
+    }
 }
 
 #[test]
@@ -212,39 +215,60 @@ fn too_few_sums_are_refused_before_anything_is_read() {
     let mut lines = [MARK; LINE_NUMBERS * APPENDIX_2_LINES];
     let mut sums = [MARK; SUMS - 1];
     let answer = library::settle_file(APPENDIX_2, &mut meter, &mut lines, &mut sums);
-    assert_eq!(answer % 256, 26);
+    assert_eq!(answer, 26);
     assert!(meter.iter().all(|&cell| i64::from(cell) == MARK));
     assert!(lines.iter().chain(&sums).all(|&number| number == MARK));
 }
 
 #[test]
-fn tables_of_other_lengths_are_refused() {
-    let tables = appendix_2_tables();
-    let mut memory = appendix_2_read();
-    let mut lines = [MARK; LINE_NUMBERS * APPENDIX_2_LINES];
-    let mut sums = [MARK; SUMS];
-    let mut answer = |contract: &[u32], windows: &[u16], instructions: &[u16], defaults: &[u16]| {
-        library::settle_tables(
-            contract,
-            windows,
-            instructions,
-            defaults,
-            memory.meter(),
-            &mut lines,
-            &mut sums,
-        )
+fn tables_of_wrong_lengths_are_refused() {
+    let change = |changed: fn(&mut Tables)| {
+        let mut tables = appendix_2_tables();
+        tables.contract[0] = 31;
+        changed(&mut tables);
+        appendix_2_read().settle_tables(&tables)
     };
-    let (contract, windows, instructions) = (
-        &tables.contract[..],
-        &tables.windows[..],
-        &tables.instructions[..],
+    // Numbers that end inside an entry.
+    assert_eq!(change(|t| t.windows.truncate(2)), Err(refused(11, 0)));
+    assert_eq!(change(|t| t.instructions.truncate(1)), Err(refused(11, 0)));
+    assert_eq!(change(|t| t.defaults = vec![0, 1]), Err(refused(11, 0)));
+    // More entries than a table holds, each of them in order.
+    assert_eq!(change(|t| t.windows = windows(129)), Err(refused(11, 0)));
+    assert_eq!(
+        change(|t| t.instructions = instructions(65)),
+        Err(refused(11, 0))
     );
-    assert_eq!(answer(&contract[..10], windows, instructions, &[]), 11);
-    assert_eq!(answer(contract, &windows[..2], instructions, &[]), 11);
-    assert_eq!(answer(contract, windows, &instructions[..1], &[]), 11);
-    assert_eq!(answer(contract, windows, instructions, &[0, 1]), 11);
-    assert_eq!(answer(&[], &[], &[], &[]), 11);
-    assert_eq!(answer(contract, windows, instructions, &[]), 0);
+    assert_eq!(
+        change(|t| t.defaults = [0, 1, 1].repeat(129)),
+        Err(refused(11, 0))
+    );
+    assert!(change(|_| ()).is_ok());
+}
+
+#[test]
+fn full_tables_are_settled() {
+    let mut tables = appendix_2_tables();
+    tables.contract[0] = 31;
+    tables.windows = windows(128);
+    tables.instructions = instructions(64);
+    tables.defaults = [0, 1, 1].repeat(128);
+    let mut memory = Memory::of_month();
+    memory.meter().fill(0);
+    let statement = memory.settle_tables(&tables).expect("nothing to turn down");
+    assert_eq!(statement.windows.len(), 128);
+    // No stage of these instructions crosses a period.
+    assert_eq!(statement.lines.len(), 3 * 64);
+}
+
+fn windows(count: u16) -> Vec<u16> {
+    (0..count).flat_map(|k| [30 * k, 30 * k + 30, 0]).collect()
+}
+
+fn instructions(count: u16) -> Vec<u16> {
+    (0..count)
+        .map(|k| 60 * k + 30)
+        .flat_map(|issue| [issue - 20, issue + 10])
+        .collect()
 }
 
 /// Numbers of one line and one window, in form.
