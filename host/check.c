@@ -6,11 +6,11 @@
 
 #include "stor.h"
 
-enum { MINUTES = 44640, RECORDS = 1680, LINE_NUMBERS = 8, SUMS = 262 };
+enum { LINES_LENGTH = STOR_LINE_NUMBERS * STOR_LINES_MOST };
 
-static int32_t meter[MINUTES];
-static int64_t lines[LINE_NUMBERS * RECORDS];
-static int64_t sums[SUMS];
+static int32_t meter[STOR_MINUTES_MOST];
+static int64_t lines[LINES_LENGTH];
+static int64_t sums[STOR_SUM_NUMBERS];
 
 /* The whole file in memory of its own, or no memory where it cannot be read. */
 static uint8_t *contents(const char *name, size_t *length)
@@ -45,11 +45,12 @@ int main(int count, char **words)
         return 1;
     }
     uint64_t answer =
-        stor_settle_file(file, length, meter, MINUTES, lines, LINE_NUMBERS * RECORDS, sums, SUMS);
+        stor_settle_file(file, length, meter, STOR_MINUTES_MOST, lines, LINES_LENGTH, sums, STOR_SUM_NUMBERS);
     free(file);
-    if (answer % 256 != 0)
-        printf("R %" PRIu64 " %" PRIu64 "\n", answer % 256, answer / 256);
+    if (STOR_NUMBER(answer) != 0)
+        printf("R %u %" PRIu64 "\n", STOR_NUMBER(answer), STOR_OFFSET(answer));
     else
-        printf("T %" PRId64 " %" PRId64 " %" PRId64 " %" PRId64 "\n", sums[2], sums[3], sums[4], sums[5]);
+        printf("T %" PRId64 " %" PRId64 " %" PRId64 " %" PRId64 "\n", sums[STOR_SUM_CAPPED], sums[STOR_SUM_UTILISATION],
+               sums[STOR_SUM_AVAILABILITY], sums[STOR_SUM_ALL]);
     return 0;
 }
