@@ -187,15 +187,14 @@ impl Statement {
     /// Of the numbers that a settlement left, or none where they have not the
     /// promised form. No numbers whatever make this panic.
     pub fn of_numbers(lines: &[i64], sums: &[i64; SUMS]) -> Option<Statement> {
-        let [line_count, window_count, capped, utilisation_pence, availability_pence, all_pence, pay @ ..] =
-            sums;
+        let [line_count, window_count, capped, utilisation, availability, all, pay @ ..] = sums;
         Some(Statement {
             lines: records(lines, LINE_NUMBERS, *line_count, Line::of_numbers)?,
             windows: records(pay, 2, *window_count, WindowPay::of_numbers)?,
             capped: *capped,
-            utilisation_pence: *utilisation_pence,
-            availability_pence: *availability_pence,
-            all_pence: *all_pence,
+            utilisation_pence: *utilisation,
+            availability_pence: *availability,
+            all_pence: *all,
         })
     }
 }
