@@ -15,7 +15,7 @@ compile() {
 
 # Some source, example or library that changed after a file.
 newer_than() {
-    local folders=(second compare bench host tools examples)
+    local folders=(second compare bench host tools tests examples)
     [ ! -d target/staticlib ] || folders+=(target/staticlib)
     find "${folders[@]}" -type f -newer "$1" -print -quit
 }
