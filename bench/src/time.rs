@@ -13,11 +13,17 @@ pub const REPEATS: usize = 1_000;
 /// A file takes longer to enter than its month to settle.
 const ENTERING_SHARE: usize = 5;
 
-/// Microseconds of one side's calls, for each run and each month in it.
+/// Microseconds of one side's calls in one run, for each month.
+type Run = Vec<Vec<f64>>;
+
+/// The same in all runs.
 #[derive(Clone, Default)]
-struct Taken([Vec<Vec<f64>>; RUNS]);
+struct Taken([Run; RUNS]);
 
 pub fn time(repeats: usize) -> Result<(), String> {
+    if cfg!(debug_assertions) {
+        return Err("times say something only of a build with -C opt-level=3".to_string());
+    }
     println!(
         "{} months to order, {RUNS} runs, both sides in turn; microseconds of one call,",
         SEEDS.len()
@@ -76,29 +82,29 @@ fn time_month(
 }
 
 impl Taken {
-    /// The mean over the months of what `of_month` makes of all runs' times,
-    /// which it gets sorted.
-    fn mean(&self, runs: &[Vec<Vec<f64>>], of_sorted: fn(&[f64]) -> f64) -> f64 {
-        let months = (0..SEEDS.len()).map(|month| {
-            let mut times: Vec<f64> = runs.iter().flat_map(|run| run[month].clone()).collect();
-            times.sort_unstable_by(f64::total_cmp);
-            of_sorted(&times)
-        });
-        months.sum::<f64>() / SEEDS.len() as f64
-    }
-
     fn best(&self) -> f64 {
-        self.mean(&self.0, |times| times[0])
+        mean(&self.0, |times| times[0])
     }
 
     fn median(&self) -> f64 {
-        self.mean(&self.0, median)
+        mean(&self.0, median)
     }
 
     /// The second run's median over the first one's: without noise 1.
     fn drift(&self) -> f64 {
-        self.mean(&self.0[1..], median) / self.mean(&self.0[..1], median)
+        mean(&self.0[1..], median) / mean(&self.0[..1], median)
     }
+}
+
+/// The mean over the months of what `of_sorted` makes of a month's times in
+/// all these runs, the shortest first.
+fn mean(runs: &[Run], of_sorted: fn(&[f64]) -> f64) -> f64 {
+    let months = (0..SEEDS.len()).map(|month| {
+        let mut times: Vec<f64> = runs.iter().flat_map(|run| run[month].clone()).collect();
+        times.sort_unstable_by(f64::total_cmp);
+        of_sorted(&times)
+    });
+    months.sum::<f64>() / SEEDS.len() as f64
 }
 
 fn median(sorted: &[f64]) -> f64 {
