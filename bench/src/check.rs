@@ -1,6 +1,9 @@
-//! Holds the plain settlement against the second one: on months to order, on
-//! the comparison's files, and on books that no commands leave.
+//! Holds the plain settlement and the proved library against the second one:
+//! on months to order, on the comparison's files, also with too little memory,
+//! and on books that no commands leave.
 
+use crate::enter;
+use crate::listing::refusal_row;
 use crate::month::{self, FILE_BYTES, MINUTES};
 use crate::plain::{self, Book, Contract, Fault, Instruction, Line, Window};
 use crate::random::Random;
@@ -12,14 +15,27 @@ use crate::second::rows::Room;
 use crate::second::rules::NO_READING;
 use crate::second::settle as second_settle;
 use crate::second::switches::Switch;
-use crate::settler::{rows, LINES};
+use crate::sides::{library_rows, rows, tables, LINES};
+use crate::stor::{library, Refusal, Tables, LINE_NUMBERS, SUMS};
 
 const ROOM: Room = Room {
     minutes: MINUTES,
     lines: LINES,
 };
-/// Marks line memory, to see that refusals leave it alone.
+/// Marks lent memory, to see what a call leaves alone.
 const UNTOUCHED: i64 = 77;
+/// Short files among long ones.
+const MONTHS: Target = Target {
+    days: 31,
+    whole: false,
+};
+const TWO_DAYS: Target = Target {
+    days: 2,
+    whole: false,
+};
+
+/// What settling gives: the statement's rows, or the refusal's number.
+type Settled = Result<String, u8>;
 
 pub fn check() -> Result<(), String> {
     for seed in [0, 1, 2, 3, 4, 5, 6, 7, 8, 110, 0x8000_0000, u32::MAX] {
@@ -30,8 +46,14 @@ pub fn check() -> Result<(), String> {
     println!("800 generated files, {settled} of them settled: alike");
     let unsound = (1..=4_000)
         .map(check_made_up)
-        .sum::<Result<usize, String>>()?;
-    println!("4000 made-up books, {unsound} of them refused under 11: alike");
+        .sum::<Result<Unsound, String>>()?;
+    println!(
+        "4000 made-up books, {} of them refused under 11, {} of these as tables: alike",
+        unsound.books, unsound.tables
+    );
+    if unsound.tables == 0 {
+        return Err("no made-up book could be said in tables".to_string());
+    }
     Ok(())
 }
 
@@ -44,9 +66,12 @@ fn check_month(seed: u32) -> Result<(), String> {
     if plain_book(&book) != month.book || meter != month.meter {
         return Err(format!("seed {seed}: the file is not the book"));
     }
-    let theirs = second_rows::list(&month.file, ROOM, Switch::RIGHT);
-    let ours = plain_rows(&month.book, &month.meter, LINES);
-    alike(&format!("month {seed}"), ours, Ok(theirs)).map(|_| ())
+    let what = format!("month {seed}");
+    if settled_alike(&what, &book, &meter, LINES, Any::No)?.is_some() {
+        return Err(format!("{what}: refused"));
+    }
+    entered_alike(&what, &month.file, MINUTES)?;
+    file_settled_alike(&what, &month.file, ROOM)
 }
 
 /// The book and readings that a file leaves, refused commands left out.
@@ -57,7 +82,60 @@ fn second_month(file: &[u8]) -> (second_book::Book, Vec<i32>) {
     (book, meter)
 }
 
-fn plain_rows(book: &Book, meter: &[i32], records: usize) -> Result<String, u8> {
+/// An error that shows both, unless they are the same.
+fn alike<T: PartialEq + std::fmt::Debug>(
+    what: &str,
+    side: &str,
+    theirs: &T,
+    second: &T,
+) -> Result<(), String> {
+    if theirs == second {
+        return Ok(());
+    }
+    Err(format!("{what}:\n{side} {theirs:?}\nsecond {second:?}"))
+}
+
+/// Whether the book may be one that no commands leave.
+#[derive(Clone, Copy, PartialEq, Eq)]
+enum Any {
+    Yes,
+    No,
+}
+
+/// Settles a book by all three, by the library where its tables can say the
+/// book; gives the refusal, if they refuse.
+fn settled_alike(
+    what: &str,
+    book: &second_book::Book,
+    meter: &[i32],
+    records: usize,
+    any: Any,
+) -> Result<Option<u8>, String> {
+    let second = second_settled(book, meter, records, any);
+    let plain = plain_book(book);
+    alike(
+        what,
+        "plain",
+        &plain_settled(&plain, meter, records)?,
+        &second,
+    )?;
+    if let Some(tables) = tables(&plain) {
+        let settled = library_settled(&tables, meter, records)?;
+        alike(what, "library", &settled, &second)?;
+    }
+    Ok(second.err())
+}
+
+fn second_settled(book: &second_book::Book, meter: &[i32], records: usize, any: Any) -> Settled {
+    let settle = match any {
+        Any::Yes => second_settle::settle_any,
+        Any::No => second_settle::settle,
+    };
+    settle(book, meter, records, Switch::RIGHT)
+        .map(|statement| second_rows::statement_rows(&statement))
+}
+
+fn plain_settled(book: &Book, meter: &[i32], records: usize) -> Result<Settled, String> {
     let blank = Line {
         pence: UNTOUCHED,
         ..Line::default()
@@ -65,64 +143,148 @@ fn plain_rows(book: &Book, meter: &[i32], records: usize) -> Result<String, u8> 
     let mut lines = vec![blank; records];
     let answer = plain::settle(book, meter, &mut lines);
     let written = answer.as_ref().map_or(0, |answer| answer.lines);
-    assert!(
-        lines[written..].iter().all(|line| *line == blank),
-        "a record behind the lines was written"
-    );
-    answer.map(|answer| rows(&answer, &lines, book.window_count))
-}
-
-/// The refusal of both, if they refuse; an error if they do not agree.
-fn alike(
-    what: &str,
-    ours: Result<String, u8>,
-    theirs: Result<String, u8>,
-) -> Result<Option<u8>, String> {
-    if ours == theirs {
-        return Ok(ours.err());
+    if lines[written..].iter().any(|line| *line != blank) {
+        return Err("plain: a record behind the lines was written".to_string());
     }
-    Err(format!("{what}:\nplain {ours:?}\nsecond {theirs:?}"))
+    Ok(answer.map(|answer| rows(&answer, &lines, book.window_count)))
 }
 
-fn second_settled(
-    book: &second_book::Book,
-    meter: &[i32],
-    records: usize,
-    any: bool,
-) -> Result<String, u8> {
-    let settle = if any {
-        second_settle::settle_any
-    } else {
-        second_settle::settle
+/// Line memory and sums for the library, with a little more than is asked for.
+struct Lent {
+    lines: Vec<i64>,
+    sums: Vec<i64>,
+}
+
+impl Lent {
+    fn new(records: usize) -> Lent {
+        Lent {
+            lines: vec![UNTOUCHED; LINE_NUMBERS * records + 7],
+            sums: vec![UNTOUCHED; SUMS + 3],
+        }
+    }
+
+    /// The statement, or the refusal; an error where more was written.
+    fn settled(&self, number: u8) -> Result<Settled, String> {
+        let (sums, behind) = self.sums.split_at(SUMS);
+        let sums: &[i64; SUMS] = sums.try_into().map_err(|_| "too few sums")?;
+        let untouched = |numbers: &[i64]| numbers.iter().all(|&number| number == UNTOUCHED);
+        let written = if number == 0 { sums[0] } else { 0 };
+        let lines_end = (LINE_NUMBERS as i64).saturating_mul(written) as usize;
+        let kept = untouched(behind)
+            && self.lines.get(lines_end..).is_some_and(untouched)
+            && (number == 0 || untouched(sums));
+        if !kept {
+            return Err("library: memory was written that is not the statement's".to_string());
+        }
+        if number != 0 {
+            return Ok(Err(number));
+        }
+        library_rows(&self.lines, sums).map(Ok)
+    }
+}
+
+fn library_settled(tables: &Tables, meter: &[i32], records: usize) -> Result<Settled, String> {
+    let mut lent = Lent::new(records);
+    let number = library::settle_tables(
+        &tables.contract,
+        &tables.windows,
+        &tables.instructions,
+        &tables.defaults,
+        meter,
+        &mut lent.lines,
+        &mut lent.sums,
+    );
+    lent.settled(number)
+}
+
+/// The library's answer for a whole file as the lister prints it.
+fn library_listed(file: &[u8], room: Room) -> Result<String, String> {
+    let mut meter = vec![NO_READING; room.minutes];
+    let mut lent = Lent::new(room.lines);
+    let answer = library::settle_file(file, &mut meter, &mut lent.lines, &mut lent.sums);
+    let refusal = |number| Refusal {
+        number,
+        offset: answer / 256,
     };
-    settle(book, meter, records, Switch::RIGHT)
-        .map(|statement| second_rows::statement_rows(&statement))
+    let settled = lent.settled((answer % 256) as u8)?;
+    Ok(settled.unwrap_or_else(|number| refusal_row(refusal(number))))
 }
 
-/// Settles what a generated file leaves, also with too little memory.
-fn check_file(seed: u64) -> Result<usize, String> {
-    let file = scenes::file(seed, Target { days: 31 });
-    let (book, meter) = second_month(&file);
-    let ours = plain_book(&book);
-    let whole = alike(
-        &format!("file {seed}"),
-        plain_rows(&ours, &meter, LINES),
-        second_settled(&book, &meter, LINES, false),
-    )?;
-    let mut random = Random::new(seed);
-    let minutes = random.between(0, MINUTES as i64) as usize;
-    let records = random.pick(&[0, 1, 5, 60, 719]);
+fn file_settled_alike(what: &str, file: &[u8], room: Room) -> Result<(), String> {
+    let second = second_rows::list(file, room, Switch::RIGHT);
+    alike(what, "library", &library_listed(file, room)?, &second)
+}
+
+/// Enters a file up to its first refusal by all three, into memory that held
+/// something before.
+fn entered_alike(what: &str, file: &[u8], minutes: usize) -> Result<(), String> {
+    let before = vec![1; minutes];
+    let mut book = second_book::Book::default();
+    let mut meter = before.clone();
+    let entered = second_book::enter_file(file, &mut book, &mut meter, true, Switch::RIGHT);
+    let (number, offset) = entered
+        .last()
+        .and_then(|last| Some((last.answer.err()?, last.offset)))
+        .unwrap_or((0, file.len()));
+    let second = (number, offset, meter);
+
+    let mut plain = Book::default();
+    let mut meter = before.clone();
+    let entered = enter::enter_file(file, &mut plain, &mut meter);
     alike(
-        &format!("file {seed}, {minutes} minutes, {records} records"),
-        plain_rows(&ours, &meter[..minutes], records),
-        second_settled(&book, &meter[..minutes], records, false),
+        what,
+        "plain",
+        &(entered.number, entered.offset, meter),
+        &second,
     )?;
-    Ok(usize::from(whole.is_none()))
+    alike(what, "plain", &plain, &plain_book(&book))?;
+
+    let mut meter = before;
+    let answer = library::enter_file(file, &mut meter);
+    let entered = ((answer % 256) as u8, (answer / 256) as usize, meter);
+    alike(what, "library", &entered, &second)
+}
+
+/// Enters a generated file and settles what it leaves, also with too little
+/// memory.
+fn check_file(seed: u64) -> Result<usize, String> {
+    let file = scenes::file(seed, MONTHS);
+    let (book, meter) = second_month(&file);
+    let what = format!("file {seed}");
+    let refusal = settled_alike(&what, &book, &meter, LINES, Any::No)?;
+    entered_alike(&what, &file, MINUTES)?;
+
+    let mut random = Random::new(seed);
+    let room = Room {
+        minutes: random.between(0, MINUTES as i64) as usize,
+        lines: random.pick(&[0, 1, 5, 60, 719]),
+    };
+    let what = format!("{what}, {room:?}");
+    settled_alike(&what, &book, &meter[..room.minutes], room.lines, Any::No)?;
+    entered_alike(&what, &file, room.minutes)?;
+    file_settled_alike(&what, &file, room)?;
+    Ok(usize::from(refusal.is_none()))
+}
+
+/// How many made-up books got 11, and of these how many the tables could say.
+#[derive(Default)]
+struct Unsound {
+    books: usize,
+    tables: usize,
+}
+
+impl std::iter::Sum for Unsound {
+    fn sum<I: Iterator<Item = Unsound>>(all: I) -> Unsound {
+        all.fold(Unsound::default(), |sum, one| Unsound {
+            books: sum.books + one.books,
+            tables: sum.tables + one.tables,
+        })
+    }
 }
 
 /// Changes a book in one place, so that mostly no commands leave it.
-fn check_made_up(seed: u64) -> Result<usize, String> {
-    let file = scenes::file(seed, Target { days: 2 });
+fn check_made_up(seed: u64) -> Result<Unsound, String> {
+    let file = scenes::file(seed, TWO_DAYS);
     let (mut book, meter) = second_month(&file);
     let mut random = Random::new(seed);
     let near = |random: &mut Random, value: &mut i64| {
@@ -186,20 +348,21 @@ fn check_made_up(seed: u64) -> Result<usize, String> {
             book.contract = None;
         }
     }
-    let answer = alike(
-        &format!("made-up book {seed}"),
-        plain_rows(&plain_book(&book), &meter, LINES),
-        second_settled(&book, &meter, LINES, true),
-    )?;
-    // Something in an unused entry is 11 too; the second one has no such entries.
+    let what = format!("made-up book {seed}");
+    let unsound = settled_alike(&what, &book, &meter, LINES, Any::Yes)? == Some(11);
+    let plain = plain_book(&book);
+    // Something in an unused entry is 11 too; the other two have no such entries.
     if book.contract.is_some() && book.windows.len() < plain::WINDOWS {
-        let mut unclean = plain_book(&book);
+        let mut unclean = plain.clone();
         unclean.windows[plain::WINDOWS - 1].end = 30;
-        if plain_rows(&unclean, &meter, LINES) != Err(11) {
-            return Err(format!("made-up book {seed}: an unused entry went unseen"));
+        if plain_settled(&unclean, &meter, LINES)? != Err(11) {
+            return Err(format!("{what}: an unused entry went unseen"));
         }
     }
-    Ok(usize::from(answer == Some(11)))
+    Ok(Unsound {
+        books: usize::from(unsound),
+        tables: usize::from(unsound && tables(&plain).is_some()),
+    })
 }
 
 /// The second one's book in the plain one's tables.

@@ -10,6 +10,7 @@ pub const FILE_BYTES: usize = 313_391;
 const WINDOW_COUNT: i32 = 93;
 const INSTRUCTION_COUNT: i32 = 64;
 
+#[derive(Default)]
 pub struct Month {
     pub file: Vec<u8>,
     pub book: Book,

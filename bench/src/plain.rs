@@ -6,6 +6,10 @@ pub const WINDOWS: usize = 128;
 pub const INSTRUCTIONS: usize = 64;
 pub const DEFAULTS: usize = 128;
 pub const PERIODS: usize = 48 * 31;
+/// The end of the longest month.
+pub const LAST_MINUTE: i32 = 44_640;
+/// What a contract puts into each cell of its span.
+pub const NO_READING: i32 = i32::MIN;
 
 #[derive(Clone, Copy, Default, PartialEq, Eq, Debug)]
 pub struct Contract {
@@ -132,12 +136,17 @@ impl Run {
     }
 }
 
-const fn within(value: i32, least: i32, most: i32) -> bool {
+pub const fn within(value: i32, least: i32, most: i32) -> bool {
     least <= value && value <= most
 }
 
+/// A cell outside this range holds no reading.
+pub const fn is_reading(kw: i32) -> bool {
+    kw.wrapping_add(500_000) as u32 <= 1_000_000
+}
+
 impl Contract {
-    fn span(&self) -> i32 {
+    pub fn span(&self) -> i32 {
         1_440 * self.days
     }
 
@@ -145,11 +154,12 @@ impl Contract {
         (self.kw + self.ramp_up - 1) / self.ramp_up
     }
 
-    fn down(&self) -> i32 {
+    pub fn down(&self) -> i32 {
         (self.kw + self.ramp_down - 1) / self.ramp_down
     }
 
-    fn sound(&self) -> bool {
+    /// If not, it gets 3.
+    pub fn in_range(&self) -> bool {
         within(self.days, 1, 31)
             && within(self.kind, 0, 1)
             && within(self.service, 0, 1)
@@ -161,8 +171,11 @@ impl Contract {
             && within(self.availability_rate, 0, 1_000_000)
             && within(self.utilisation_rate, 0, 1_000_000)
             && within(self.optional_rate, 0, 1_000_000)
-            && self.up() <= self.response
-            && self.down() <= 240
+    }
+
+    /// If not, it gets 4; asked of operands in range.
+    pub fn ramps_fit(&self) -> bool {
+        self.up() <= self.response && self.down() <= 240
     }
 }
 
@@ -175,7 +188,8 @@ impl Book {
         self.window_count <= WINDOWS
             && self.instruction_count <= INSTRUCTIONS
             && self.default_count <= DEFAULTS
-            && self.contract.sound()
+            && self.contract.in_range()
+            && self.contract.ramps_fit()
             && self.sound_windows()
             && self.sound_instructions()
             && self.sound_defaults()
@@ -230,7 +244,7 @@ impl Book {
     }
 
     /// The window that holds a minute; the windows stand in order.
-    fn window_of(&self, minute: i32) -> Option<usize> {
+    pub fn window_of(&self, minute: i32) -> Option<usize> {
         let used = &self.windows[..self.window_count];
         let after = used.partition_point(|window| window.start <= minute);
         let index = after.checked_sub(1)?;
@@ -245,10 +259,7 @@ fn nearest<const DIVISOR: i64>(number: i64) -> i64 {
 
 /// Whether each of the readings is one; without branches, so that it is quick.
 fn all_read(readings: &[i32]) -> bool {
-    let outside = readings.iter().fold(false, |outside, &kw| {
-        outside | (kw.wrapping_add(500_000) as u32 > 1_000_000)
-    });
-    !outside
+    readings.iter().fold(true, |all, &kw| all & is_reading(kw))
 }
 
 fn slice(meter: &[i32], from: i32, to: i32) -> &[i32] {

@@ -15,7 +15,7 @@ pub const REFUSALS: [u8; 19] = [
     1, 2, 3, 4, 5, 12, 13, 14, 15, 16, 17, 18, 19, 20, 21, 22, 23, 24, 25,
 ];
 
-const FEATURES: [&str; 62] = [
+const FEATURES: [&str; 66] = [
     "settled, generator",
     "settled, demand reducer",
     "settled, committed",
@@ -78,13 +78,25 @@ const FEATURES: [&str; 62] = [
     "table full",
     "reading below 0",
     "minutes without a reading",
+    "31 days",
+    "31 days, every table full",
+    "31 days, a reading in every minute",
+    "31 days, 1679 lines",
 ];
+
+/// Features that start like this are met in whole months alone, and must be
+/// met by a comparison on them.
+const WHOLE_MONTH: &str = "31 days";
+/// No month has more lines.
+const MOST_LINES: i64 = 1_679;
 
 #[derive(Default)]
 pub struct Coverage {
     pub files: usize,
     pub bytes: usize,
     pub longest: usize,
+    /// Whether some program had memory for whole months.
+    whole_months: bool,
     lines: usize,
     windows: usize,
     refused: usize,
@@ -101,6 +113,7 @@ impl Coverage {
         self.files += 1;
         self.bytes += file.len();
         self.longest = self.longest.max(file.len());
+        self.whole_months |= room.minutes as i64 >= DAYS.end() * DAY;
         self.count_operands(file);
         let mut book = Book::default();
         let mut meter = vec![NO_READING; room.minutes];
@@ -114,6 +127,20 @@ impl Coverage {
             }
             Ok(statement) => self.count_statement(&book, &meter, &statement),
         }
+    }
+
+    /// The features that may be met with the memory that there was.
+    fn features_to_meet(&self) -> impl Iterator<Item = &'static str> + '_ {
+        FEATURES
+            .into_iter()
+            .filter(|feature| self.whole_months || !feature.starts_with(WHOLE_MONTH))
+    }
+
+    pub fn whole_months_missing(&self) -> Vec<&'static str> {
+        self.features_to_meet()
+            .filter(|feature| feature.starts_with(WHOLE_MONTH))
+            .filter(|feature| !self.features.contains_key(feature))
+            .collect()
     }
 
     pub fn refusals_missing(&self) -> Vec<u8> {
@@ -205,12 +232,17 @@ impl Coverage {
             book.defaults.len() == DEFAULTS,
         ];
         self.met("table full", full.contains(&true));
+        let month = contract.days == *DAYS.end();
+        self.met("31 days", month);
+        self.met("31 days, every table full", month && !full.contains(&false));
         let span = &meter[..rules::span(&contract) as usize];
         let readings = span
             .iter()
             .filter(|&&kw| READING.contains(&i64::from(kw)))
             .count();
         self.met("minutes without a reading", readings < span.len());
+        let all_read = month && readings == span.len();
+        self.met("31 days, a reading in every minute", all_read);
         let below = span.iter().any(|&kw| kw != NO_READING && kw < 0);
         self.met("reading below 0", below);
         self.count_lines(&contract, book, statement);
@@ -225,6 +257,7 @@ impl Coverage {
         let most = 48 * contract.days - 1 + 3 * book.instructions.len() as i64;
         let lines = statement.lines.len() as i64;
         self.met("as many lines as the days hold", lines == most);
+        self.met("31 days, 1679 lines", lines == MOST_LINES);
         for line in &statement.lines {
             self.met("line, ramp up", line.stage == Stage::RampUp);
             self.met("line, steady", line.stage == Stage::Steady);
@@ -416,7 +449,7 @@ impl Coverage {
             println!("  {name:<20} {}", ends_shown(*counts));
         }
         println!("features of settled files");
-        for feature in FEATURES {
+        for feature in self.features_to_meet() {
             let count = self.features.get(feature).unwrap_or(&0);
             let mark = if *count == 0 { "  (never met)" } else { "" };
             println!("  {feature:<46} {count:>7}{mark}");

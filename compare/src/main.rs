@@ -54,14 +54,20 @@ const WHOLE_MONTHS: Room = Room {
 const LISTER: Side = Side {
     name: "lister",
     room: ELEVEN_DAYS,
-    target: Target { days: 11 },
+    target: Target {
+        days: 11,
+        whole: false,
+    },
     output: |file, room, switch| rows::list(file, room, switch).into_bytes(),
 };
 
 const MONTHS: Side = Side {
     name: "months",
     room: WHOLE_MONTHS,
-    target: Target { days: 31 },
+    target: Target {
+        days: 31,
+        whole: true,
+    },
     ..LISTER
 };
 
@@ -279,7 +285,7 @@ fn run() -> Result<bool, String> {
         write_files(directory, &options)?;
         return Ok(true);
     }
-    println!("seed {}, count {}", options.seed, options.count);
+    println!("seed {}", options.seed);
     let place = place()?;
     let outcome = compare_all(&options, &place);
     std::fs::remove_dir_all(&place).map_err(|error| error.to_string())?;
@@ -298,7 +304,11 @@ fn run() -> Result<bool, String> {
     if !missing.is_empty() {
         println!("never met: refusals {missing:?}");
     }
-    Ok(differences == 0 && missing.is_empty())
+    let no_months = coverage.whole_months_missing();
+    if !no_months.is_empty() {
+        println!("never met: {}", no_months.join("; "));
+    }
+    Ok(differences == 0 && missing.is_empty() && no_months.is_empty())
 }
 
 fn main() -> ExitCode {

@@ -175,10 +175,13 @@ fn instructions(
 ) -> Vec<(i64, i64)> {
     let mut instructions: Vec<(i64, i64)> = Vec::new();
     let reach = contract.recovery + contract.response;
+    // Spread over the month now and then, else as soon as can be.
+    let gap = random.pick(&[0, 0, contract.span() / (most + 1)]);
     for _ in 0..most {
-        let ready = instructions
+        let soonest = instructions
             .last()
             .map_or(3, |last| last.1 + contract.down() + contract.recovery);
+        let ready = soonest + random.between(0, gap);
         let mut issue = ready + random.pick(&[0, 0, 1, 2, 5, 30, 100]);
         let mut lasting = random.pick(&[0, 0, 1, 2, 29, 30, 31, 60, 200]);
         if let Some((start, end)) = some_window(random, windows) {

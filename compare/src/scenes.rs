@@ -11,6 +11,24 @@ use crate::random::Random;
 pub struct Target {
     /// The longest month that is likely to fit.
     pub days: i64,
+    /// Whether most files are to be of that length; else most are short.
+    pub whole: bool,
+}
+
+impl Target {
+    /// A day or two are enough for what the scene is about.
+    const ONE_DAY: Target = Target {
+        days: 1,
+        whole: false,
+    };
+
+    /// The days that a scene has drawn, or nearly always all of them.
+    fn days(self, random: &mut Random, drawn: i64) -> i64 {
+        if self.whole && !random.once_in(8) {
+            return self.days;
+        }
+        drawn
+    }
 }
 
 type Scene = fn(&mut Random, Target) -> Vec<u8>;
@@ -67,14 +85,20 @@ pub fn file(seed: u64, target: Target) -> Vec<u8> {
     scene(&mut random, target)
 }
 
+fn small_size(random: &mut Random, target: Target) -> Size {
+    let mut size = plan::small(random, target.days);
+    size.days = target.days(random, size.days);
+    size
+}
+
 fn small_plan(random: &mut Random, target: Target) -> Plan {
-    let size = plan::small(random, target.days);
+    let size = small_size(random, target);
     plan::draw(random, size)
 }
 
 /// A plan that has windows and instructions.
 fn busy_plan(random: &mut Random, target: Target) -> Plan {
-    let mut size = plan::small(random, target.days);
+    let mut size = small_size(random, target);
     size.windows = random.between(1, 6);
     size.instructions = random.between(1, 3);
     let mut plan = plan::draw(random, size);
@@ -100,7 +124,8 @@ fn settled(random: &mut Random, target: Target) -> Vec<u8> {
 
 /// Recovery at least 1 and windows behind each instruction's end.
 fn excluding(random: &mut Random, target: Target) -> Vec<u8> {
-    let days = random.between(1, 2.min(target.days));
+    let drawn = random.between(1, 2.min(target.days));
+    let days = target.days(random, drawn);
     let mut contract = plan::contract(random, days);
     contract.recovery = random.pick(&[1, 10, 30, 60, 89, 120]);
     let size = Size {
@@ -136,7 +161,8 @@ fn ramps_at_edges(random: &mut Random, _: Target) -> Vec<u8> {
 
 /// Many windows and many defaults, so that P is met below, at and above 30.
 fn faults(random: &mut Random, target: Target) -> Vec<u8> {
-    let days = random.between(2, target.days.min(4));
+    let drawn = random.between(2, target.days.min(4));
+    let days = target.days(random, drawn);
     let mut size = Size {
         days,
         windows: random.between(28, 60),
@@ -227,23 +253,25 @@ fn range_ends(random: &mut Random, target: Target) -> Vec<u8> {
     bytes(&entries)
 }
 
-/// A reading in every minute of a day or two.
+/// A reading in every minute of a day or two, or of a whole month.
 fn full_day(random: &mut Random, target: Target) -> Vec<u8> {
-    let mut plan = small_plan(random, Target { days: 1 });
-    plan.contract.days = random.between(1, 2.min(target.days));
+    let mut plan = small_plan(random, Target::ONE_DAY);
+    let drawn = random.between(1, 2.min(target.days));
+    plan.contract.days = target.days(random, drawn);
     let style = random.pick(&[Style::Likely, Style::Wide, Style::Small]);
     plan.read_all(random, style);
     bytes(&plan.entries(random))
 }
 
 /// As many lines as the days can hold: instructions without a gap, of whose
-/// stages none starts with a period. All days only now and then.
+/// stages none starts with a period. Often the other tables are full too.
 fn fullest(random: &mut Random, target: Target) -> Vec<u8> {
-    let days = if random.once_in(3) {
+    let drawn = if random.once_in(3) {
         target.days
     } else {
         random.between(1, 3.min(target.days))
     };
+    let days = target.days(random, drawn);
     let mut contract = plan::contract(random, days);
     contract.response = 1;
     contract.ramp_up = contract.kw;
@@ -269,10 +297,19 @@ fn fullest(random: &mut Random, target: Target) -> Vec<u8> {
     let style = random.pick(&[Style::Wide, Style::Halves, Style::Likely]);
     let all: Vec<i64> = (0..span).collect();
     plan.read(random, style, &all);
-    let count = random.between(0, 128);
+    let every_table = random.once_in(2);
+    let some = random.between(0, 128);
+    let count = if every_table { 128 } else { some };
     for index in 0..count.min(span / 60) {
         let state = i64::from(plan.contract.service == 1 && random.once_in(5));
         plan.windows.push((60 * index, 60 * index + 30, state));
+    }
+    if every_table {
+        for _ in 0..128 {
+            let window = random.pick(&plan.windows);
+            let default = plan::default_in(random, window);
+            plan.defaults.push(default);
+        }
     }
     bytes(&plan.entries(random))
 }
@@ -454,7 +491,7 @@ fn second_contract(random: &mut Random, target: Target) -> Vec<u8> {
 
 /// More days than the lister's memory; the longest that fits besides.
 fn too_long(random: &mut Random, _: Target) -> Vec<u8> {
-    let mut plan = small_plan(random, Target { days: 1 });
+    let mut plan = small_plan(random, Target::ONE_DAY);
     plan.contract.days = random.pick(&[11, 12, 12, 13, 31]);
     bytes(&plan.entries(random))
 }
@@ -638,15 +675,23 @@ fn strange_byte(random: &mut Random, target: Target) -> Vec<u8> {
     disturbed(random, &plan, 0, Entry::Raw(vec![byte]))
 }
 
+/// A file to be damaged.
+fn whole_file(random: &mut Random, target: Target) -> Vec<u8> {
+    if target.whole && random.once_in(3) {
+        return fullest(random, target);
+    }
+    settled(random, target)
+}
+
 fn cut_short(random: &mut Random, target: Target) -> Vec<u8> {
-    let mut file = settled(random, target);
+    let mut file = whole_file(random, target);
     let length = random.between(0, file.len() as i64 - 1) as usize;
     file.truncate(length);
     file
 }
 
 fn corrupted(random: &mut Random, target: Target) -> Vec<u8> {
-    let mut file = settled(random, target);
+    let mut file = whole_file(random, target);
     for _ in 0..random.between(1, 3) {
         if file.is_empty() {
             break;

@@ -8,12 +8,8 @@
 //   P minute kW  another writes a cell; G minute prints one
 //   Q            stops printing until the next Q
 // An empty line, and one that starts with #, is printed as it stands.
-mod cells;
-mod change;
-mod command;
 mod run;
 mod shown;
-mod text;
 
 use crate::run::lines;
 

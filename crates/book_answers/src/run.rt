@@ -1,29 +1,30 @@
 // The run of a script.
-use crate::cells::at_most;
-use crate::cells::fill;
-use crate::cells::get;
-use crate::cells::kw_of;
-use crate::cells::put;
-use crate::change::with_default;
-use crate::change::with_field;
-use crate::change::with_instruction;
-use crate::change::with_window;
-use crate::command::contract;
-use crate::command::fault;
-use crate::command::instruction;
-use crate::command::reading;
-use crate::command::window;
 use crate::shown::cell;
 use crate::shown::heading;
 use crate::shown::show;
-use crate::text::byte;
-use crate::text::first;
-use crate::text::line_end;
-use crate::text::signed;
-use crate::text::size;
 use book::Book;
 use book::Entry;
 use rules::entries::Command;
+use script::cells::at_most;
+use script::cells::fill;
+use script::cells::get;
+use script::cells::kw_of;
+use script::cells::lent;
+use script::cells::put;
+use script::change::with_default;
+use script::change::with_field;
+use script::change::with_instruction;
+use script::change::with_window;
+use script::command::contract;
+use script::command::fault;
+use script::command::instruction;
+use script::command::reading;
+use script::command::window;
+use script::text::byte;
+use script::text::first;
+use script::text::line_end;
+use script::text::signed;
+use script::text::size;
 
 // The book, the cells lent, and whether nothing is printed.
 pub struct Run {
@@ -46,7 +47,7 @@ fn entered(b: Book, letter: u8, line: &[u8], meter: &mut [i32]) -> Entry {
 
 fn enter(r: Run, letter: u8, line: &[u8], meter: &mut [i32]) -> Run {
     let mut next = r;
-    let n = at_most(r.cells, meter.len());
+    let n = lent(meter, r.cells);
     let b = r.book;
     let e = entered(b, letter, line, &mut meter[..n]);
     if !r.quiet {

@@ -1,0 +1,61 @@
+use Prim.Native.Nat.{_-_, _≤_}
+use borrow.Author.Needs.{needs}
+use Rattle.settlement_statements.proofs.rows.window_rows.Statement.{statement}
+use Rattle.settlement_statements.proofs.rows.window_rows.Tie as tie
+
+abbrev Inv-loop : tie.InvT-loop
+Inv-loop n windows i₀ i = i ≤ 128
+
+abbrev μ-loop : tie.MeasureT-loop
+μ-loop n windows i₀ i = 128 - i
+
+loop-holds : tie.Need-loop-holds Inv-loop μ-loop
+loop-holds c = search needs
+
+cast-at : tie.Need-cast-at Inv-loop μ-loop
+cast-at c = search needs
+
+mul-a : tie.Need-mul-a Inv-loop μ-loop
+mul-a c = search needs
+
+array-copy-out-a : tie.Need-array-copy-out-a Inv-loop μ-loop
+array-copy-out-a c = search needs
+
+add-window-row : tie.Need-add-window-row Inv-loop μ-loop
+add-window-row c = search needs
+
+window-row-requires : tie.Need-window-row-requires Inv-loop μ-loop
+window-row-requires c κs = search needs
+
+row-requires : tie.Need-row-requires Inv-loop μ-loop
+row-requires c κs = search needs
+
+add-i : tie.Need-add-i Inv-loop μ-loop
+add-i c = search needs
+
+loop-less : tie.Need-loop-less Inv-loop μ-loop
+loop-less c = search needs
+
+loop-again : tie.Need-loop-again Inv-loop μ-loop
+loop-again c = search needs
+
+returns : tie.Need-returns Inv-loop μ-loop
+returns c = search needs
+
+pub window-rows-spec : {M : Type 1} → statement M
+window-rows-spec =
+    tie.close
+    (tie.spec
+    Inv-loop
+    μ-loop
+    loop-holds
+    cast-at
+    mul-a
+    array-copy-out-a
+    add-window-row
+    window-row-requires
+    row-requires
+    add-i
+    loop-less
+    loop-again
+    returns)
