@@ -1,8 +1,20 @@
 -- `host::tables::window_at` meets its contract: its numbers are read in order.
+use mathlib.Core.Path.{_≡_, refl}
+use mathlib.Core.List.{List}
+use Prim.Native.Nat.{ℕ, _+_, _*_, min}
+use lib.ListN.{getD}
+use Rattle.rules.specs.declared.entries.Window.{Window}
 use Rattle.host.specs.Tables.{windowAt}
 use borrow.Author.Needs.{needs}
 use Rattle.host.proofs.tables.window_at.Statement.{statement}
 use Rattle.host.proofs.tables.window_at.Tie as tie
+
+-- a window of these numbers
+window-of :
+    (s : List ℕ) (i a b v y : ℕ) → a ≡ getD s (3 * i) 0 → b ≡ getD s (3 * i + 1) 0 → v ≡ getD s (3 * i + 2) 0 → y ≡ min v 255
+    → _≡_ {A = Window} (record { start = record { 0 = a }; end = record { 0 = b }; verdict = y }) (windowAt s i)
+unfolding windowAt
+window-of s i a b v y ea eb ev ey = rw (ea, eb, ey, ev) refl
 
 mul-number-at : tie.Need-mul-number-at
 mul-number-at c = search needs
@@ -35,8 +47,10 @@ byte-of-requires : tie.Need-byte-of-requires
 byte-of-requires c κs = search needs
 
 returns : tie.Need-returns
-unfolding windowAt
-returns c = cc
+returns c =
+    let a = c .before .before .before .before .before .args in
+    window-of (a .s .now) (a .i) _ _ _ _ (c .before .before .before .number-at .ensures) (c .before .before .number-at2 .ensures)
+    (c .before .number-at3 .ensures) (c .byte-of .ensures)
 
 pub window-at-spec : {M : Type 1} → statement M
 window-at-spec =
