@@ -1,11 +1,10 @@
 -- Numbers laid into memory behind others, two at a time.
 use mathlib.Core.Path.{_≡_, refl, sym, _∙_, ap}
 use mathlib.Core.List.{List, [], _∷_, _++_, append-assoc, append-nil}
-use Prim.Native.Nat.{ℕ, zero, suc, _+_, _*_, _≤_, _<_}
-use native.Mathlib.Numerals.{add-one}
+use Prim.Native.Nat.{ℕ, suc, _+_, _*_, _<_}
 use native.Mathlib.Omega.{arith}
 use lib.ListN.{length, getD, take, drop, set, length-append}
-use lib.Seq.{drop-cons, take-suc, take-all, length-take-le, append-snoc, set-at}
+use lib.Seq.{drop-cons, take-suc, append-snoc, set-at}
 use Rattle.energy.specs.Lists.{concatMap}
 use Rattle.rules.proofs.Taken.{concatMap-append}
 

@@ -1,8 +1,8 @@
 -- Settling a book into numbers by its answer, and how many lines it can have.
 use mathlib.Core.Path.{_≡_, refl, sym, _∙_, ap}
-use mathlib.Core.Bool.{Bool, true, false, cond, not}
+use mathlib.Core.Bool.{Bool, true, false, not}
 use mathlib.Core.List.{List, [], _∷_, _++_}
-use Prim.Native.Nat.{ℕ, _≤_, _<_, _/_}
+use Prim.Native.Nat.{ℕ, _≤_, _/_}
 use native.Mathlib.Omega.{arith}
 use lib.Dec.{ltb}
 use lib.IntN.{ℤ}
@@ -18,10 +18,10 @@ use Rattle.rules.proofs.LineBound.{lines-segments}
 use Rattle.book.specs.Book.{ledgerIn}
 use Rattle.book.specs.Sound.{sound}
 use Rattle.book.specs.declared.Book.{Book}
-use Rattle.settlement.specs.Numbers.{Numbered, numberBook, numberedBy}
+use Rattle.settlement.specs.Numbers.{numberBook, numberedBy}
 use Rattle.settlement.specs.declared.Settlement.{Settlement}
 use Rattle.host.specs.Answers.{numberOf}
-use Rattle.host.specs.Calls.{SettledBook, settleInto, sumsBy}
+use Rattle.host.specs.Calls.{settleInto, sumsBy}
 use Rattle.host.specs.Sums.{sumsOf}
 
 -- a statement's lines fit the memory lent for them: else it gets 26

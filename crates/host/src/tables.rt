@@ -1,7 +1,7 @@
 // The book that tables of numbers say.
 ghost use mathlib.Core.Path.{_≡_};
 ghost use mathlib.Core.List.{map};
-ghost use Prim.Native.Nat.{_+_, _<_, _≤_, min};
+ghost use Prim.Native.Nat.{_+_, _<_, min};
 ghost use lib.ListN.{getD};
 ghost use Rattle.energy.specs.Lists.{between};
 ghost use Rattle.host.specs.Tables.{bookOf, contractIn, defaultAt, instructionAt, windowAt};
