@@ -75,8 +75,8 @@ uint64_t stor_settle_file(const uint8_t *file, size_t file_length, int32_t *mete
  *   windows       start, end, verdict for each
  *   instructions  issue, cease for each
  *   defaults      minute, kind, reach for each
- * There are as many windows, instructions and defaults as their tables have whole entries. A number that a table lacks is 0, and one that is too wide
- * for its field stands as the field's largest value, so such a book is refused (11), as is every other that no list of commands leaves. */
+ * A contract of other than eleven numbers, a table that ends inside an entry and a number too wide for its field are refused (11), as is every book
+ * that no list of commands leaves. */
 uint8_t stor_settle_tables(const uint32_t *contract, size_t contract_length, const uint16_t *windows, size_t windows_length,
                            const uint16_t *instructions, size_t instructions_length, const uint16_t *defaults, size_t defaults_length,
                            const int32_t *meter, size_t meter_length, int64_t *lines, size_t lines_length, int64_t *sums, size_t sums_length);

@@ -232,6 +232,7 @@ fn tables_of_wrong_lengths_are_refused() {
     assert_eq!(change(|t| t.windows.truncate(2)), Err(refused(11, 0)));
     assert_eq!(change(|t| t.instructions.truncate(1)), Err(refused(11, 0)));
     assert_eq!(change(|t| t.defaults = vec![0, 1]), Err(refused(11, 0)));
+    assert_eq!(change(|t| t.windows.push(0)), Err(refused(11, 0)));
     // More entries than a table holds, each of them in order.
     assert_eq!(change(|t| t.windows = windows(129)), Err(refused(11, 0)));
     assert_eq!(
@@ -243,6 +244,28 @@ fn tables_of_wrong_lengths_are_refused() {
         Err(refused(11, 0))
     );
     assert!(change(|_| ()).is_ok());
+}
+
+#[test]
+fn contracts_of_other_lengths_are_refused() {
+    let tables = appendix_2_tables();
+    let numbers = [&tables.contract[..], &[0]].concat();
+    for length in 0..=numbers.len() {
+        let mut lines = [MARK; LINE_NUMBERS * APPENDIX_2_LINES];
+        let mut sums = [MARK; SUMS];
+        let number = library::settle_tables(
+            &numbers[..length],
+            &tables.windows,
+            &tables.instructions,
+            &tables.defaults,
+            appendix_2_read().meter(),
+            &mut lines,
+            &mut sums,
+        );
+        assert_eq!(number, if length == 11 { 0 } else { 11 });
+        let altered = lines.iter().chain(&sums).any(|&n| n != MARK);
+        assert_eq!(altered, length == 11);
+    }
 }
 
 #[test]

@@ -14,7 +14,7 @@ use Rattle.settlement.specs.Numbers.{Numbered, numberBook}
 use Rattle.stor.specs.Files.{LoadedFile, load}
 use Rattle.host.specs.Answers.{numberOf, packed}
 use Rattle.host.specs.Sums.{sumCount, sumsOf}
-use Rattle.host.specs.Tables.{bookOf}
+use Rattle.host.specs.Tables.{bookOf, entire}
 
 -- ---- a file entered
 
@@ -52,11 +52,13 @@ settleInto b meter lines sums =
       sums = sumsBy (s .settlement .answer) (s .settlement .statement) (b .nwindows) sums;
     }
 
--- the book that tables say, settled. Sums too short for a statement get 26 before all else
+-- the book that tables say, settled. Sums too short for a statement get 26 before all else, and tables with an entry cut short say no book: 11
 unfoldable pub settleTables : List ℕ → List ℕ → List ℕ → List ℕ → List ℤ → List ℤ → List ℤ → SettledBook
 settleTables contract windows instructions defaults meter lines sums =
     cond (ltb (length sums) sumCount) (record { number = 26; lines = lines; sums = sums })
+    (cond (entire (length contract) (length windows) (length instructions) (length defaults))
     (settleInto (bookOf contract windows instructions defaults) meter lines sums)
+    (record { number = 11; lines = lines; sums = sums }))
 
 -- ---- a file entered and settled
 

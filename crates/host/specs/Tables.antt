@@ -1,8 +1,10 @@
 -- The book that tables of numbers say: a contract, windows, instructions and defaults, each with its operands in the unit file's order. A number past
--- a table's end is 0, and one that is too wide for its field stands as the field's largest value, which is in no operand's range.
-use mathlib.Core.Bool.{true}
+-- a table's end is 0, as in every unused place, and one that is too wide for its field stands as the field's largest value, which is in no operand's
+-- range.
+use mathlib.Core.Bool.{Bool, true, _&&_}
 use mathlib.Core.List.{List, map}
-use Prim.Native.Nat.{ℕ, _+_, _*_, _/_, min}
+use Prim.Native.Nat.{ℕ, _+_, _*_, _/_, _%_, min}
+use lib.Dec.{eqb}
 use lib.IntN.{pos}
 use lib.ListN.{length, getD}
 use Rattle.energy.specs.Lists.{between}
@@ -68,3 +70,8 @@ bookOf contract windows instructions defaults =
       defaults = map (defaultAt defaults) (between 0 128);
       ndefaults = length defaults / 3;
     }
+
+-- tables of these lengths hold entries alone: one contract, and no window, instruction or default cut short
+unfoldable pub entire : ℕ → ℕ → ℕ → ℕ → Bool
+entire contract windows instructions defaults =
+    eqb contract 11 && eqb (windows % 3) 0 && eqb (instructions % 2) 0 && eqb (defaults % 3) 0

@@ -14,6 +14,7 @@ use settling::settle_book;
 use stor::file::load_file;
 use sums::SUMS;
 use tables::book_of;
+use tables::entire_tables;
 
 // Enters a whole unit file. The answer is the refusal's number, or 0, and 256 times the offset of the refused command, or the file's length.
 #[no_mangle]
@@ -67,6 +68,15 @@ pub extern "C" fn stor_settle_tables(
 {
     if sums.len() < SUMS {
         return 26;
+    }
+    let entire = entire_tables(
+        contract.len(),
+        windows.len(),
+        instructions.len(),
+        defaults.len(),
+    );
+    if !entire {
+        return 11;
     }
     let b = book_of(contract, windows, instructions, defaults);
     settle_book(b, meter, lines, sums)

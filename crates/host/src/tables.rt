@@ -4,7 +4,7 @@ ghost use mathlib.Core.List.{map};
 ghost use Prim.Native.Nat.{_+_, _<_, min};
 ghost use lib.ListN.{getD};
 ghost use Rattle.energy.specs.Lists.{between};
-ghost use Rattle.host.specs.Tables.{bookOf, contractIn, defaultAt, instructionAt, windowAt};
+ghost use Rattle.host.specs.Tables.{bookOf, contractIn, defaultAt, entire, instructionAt, windowAt};
 use book::Book;
 use energy::units::Kw;
 use energy::units::Minutes;
@@ -175,6 +175,18 @@ fn defaults_of(s: &[u16]) -> [Default; 128]
         i += 1;
     }
     defaults
+}
+
+// Whether tables of these lengths hold entries alone.
+pub(crate) fn entire_tables(
+    contract: usize,
+    windows: usize,
+    instructions: usize,
+    defaults: usize,
+) -> bool
+    ensures { λ r. ⌜ r ≡ entire contract windows instructions defaults ⌝ }
+{
+    (contract == 11) & (windows % 3 == 0) & (instructions % 2 == 0) & (defaults % 3 == 0)
 }
 
 // The closed book of these tables.
