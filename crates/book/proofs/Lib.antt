@@ -10,3 +10,4 @@ pub mod Follow
 pub mod Determined
 pub mod Left
 pub mod Kept
+pub mod Readings

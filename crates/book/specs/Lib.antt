@@ -2,3 +2,4 @@ pub mod Book
 pub mod Sound
 pub mod Enter
 pub mod Numbers
+pub mod Readings

@@ -1,14 +1,15 @@
 // The book of one unit: what has been entered, by value, and one method for each entry.
 //
 // Each method tests whether commands leave the book at all (11), and hands the answer on as `left` to the method behind it, which finds the
-// refusal or puts the entry into the book. Whoever enters a list of commands tests once and goes by `enter_known`.
+// refusal or puts the entry into the book. Whoever enters a list of commands tests once and goes by `enter_known`; a reading among them
+// goes by `meter::take_reading`, which is not handed the book.
 mod agreement;
 mod columns;
 mod defaults;
 mod empty;
 mod enter;
 mod instructions;
-mod meter;
+pub mod meter;
 mod refusals;
 mod sound;
 mod windows;

@@ -1,13 +1,15 @@
 // Meter memory: the cells that a contract marks, and the readings.
 ghost use mathlib.Core.Path.{_≡_};
+ghost use mathlib.Core.Bool.{cond};
 ghost use mathlib.Core.List.{_++_};
 ghost use Prim.Native.Nat.{_<_, _≤_};
 ghost use lib.Dec.{T};
 ghost use lib.ListN.{length, getD, set, drop, replicate};
 ghost use Rattle.rules.specs.Refusal.{isReading};
-ghost use Rattle.book.specs.Book.{missing};
+ghost use Rattle.book.specs.Book.{missing, putMeter};
 ghost use Rattle.book.specs.Enter.{Enters};
 ghost use Rattle.book.specs.Numbers.{refusalOf};
+ghost use Rattle.book.specs.Readings.{openSpan, takesReading};
 ghost use Rattle.book.specs.Sound.{sound};
 use crate::Book;
 use crate::Entry;
@@ -61,6 +63,57 @@ impl Book {
         let r22 = pick((at < span) & read, 22, 0);
         pick(beyond, 16, r22)
     }
+
+    // The span in which readings are taken into meter memory of `room` cells, 0 where none is. Only a contract and a close change it.
+    pub fn open_span(self, room: usize) -> usize
+        ensures { λ r. ⌜ r ≡ openSpan self room ⌝ }
+    {
+        let k = self.contract;
+        let span = span_of(k);
+        if self.agreed & !self.closed & (span <= room) {
+            span
+        } else {
+            0
+        }
+    }
+}
+
+// Takes a reading into a sound book whose open span this is, and says whether it did. A reading that the book refuses, and every other
+// command, is left for `enter_known`, which has the number. A month has 44,640 readings, and none of them changes the book: handing it
+// through each of them took most of the time.
+pub fn take_reading(span: usize, c: Command, meter: &mut [i32]) -> bool
+    ensures { λ r. ⌜ (r ≡ takesReading span (now (meter .entry)) c) × (now (meter .exit) ≡ cond r (putMeter (now (meter .entry)) c) (now (meter .entry))) ⌝ }
+{
+    match c {
+        Command::Contract(_) => false,
+        Command::Window(_) => false,
+        Command::Instruction(_) => false,
+        Command::Default(_) => false,
+        Command::Reading(r) => take_in_span(span, r, meter),
+        Command::Close => false,
+    }
+}
+
+// The same of a reading.
+fn take_in_span(span: usize, r: Reading, meter: &mut [i32]) -> bool
+    ensures { λ t. ⌜ (t ≡ takesReading span (now (meter .entry)) (Command.Reading r)) × (now (meter .exit) ≡ cond t (putMeter (now (meter .entry)) (Command.Reading r)) (now (meter .entry))) ⌝ }
+{
+    let taken = is_taken(span, r, meter);
+    if taken {
+        put_reading(r, meter);
+    }
+    taken
+}
+
+// Whether a reading is taken.
+fn is_taken(span: usize, r: Reading, meter: &[i32]) -> bool
+    ensures { λ t. ⌜ t ≡ takesReading span (now (meter .entry)) (Command.Reading r) ⌝ }
+{
+    let minute = r.minute;
+    let at = minute.0 as usize;
+    let held = cell(meter, minute);
+    let read = kw_from_to(Contract::READING_LEAST, Contract::READING_MOST, held);
+    (r.input_refusal() == 0) & (at < span) & (at < meter.len()) & !read
 }
 
 // The cell of a minute; past the end it counts as marked.

@@ -1,6 +1,6 @@
 -- A turn of the loop over a file: what is left of the file after it, and that the loop ends.
 use mathlib.Core.Path.{_≡_, refl, sym, ap, _∙_}
-use mathlib.Core.Bool.{Bool, true, false, true≢false, false≢true}
+use mathlib.Core.Bool.{Bool, true, false, cond, true≢false, false≢true}
 use mathlib.Core.List.{List}
 use Prim.Native.Nat.{ℕ, _+_, _-_, _≤_, _<_}
 use native.Mathlib.Omega.{arith}
@@ -13,12 +13,16 @@ use Rattle.rules.specs.declared.answer.Answer.the-variants.{Taken, Refused}
 use Rattle.rules.specs.declared.file.Read.{Read}
 use Rattle.rules.specs.declared.file.Read.the-variants.{Got, End}
 use Rattle.rules.specs.declared.file.Read.the-variants.{Refused as refusedʳ}
+use Rattle.book.specs.Book.{putMeter}
 use Rattle.book.specs.Enter.{enterBook, Entered}
+use Rattle.book.specs.Readings.{openSpan, takesReading}
+use Rattle.book.specs.Sound.{sound}
 use Rattle.book.specs.declared.Book.{Book}
 use Rattle.book.proofs.Kept.{Kept, kept}
+use Rattle.book.proofs.Readings.{reading-enters}
 use Rattle.unitfile.proofs.Steps.{got-within}
 use Rattle.stor.specs.Files.{LoadedFile, carriesOn, loadsOn}
-use Rattle.stor.specs.Turn.{goesBy, turnBy, turnAt}
+use Rattle.stor.specs.Turn.{goesBy, turnBy, turnAt, Stand, standBy, standAt}
 use Rattle.stor.specs.declared.file.Loaded.{Loaded}
 use Rattle.stor.specs.declared.file.Turn.{Turn}
 use Rattle.stor.proofs.Pieces.{from, from-step}
@@ -86,6 +90,59 @@ module _ (s : List ℕ) (at : ℕ) (b : Book) (meter : List ℤ) where
       go (refusedʳ n) = k
       go End = k
 
+-- ---- a turn without the book
+
+-- a command read is a reading that is taken, or it is left
+abbrev chosen : Bool → ℕ → ℕ → List ℤ → Command → Stand
+chosen x at next meter c = cond x (record { at = next; meter = putMeter meter c }) (record { at = at; meter = meter })
+
+module _ (span : ℕ) (s : List ℕ) (at : ℕ) (meter : List ℤ) where
+  -- what is left from there is what was left before it, for a sound book whose open span it is
+  stand-rest : (b : Book) → sound b ≡ true → span ≡ openSpan b (length meter)
+      → from s at b meter ≡ from s (standAt span s at meter .at) b (standAt span s at meter .meter)
+  unfolding standAt
+  stand-rest b k o = go (readAt s at) refl
+    where
+      answered : (c : Command) (next : ℕ) (x : Bool) → readAt s at ≡ Got c next → takesReading span meter c ≡ x
+          → from s at b meter ≡ from s (chosen x at next meter c .at) b (chosen x at next meter c .meter)
+      answered c next true e t =
+          from-step s at b meter ∙ ap (loadsOn (λ next b m. from s next b m) at b meter) e
+          ∙ ap (λ (x : Entered). carriesOn (λ b m. from s next b m) at (x .entry .answer) x) (reading-enters b meter c k (ap (λ n. takesReading n meter c) (sym o) ∙ t))
+      answered c next false e t = refl
+
+      go : (r : Read) → readAt s at ≡ r → from s at b meter ≡ from s (standBy span at meter r .at) b (standBy span at meter r .meter)
+      go (Got c next) e = answered c next (takesReading span meter c) e refl
+      go (refusedʳ n) e = refl
+      go End e = refl
+
+  -- it is within the file
+  stand-inside : at ≤ length s → standAt span s at meter .at ≤ length s
+  unfolding standAt
+  stand-inside h = go (readAt s at) refl
+    where
+      answered : (c : Command) (next : ℕ) (x : Bool) → next ≤ length s → chosen x at next meter c .at ≤ length s
+      answered c next true l = l
+      answered c next false l = h
+
+      go : (r : Read) → readAt s at ≡ r → standBy span at meter r .at ≤ length s
+      go (Got c next) e = answered c next (takesReading span meter c) (got-within s at e .1)
+      go (refusedʳ n) e = h
+      go End e = h
+
+  -- where it has not moved, meter memory is as it was
+  stand-still : standAt span s at meter .at ≤ at → standAt span s at meter .meter ≡ meter
+  unfolding standAt
+  stand-still = go (readAt s at) refl
+    where
+      answered : (c : Command) (next : ℕ) (x : Bool) → at < next → chosen x at next meter c .at ≤ at → chosen x at next meter c .meter ≡ meter
+      answered c next true l h = absurd (omega arith)
+      answered c next false l h = refl
+
+      go : (r : Read) → readAt s at ≡ r → standBy span at meter r .at ≤ at → standBy span at meter r .meter ≡ meter
+      go (Got c next) e h = answered c next (takesReading span meter c) (got-within s at e .0) h
+      go (refusedʳ n) e h = refl
+      go End e h = refl
+
 -- ---- the loop
 
 -- one turn more while the loop goes on
@@ -121,3 +178,15 @@ module _ (s : List ℕ) (l : Loaded) (meter : List ℤ) (r : Turn) (after : List
       go : (b : Bool) → r .going ≡ b → (length s - r .loaded .at) + more b < (length s - l .at) + 1
       go true e = omega (arith, moves e)
       go false e = omega (arith, stays e)
+
+-- a turn without the book, as the code has it
+module _ (s : List ℕ) (l : Loaded) (span : ℕ) (meter : List ℤ) (next : ℕ) (after : List ℤ) (stood : next ≡ standAt span s (l .at) meter .at)
+    (left : after ≡ standAt span s (l .at) meter .meter) where
+  pub read-again : Kept (l .book) → span ≡ openSpan (l .book) (length meter) → from s (l .at) (l .book) meter ≡ from s next (l .book) after
+  read-again k o = rw (stood, left) (stand-rest span s (l .at) meter (l .book) (k .left) o)
+
+  pub read-inside : l .at ≤ length s → next ≤ length s
+  read-inside h = rw stood (stand-inside span s (l .at) meter h)
+
+  pub read-none : next ≤ l .at → after ≡ meter
+  read-none h = left ∙ stand-still span s (l .at) meter (rw stood at h)

@@ -1,5 +1,5 @@
 -- One turn of the loop over a file: the command at a position is read and entered. What the loop's own functions promise.
-use mathlib.Core.Bool.{true, false}
+use mathlib.Core.Bool.{true, false, cond}
 use mathlib.Core.List.{List}
 use Prim.Native.Nat.{ℕ}
 use lib.IntN.{ℤ}
@@ -9,7 +9,9 @@ use Rattle.rules.specs.declared.answer.Answer.the-variants.{Taken, Refused}
 use Rattle.rules.specs.declared.file.Read.{Read}
 use Rattle.rules.specs.declared.file.Read.the-variants.{Got, End}
 use Rattle.rules.specs.declared.file.Read.the-variants.{Refused as refusedʳ}
+use Rattle.book.specs.Book.{putMeter}
 use Rattle.book.specs.Enter.{enterBook}
+use Rattle.book.specs.Readings.{takesReading}
 use Rattle.book.specs.declared.Book.{Book}
 use Rattle.stor.specs.declared.file.Loaded.{Loaded}
 use Rattle.stor.specs.declared.file.Turn.{Turn}
@@ -38,3 +40,20 @@ turnBy at b meter End = record { turn = stopsAt at Taken b; meter = meter }
 -- one turn
 unfoldable pub turnAt : List ℕ → ℕ → Book → List ℤ → Turned
 turnAt s at b meter = turnBy at b meter (readAt s at)
+
+-- ---- a turn without the book
+
+-- where the loop stands, and meter memory then
+pub record Stand : Type 0 where
+  pub at : ℕ
+  pub meter : List ℤ
+
+-- a reading that is taken in the span goes into meter memory; whatever else was read is left for a turn with the book
+abbrev pub standBy : ℕ → ℕ → List ℤ → Read → Stand
+standBy span at meter (Got c next) = cond (takesReading span meter c) (record { at = next; meter = putMeter meter c }) (record { at = at; meter = meter })
+standBy span at meter (refusedʳ n) = record { at = at; meter = meter }
+standBy span at meter End = record { at = at; meter = meter }
+
+-- after the reading at a position
+unfoldable pub standAt : ℕ → List ℕ → ℕ → List ℤ → Stand
+standAt span s at meter = standBy span at meter (readAt s at)

@@ -1,0 +1,105 @@
+-- A reading that is taken by its book's open span: what is known of it, and that entering it does the same.
+use mathlib.Core.Path.{_≡_, refl, sym, ap, _∙_}
+use mathlib.Core.Bool.{Bool, true, false, not, _&&_, cond, false≢true}
+use mathlib.Core.List.{List}
+use Prim.Native.Nat.{ℕ, _≤_, _<_}
+use native.Mathlib.Omega.{arith}
+use lib.IntN.{ℤ}
+use lib.Dec.{T, eqb, leb, ltb}
+use lib.ListN.{length, getD}
+use borrow.Author.Tests.{ltb-true, leb-true, lt-ltb, le-ltb, lt-leb, not-true}
+use Rattle.energy.proofs.Tests.{to-T, on-and}
+use Rattle.rules.specs.Ledger.{spanOf}
+use Rattle.rules.specs.Refusal.{from-to, isReading, inRange, rampTooLong, badWindow}
+use Rattle.rules.specs.Input.{inputRefusal}
+use Rattle.rules.specs.declared.answer.Answer.the-variants.{Taken}
+use Rattle.rules.specs.declared.entries.Reading.{Reading}
+use Rattle.rules.specs.declared.entries.Command.{Command}
+use Rattle.rules.specs.declared.entries.Command.the-variants.{Contract as contractᶜ, Window as windowᶜ, Instruction as instructionᶜ, Default as defaultᶜ, Reading as readingᶜ, Close as closeᶜ}
+use Rattle.book.specs.Book.{missing, putMeter}
+use Rattle.book.specs.Enter.{Entered, enterBook}
+use Rattle.book.specs.Numbers.{refusalOf, firstNumber}
+use Rattle.book.specs.Readings.{openSpan, takesReading}
+use Rattle.book.specs.Sound.{sound}
+use Rattle.book.specs.declared.Book.{Book}
+use Rattle.book.specs.declared.Entry.{Entry}
+use Rattle.book.proofs.Numbers.{input-none, firstOf, met-late, reading-later}
+use Rattle.book.proofs.Entered.{taken-entry}
+
+-- ---- the tests
+
+record Tests (span : ℕ) (meter : List ℤ) (r : Reading) : Type 0 where
+  input : eqb (inputRefusal (readingᶜ r)) 0 ≡ true
+  inside : r .minute .0 < span
+  held : r .minute .0 < length meter
+  unread : isReading (getD meter (r .minute .0) missing) ≡ false
+
+tests : (span : ℕ) (meter : List ℤ) (r : Reading) → takesReading span meter (readingᶜ r) ≡ true → Tests span meter r
+unfolding takesReading
+tests span meter r t =
+    let m : ℕ = r .minute .0 in
+    let p = on-and (eqb (inputRefusal (readingᶜ r)) 0 && ltb m span && ltb m (length meter)) (not (isReading (getD meter m missing))) t in
+    let q = on-and (eqb (inputRefusal (readingᶜ r)) 0 && ltb m span) (ltb m (length meter)) (p .0) in
+    let o = on-and (eqb (inputRefusal (readingᶜ r)) 0) (ltb m span) (q .0) in
+    record { input = o .0; inside = ltb-true m span (o .1); held = ltb-true m (length meter) (q .1); unread = not-true (isReading (getD meter m missing)) (p .1) }
+
+-- such a reading has a cell, and fits it
+pub taken-fits : (span : ℕ) (meter : List ℤ) (r : Reading) → takesReading span meter (readingᶜ r) ≡ true → (r .minute .0 < length meter) × T (isReading (r .kw .0))
+taken-fits span meter r t =
+    let p = tests span meter r t in
+    let n : inRange (readingᶜ r) ≡ true = on-and (inRange (readingᶜ r)) (not (rampTooLong (readingᶜ r)) && not (badWindow (readingᶜ r))) (sym (input-none (readingᶜ r)) ∙ p .input) .0 in
+    (p .held, to-T (on-and (from-to 0 44640 (r .minute .0)) (isReading (r .kw .0)) n .1))
+
+-- ---- the open span
+
+record Open (b : Book) (room : ℕ) : Type 0 where
+  agreed : b .agreed ≡ true
+  unclosed : b .closed ≡ false
+  fits : spanOf (b .contract) ≤ room
+  whole : openSpan b room ≡ spanOf (b .contract)
+
+-- a span with a minute in it is the contract's
+opened : (b : Book) (room m : ℕ) → m < openSpan b room → Open b room
+unfolding openSpan
+opened b room m h = go (b .agreed) (b .closed) (leb (spanOf (b .contract)) room) refl refl refl h
+  where
+    go : (a z l : Bool) → b .agreed ≡ a → b .closed ≡ z → leb (spanOf (b .contract)) room ≡ l → m < cond (a && not z && l) (spanOf (b .contract)) 0 → Open b room
+    go true false true p q r h = record { agreed = p; unclosed = q; fits = leb-true (spanOf (b .contract)) room r; whole = rw (p, q, r) }
+    go true false false p q r h = absurd (omega arith)
+    go true true l p q r h = absurd (omega arith)
+    go false z l p q r h = absurd (omega arith)
+
+-- ---- entering
+
+first-none : (input : ℕ) (left closed agreed short : Bool) → eqb input 0 ≡ true → left ≡ true → closed ≡ false → agreed ≡ true → short ≡ false
+    → firstNumber input left closed agreed false short ≡ 0
+unfolding firstNumber
+first-none input left closed agreed short p q r s t = rw (p, q, r, s, t)
+
+module _ (b : Book) (meter : List ℤ) (s : sound b ≡ true) (r : Reading) (t : takesReading (openSpan b (length meter)) meter (readingᶜ r) ≡ true) where
+  -- no condition holds
+  unrefused : refusalOf b meter (readingᶜ r) ≡ 0
+  unrefused =
+      let p = tests (openSpan b (length meter)) meter r t in
+      let o = opened b (length meter) (r .minute .0) (p .inside) in
+      let first : firstOf b meter (readingᶜ r) ≡ 0 =
+          first-none (inputRefusal (readingᶜ r)) (sound b) (b .closed) (b .agreed) (ltb (length meter) (spanOf (b .contract))) (p .input) s (o .unclosed) (o .agreed) (le-ltb (length meter) (spanOf (b .contract)) (o .fits)) in
+      let below : r .minute .0 < spanOf (b .contract) = omega (arith, p .inside, o .whole) in
+      met-late b meter (readingᶜ r) 0 (sym first) refl .number ∙ reading-later b meter (o .agreed) r
+      ∙ rw (lt-leb (spanOf (b .contract)) (r .minute .0) below, lt-ltb (r .minute .0) (spanOf (b .contract)) below, p .unread)
+
+entered-is : (x : Entered) (e : Entry) (m : List ℤ) → e ≡ x .entry → m ≡ x .meter → x ≡ record { entry = e; meter = m }
+entered-is x e m p q i = record { entry = sym p i; meter = sym q i }
+
+-- a sound book takes it, and is as it was
+pub reading-enters : (b : Book) (meter : List ℤ) (c : Command) → sound b ≡ true → takesReading (openSpan b (length meter)) meter c ≡ true
+    → enterBook b meter c ≡ record { entry = record { answer = Taken; book = b }; meter = putMeter meter c }
+unfolding takesReading
+reading-enters b meter (contractᶜ k) s t = absurd (false≢true t)
+reading-enters b meter (windowᶜ w) s t = absurd (false≢true t)
+reading-enters b meter (instructionᶜ i) s t = absurd (false≢true t)
+reading-enters b meter (defaultᶜ d) s t = absurd (false≢true t)
+reading-enters b meter (readingᶜ r) s t =
+    let e = taken-entry b meter (readingᶜ r) 0 (sym (unrefused b meter s r t)) refl in
+    entered-is (enterBook b meter (readingᶜ r)) (record { answer = Taken; book = b }) (putMeter meter (readingᶜ r)) (e .entry) (e .meter)
+reading-enters b meter closeᶜ s t = absurd (false≢true t)
