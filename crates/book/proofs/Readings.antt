@@ -83,7 +83,7 @@ module _ (b : Book) (meter : List ℤ) (s : sound b ≡ true) (r : Reading) (t :
       let p = tests (openSpan b (length meter)) meter r t in
       let o = opened b (length meter) (r .minute .0) (p .inside) in
       let first : firstOf b meter (readingᶜ r) ≡ 0 =
-          first-none (inputRefusal (readingᶜ r)) (sound b) (b .closed) (b .agreed) (ltb (length meter) (spanOf (b .contract))) (p .input) s (o .unclosed) (o .agreed) (le-ltb (length meter) (spanOf (b .contract)) (o .fits)) in
+      first-none (inputRefusal (readingᶜ r)) (sound b) (b .closed) (b .agreed) (ltb (length meter) (spanOf (b .contract))) (p .input) s (o .unclosed) (o .agreed) (le-ltb (length meter) (spanOf (b .contract)) (o .fits)) in
       let below : r .minute .0 < spanOf (b .contract) = omega (arith, p .inside, o .whole) in
       met-late b meter (readingᶜ r) 0 (sym first) refl .number ∙ reading-later b meter (o .agreed) r
       ∙ rw (lt-leb (spanOf (b .contract)) (r .minute .0) below, lt-ltb (r .minute .0) (spanOf (b .contract)) below, p .unread)

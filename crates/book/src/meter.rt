@@ -112,8 +112,8 @@ fn is_taken(span: usize, r: Reading, meter: &[i32]) -> bool
     let minute = r.minute;
     let at = minute.0 as usize;
     let held = cell(meter, minute);
-    let read = kw_from_to(Contract::READING_LEAST, Contract::READING_MOST, held);
-    (r.input_refusal() == 0) & (at < span) & (at < meter.len()) & !read
+    let full = kw_from_to(Contract::READING_LEAST, Contract::READING_MOST, held);
+    (r.input_refusal() == 0) & (at < span) & (at < meter.len()) & !full
 }
 
 // The cell of a minute; past the end it counts as marked.

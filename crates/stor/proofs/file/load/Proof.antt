@@ -85,8 +85,8 @@ loop-again-2 c =
     let a = d .before .before .before .before .before .after-reading .ensures in
     let inv = at .loop .inv in (
       sym (again s (at .loop .l) _ r _ (e .0) (e .1))
-      ∙ ap (from s (at .loop .l .at) (at .loop .l .book)) (read-none s (at .loop .l) (at .loop .span) (at .loop .meter) _ _ (a .0) (a .1) (d .before .before .before .if1 .left))
-      ∙ (rw (d .before .before .before .before .before .before .before .loop-test .taken) at (inv .0)),
+          ∙ ap (from s (at .loop .l .at) (at .loop .l .book)) (read-none s (at .loop .l) (at .loop .span) (at .loop .meter) _ _ (a .0) (a .1) (d .before .before .before .if1 .left))
+          ∙ (rw (d .before .before .before .before .before .before .before .loop-test .taken) at (inv .0)),
       keeps s (at .loop .l) _ r _ (e .0) (e .1) (inv .1),
       inside s (at .loop .l) _ r _ (e .0) (e .1) (inv .2),
       search needs,
