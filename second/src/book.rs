@@ -4,7 +4,7 @@
 
 use super::bytes::{self, Command, Contract, DefaultEntry, Instruction, Read, Window};
 use super::rules::{self, *};
-use super::switches::Switch;
+use super::switches::{Switch, Wrong};
 
 #[derive(Clone, PartialEq, Eq, Debug, Default)]
 pub struct Book {
@@ -134,18 +134,13 @@ fn refused_by_state(
         Command::Window(w) => {
             refuse_if(w.end > span, 16)?;
             refuse_if(w.rejected == 1 && contract.service == 0, 17)?;
-            if let Some(last) = book.windows.last() {
-                refuse_if(w.start < last.end, 18)?;
-            }
+            refuse_if(overlaps_last(book, w, switch), 18)?;
             refuse_if(book.windows.len() == WINDOWS, 23)
         }
         Command::Instruction(i) => {
             refuse_if(instruction_end(contract, i, switch) > span, 16)?;
             refuse_if(i.cease < response_expires(contract, i), 19)?;
-            if let Some(last) = book.instructions.last() {
-                let ready = instruction_end(contract, last, switch) + contract.recovery;
-                refuse_if(i.issue < ready, 20)?;
-            }
+            refuse_if(i.issue < recovered(book, contract, switch), 20)?;
             refuse_if(book.instructions.len() == INSTRUCTIONS, 23)
         }
         Command::Default(d) => {
@@ -155,10 +150,34 @@ fn refused_by_state(
         }
         Command::Reading(r) => {
             refuse_if(r.minute >= span, 16)?;
-            refuse_if(has_reading(meter, r.minute), 22)
+            refuse_if(already_read(meter, r.minute, switch), 22)
         }
         Command::Close => Ok(()),
     }
+}
+
+/// Touching is no overlap.
+fn overlaps_last(book: &Book, window: &Window, switch: Switch) -> bool {
+    book.windows.last().is_some_and(|last| {
+        let touches = window.start == last.end;
+        window.start < last.end || touches && switch.is(Wrong::TouchingRefused)
+    })
+}
+
+/// From when on the unit takes an instruction: the first one waits for nothing.
+fn recovered(book: &Book, contract: &Contract, switch: Switch) -> i64 {
+    match book.instructions.last() {
+        Some(last) => instruction_end(contract, last, switch) + contract.recovery,
+        None if switch.is(Wrong::RecoveryFromZero) => contract.recovery,
+        None => 0,
+    }
+}
+
+fn already_read(meter: &[i32], minute: i64, switch: Switch) -> bool {
+    if switch.is(Wrong::OnlyMarkEmpty) {
+        return meter[minute as usize] != NO_READING;
+    }
+    has_reading(meter, minute)
 }
 
 /// In a window entered, whether it is live or not.

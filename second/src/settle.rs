@@ -144,9 +144,10 @@ pub fn active_minutes(
 
 /// The minutes without whose readings there is no settlement.
 pub fn needed_minutes(contract: &Contract, instruction: &Instruction, switch: Switch) -> Vec<i64> {
-    let mut needed = base_minutes(instruction).to_vec();
+    let base = base_minutes(instruction);
+    let mut needed = base.to_vec();
     for (minute, _) in active_minutes(contract, instruction, switch) {
-        if !needed.contains(&minute) {
+        if !base.contains(&minute) {
             needed.push(minute);
         }
     }

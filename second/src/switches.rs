@@ -35,10 +35,16 @@ pub enum Wrong {
     HalfAway,
     /// Ramp minutes are taken down to a whole minute (but at least 1).
     RampsDown,
+    /// A window may not start where the last one ends.
+    TouchingRefused,
+    /// The first instruction waits for the recovery too, from minute 0 on.
+    RecoveryFromZero,
+    /// Every cell but a marked one has a reading when another is entered.
+    OnlyMarkEmpty,
 }
 
 /// The names by which the command line knows the switches.
-pub const SWITCHES: [(&str, Wrong); 16] = [
+pub const SWITCHES: [(&str, Wrong); 19] = [
     ("cap-by-minute", Wrong::CapByMinute),
     ("base-rounded", Wrong::BaseRounded),
     ("whole-ramp", Wrong::WholeRamp),
@@ -58,6 +64,9 @@ pub const SWITCHES: [(&str, Wrong); 16] = [
     ("half-down", Wrong::HalfDown),
     ("half-away", Wrong::HalfAway),
     ("ramps-down", Wrong::RampsDown),
+    ("touching-refused", Wrong::TouchingRefused),
+    ("recovery-from-zero", Wrong::RecoveryFromZero),
+    ("only-mark-empty", Wrong::OnlyMarkEmpty),
 ];
 
 /// The rules to go by: the right ones, or all but one of them.
