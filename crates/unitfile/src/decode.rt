@@ -2,7 +2,10 @@
 use crate::command::command_of;
 use crate::command::reading_of;
 use crate::number::number_in;
+use crate::table::KW_WIDTH;
+use crate::table::MINUTE_WIDTH;
 use crate::table::READING_BYTE;
+use crate::table::READING_LENGTH;
 use crate::table::row_of;
 use rules::entries::Command;
 use rules::file::Read;
@@ -38,23 +41,26 @@ fn reading_operands(s: &[u8], at: usize) -> [u64; 11]
     ensures { λ r. ⌜ r ≡ padded (operands (2 ∷ 4 ∷ []) (drop at (now (s .entry)))) ⌝ }
 {
     let mut v = [0u64; 11];
-    v[0] = number_in(&s[at..at + 2]);
-    v[1] = number_in(&s[at + 2..at + 6]);
+    let kw = at + MINUTE_WIDTH as usize;
+    let end = kw + KW_WIDTH as usize;
+    v[0] = number_in(&s[at..kw]);
+    v[1] = number_in(&s[kw..end]);
     v
 }
 
-// What stands at a position with a reading's byte. Most of a file is readings: by widths that are known here they are read in less than
-// half the time that the table's rows take.
+// What stands at a position with a reading's byte. Most of a file is readings: by widths that the compiler knows they are read in less than
+// half the time that a row of the table takes.
 fn reading_at(s: &[u8], at: usize) -> Read
     requires { ⌜ (at < length (now s)) × (getD (now s) at 0 ≡ 0x4D) ⌝ }
     ensures { λ r. ⌜ r ≡ readAt (now (s .entry)) at ⌝ }
 {
-    if s.len() - at < 7 {
+    let whole = READING_LENGTH as usize;
+    if s.len() - at < whole {
         Read::Refused(2)
     } else {
         let v = reading_operands(s, at + 1);
         let r = reading_of(v);
-        Read::Got(Command::Reading(r), at + 7)
+        Read::Got(Command::Reading(r), at + whole)
     }
 }
 

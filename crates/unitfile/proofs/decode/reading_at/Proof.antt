@@ -45,6 +45,9 @@ module _ (s : List ℕ) (at : ℕ) (inside : at < length s) (byte : getD s at 0 
     unfolding total
     got r e room = rw (e, read, command-padded, ← byte) (sym (found-reads (entire inside known room)))
 
+cast-whole : tie.Need-cast-whole
+cast-whole c = search needs
+
 sub-if1 : tie.Need-sub-if1
 sub-if1 c = search needs
 
@@ -59,8 +62,8 @@ reading-of-requires c κs =
     let a = c .before .before .before in
     fits (a .args .s .now) (a .args .at) (a .pre .0) (a .pre .1) _ (c .reading-operands .ensures) (λ k. c .before .before .shared-slice-known .given k .fits)
 
-add-t9 : tie.Need-add-t9
-add-t9 c = search needs
+add-t10 : tie.Need-add-t10
+add-t10 c = search needs
 
 returns : tie.Need-returns
 returns c = let a = c .before .before in too-short (a .args .s .now) (a .args .at) (a .pre .0) (a .pre .1) (c .if1 .taken)
@@ -74,10 +77,11 @@ pub reading-at-spec : {M : Type 1} → statement M
 reading-at-spec =
     tie.close
     (tie.spec
+    cast-whole
     sub-if1
     add-reading-operands
     reading-operands-requires
     reading-of-requires
-    add-t9
+    add-t10
     returns
     returns-2)

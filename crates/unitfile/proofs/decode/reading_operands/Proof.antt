@@ -10,8 +10,17 @@ use Rattle.unitfile.specs.Table.{padded}
 use Rattle.unitfile.proofs.decode.reading_operands.Statement.{statement}
 use Rattle.unitfile.proofs.decode.reading_operands.Tie as tie
 
-add-number-in : tie.Need-add-number-in
-add-number-in c = search needs
+cast-kw : tie.Need-cast-kw
+cast-kw c = search needs
+
+add-kw : tie.Need-add-kw
+add-kw c = search needs
+
+cast-end : tie.Need-cast-end
+cast-end c = search needs
+
+add-end : tie.Need-add-end
+add-end c = search needs
 
 sub-number-in : tie.Need-sub-number-in
 sub-number-in c = search needs
@@ -27,12 +36,6 @@ number-in-requires c κs = search needs
 
 array-write-v : tie.Need-array-write-v
 array-write-v c = search needs
-
-add-number-in-2 : tie.Need-add-number-in-2
-add-number-in-2 c = search needs
-
-add-number-in-3 : tie.Need-add-number-in-3
-add-number-in-3 c = search needs
 
 sub-number-in-2 : tie.Need-sub-number-in-2
 sub-number-in-2 c = search needs
@@ -55,7 +58,7 @@ returns c =
     let at = c .before .before .before .before .before .args .at in
     let s = c .before .before .before .before .before .args .s .now in
     let two : at + 2 - at ≡ 2 = omega arith in
-    let four : at + 6 - (at + 2) ≡ 4 = omega arith in
+    let four : at + 2 + 4 - (at + 2) ≡ 4 = omega arith in
     let minute : c .before .before .number-in .result ≡ wordFrom 0 (take 2 (drop at s)) = rw two at (c .before .before .number-in .ensures) in
     let kw : c .number-in2 .result ≡ wordFrom 0 (take 4 (drop (at + 2) s)) = rw four at (c .number-in2 .ensures) in
     rw (minute, kw, drop-drop 2 at s)
@@ -64,14 +67,15 @@ pub reading-operands-spec : {M : Type 1} → statement M
 reading-operands-spec =
     tie.close
     (tie.spec
-    add-number-in
+    cast-kw
+    add-kw
+    cast-end
+    add-end
     sub-number-in
     part-number-in-start
     part-number-in-end
     number-in-requires
     array-write-v
-    add-number-in-2
-    add-number-in-3
     sub-number-in-2
     part-number-in-start-2
     part-number-in-end-2
