@@ -15,6 +15,13 @@ pub const READING_BYTE: u8 = 0x4D;
 
 pub const CLOSE_BYTE: u8 = 0x5A;
 
+// A reading's row, for the decoder's own way with readings: the widths of its minute and its kW, and its whole length.
+pub const MINUTE_WIDTH: u8 = 2;
+
+pub const KW_WIDTH: u8 = 4;
+
+pub const READING_LENGTH: u8 = 7;
+
 // A command in the table.
 pub struct Row {
     pub byte: u8,
@@ -52,9 +59,9 @@ const TABLE: [Row; 6] = [
     },
     Row {
         byte: READING_BYTE,
-        length: 7,
+        length: READING_LENGTH,
         count: 2,
-        widths: [2, 4, 0, 0, 0, 0, 0, 0, 0, 0, 0],
+        widths: [MINUTE_WIDTH, KW_WIDTH, 0, 0, 0, 0, 0, 0, 0, 0, 0],
     },
     Row {
         byte: CLOSE_BYTE,
