@@ -1,10 +1,10 @@
 # Sourced by the tests outside the crates, from the repository's root.
 command -v rustc >/dev/null || { apt-get update -qq && apt-get install -y -qq rustc >/dev/null; }
-build=target/outside
+# Each test has a folder of its own, since the gate runs them side by side.
+build=target/tests/$(basename "$(dirname "$0")")
 mkdir -p "$build"
 
-# compile NAME SOURCE [OPTION..]: a program at $build/NAME. One that is newer than all that programs are made from stays, so that two
-# tests that need it build it once.
+# compile NAME SOURCE [OPTION..]: a program at $build/NAME. One that is newer than all that programs are made from stays.
 compile() {
     local program=$build/$1
     if [ -x "$program" ] && [ -z "$(newer_than "$program")" ]; then

@@ -16,7 +16,6 @@ pub mod Busiest
 pub mod Opened
 pub mod Figures
 pub mod Corners
-pub mod Refused
 pub mod Bounds
 pub mod Operands
 pub mod Reread

@@ -10,7 +10,6 @@ pub mod File
 pub mod Examples
 pub mod Figures
 pub mod Corners
-pub mod Refused
 pub mod Bounds
 pub mod Reread
 pub mod FileLength

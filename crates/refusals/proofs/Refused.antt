@@ -1,7 +1,7 @@
 -- Every example of what is taken and what is turned down, by computation.
 use mathlib.Core.Path.{refl}
-use Rattle.rules.specs.Refused.{Refusals}
+use Rattle.refusals.specs.Refused.{Refusals}
 use Rattle.rules.proofs.Opened.{opened}
 
 pub refusals : Refusals
 unfolding opened
