@@ -12,8 +12,8 @@ use Rattle.rules.specs.declared.contract.Contract.{Contract}
 use Rattle.rules.specs.declared.entries.Window.{Window}
 use Rattle.rules.specs.declared.entries.Instruction.{Instruction}
 use Rattle.rules.specs.declared.entries.Default.{Default}
-use Rattle.book.specs.Book.{noWindow, noInstruction, noDefault}
-use Rattle.book.specs.Sound.{sound, Shaped, isNoWindow, isNoInstruction, isNoDefault}
+use Rattle.tables.specs.Unused.{noWindow, noInstruction, noDefault, isNoWindow, isNoInstruction, isNoDefault}
+use Rattle.book.specs.Sound.{sound, Shaped}
 use Rattle.book.specs.declared.Book.{Book}
 use Rattle.book.proofs.Tested.{Tables, sound-parts}
 pub use Rattle.book.proofs.Tested.{empty-contract}

@@ -28,7 +28,7 @@ use Rattle.book.specs.Enter.{Enters, enterBook}
 use Rattle.book.specs.Numbers.{refusalOf}
 use Rattle.book.specs.Sound.{sound}
 use Rattle.book.specs.declared.Book.{Book}
-use Rattle.book.proofs.Tables.{has-room}
+use Rattle.tables.proofs.Tables.{has-room}
 use Rattle.book.proofs.Tested.{sound-parts}
 
 -- ---- numbers and refusals

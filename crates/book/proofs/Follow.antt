@@ -28,10 +28,11 @@ use Rattle.rules.proofs.Reached.{step, start}
 use Rattle.rules.proofs.Taken.{grown, ledgerOf-snoc, Allowed, allowed}
 use Rattle.rules.proofs.FileLength.{span-fits}
 use Rattle.book.specs.Book.{emptyBook, ledgerIn, putBook, putMeter, cell, missing}
-use Rattle.book.specs.Sound.{sound, Shaped, tableTests, emptyTests, noContractTests, isNoWindow, isNoInstruction, isNoDefault}
+use Rattle.tables.specs.Unused.{noContractTests, isNoWindow, isNoInstruction, isNoDefault}
+use Rattle.book.specs.Sound.{sound, Shaped, tableTests, emptyTests}
 use Rattle.book.specs.Enter.{enterBook, enteredBy}
 use Rattle.book.specs.declared.Book.{Book}
-use Rattle.book.proofs.Tables.{has-room}
+use Rattle.tables.proofs.Tables.{has-room}
 use Rattle.book.proofs.Tested.{Tables, contents, sound-parts, is-sound, empty-contract}
 pub use Rattle.book.proofs.Tested.{contract-is}
 use Rattle.book.proofs.Holds.{holds-contract, holds-window, holds-instruction, holds-default, holds-reading, holds-close}

@@ -1,9 +1,6 @@
-pub mod Tables
 pub mod Tested
-pub mod Search
 pub mod Cells
 pub mod Numbers
-pub mod Walks
 pub mod Entered
 pub mod Holds
 pub mod Follow

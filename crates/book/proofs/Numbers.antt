@@ -24,23 +24,13 @@ use Rattle.rules.specs.declared.entries.Reading.{Reading}
 use Rattle.rules.specs.declared.entries.Command.{Command}
 use Rattle.rules.specs.declared.entries.Command.the-variants.{Contract as contractᶜ, Window as windowᶜ, Instruction as instructionᶜ, Default as defaultᶜ, Reading as readingᶜ, Close as closeᶜ}
 use Rattle.rules.proofs.Input.{input-cond}
-use Rattle.book.specs.Book.{noWindow, missing, ledgerIn}
-use Rattle.book.specs.Numbers.{refusalOf, firstNumber}
+use Rattle.tables.specs.Unused.{noWindow}
+use Rattle.book.specs.Book.{missing, ledgerIn}
+use Rattle.tables.specs.Numbers.{firstNumber}
+use Rattle.book.specs.Numbers.{refusalOf}
 use Rattle.book.specs.Sound.{sound}
 use Rattle.book.specs.declared.Book.{Book}
 use Rattle.book.proofs.Tested.{contract-is}
-
--- ---- from the input
-
--- no number from the input: no condition of it holds
-pub input-none : (c : Command) → eqb (inputRefusal c) 0 ≡ (inRange c && (not (rampTooLong c) && not (badWindow c)))
-input-none c = ap (λ n. eqb n 0) (input-cond c) ∙ go (inRange c) (rampTooLong c) (badWindow c)
-  where
-    go : (p q r : Bool) → eqb (cond (not p) 3 (cond q 4 (cond r 5 0))) 0 ≡ (p && (not q && not r))
-    go true true r = refl
-    go true false true = refl
-    go true false false = refl
-    go false q r = refl
 
 -- ---- all conditions
 

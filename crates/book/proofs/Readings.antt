@@ -18,12 +18,14 @@ use Rattle.rules.specs.declared.entries.Command.{Command}
 use Rattle.rules.specs.declared.entries.Command.the-variants.{Contract as contractᶜ, Window as windowᶜ, Instruction as instructionᶜ, Default as defaultᶜ, Reading as readingᶜ, Close as closeᶜ}
 use Rattle.book.specs.Book.{missing, putMeter}
 use Rattle.book.specs.Enter.{Entered, enterBook}
-use Rattle.book.specs.Numbers.{refusalOf, firstNumber}
+use Rattle.tables.specs.Numbers.{firstNumber}
+use Rattle.book.specs.Numbers.{refusalOf}
 use Rattle.book.specs.Readings.{openSpan, takesReading}
 use Rattle.book.specs.Sound.{sound}
 use Rattle.book.specs.declared.Book.{Book}
 use Rattle.book.specs.declared.Entry.{Entry}
-use Rattle.book.proofs.Numbers.{input-none, firstOf, met-late, reading-later}
+use Rattle.tables.proofs.Walks.{input-none}
+use Rattle.book.proofs.Numbers.{firstOf, met-late, reading-later}
 use Rattle.book.proofs.Entered.{taken-entry}
 
 -- ---- the tests

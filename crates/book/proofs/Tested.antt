@@ -17,7 +17,8 @@ use Rattle.rules.specs.declared.entries.Default.{Default}
 use Rattle.rules.proofs.Chain.{not-on}
 use Rattle.rules.proofs.Reached.{Parts, parts}
 use Rattle.book.specs.Book.{ledgerIn}
-use Rattle.book.specs.Sound.{isNoWindow, isNoInstruction, isNoDefault, isZero, noContractTests, emptyTests, tableTests, sound}
+use Rattle.tables.specs.Unused.{isNoWindow, isNoInstruction, isNoDefault, isZero, noContractTests}
+use Rattle.book.specs.Sound.{emptyTests, tableTests, sound}
 use Rattle.book.specs.declared.Book.{Book}
 
 -- ---- the tables, apart from what is in them: so many entries are in use, and the others are zeros

@@ -8,24 +8,10 @@ use lib.Dec.{ltb}
 use lib.ListN.{getD, take, drop, set, replicate}
 use Rattle.rules.specs.Ledger.{Ledger, noContract, spanOf}
 use Rattle.rules.specs.Refusal.{isReading}
-use Rattle.rules.specs.declared.entries.Window.{Window}
-use Rattle.rules.specs.declared.entries.Instruction.{Instruction}
-use Rattle.rules.specs.declared.entries.Default.{Default}
 use Rattle.rules.specs.declared.entries.Command.{Command}
 use Rattle.rules.specs.declared.entries.Command.the-variants.{Contract as contractᶜ, Window as windowᶜ, Instruction as instructionᶜ, Default as defaultᶜ, Reading as readingᶜ, Close as closeᶜ}
+pub use Rattle.tables.specs.Unused.{noWindow, noInstruction, noDefault}
 use Rattle.book.specs.declared.Book.{Book}
-
--- an unused entry of the table of windows
-abbrev pub noWindow : Window
-noWindow = record { start = record { 0 = 0 }; end = record { 0 = 0 }; verdict = 0 }
-
--- an unused entry of the table of instructions
-abbrev pub noInstruction : Instruction
-noInstruction = record { issue = record { 0 = 0 }; cease = record { 0 = 0 } }
-
--- an unused entry of the table of defaults
-abbrev pub noDefault : Default
-noDefault = record { minute = record { 0 = 0 }; kind = 0; reach = 0 }
 
 -- the empty book: no contract, and zeros
 unfoldable pub emptyBook : Book

@@ -1,22 +1,15 @@
 // The contract of a book.
 ghost use mathlib.Core.Path.{_≡_};
-ghost use Rattle.rules.specs.Ledger.{spanOf};
 ghost use Rattle.book.specs.Enter.{Enters};
 ghost use Rattle.book.specs.Numbers.{refusalOf};
 ghost use Rattle.book.specs.Sound.{sound};
 use crate::Book;
 use crate::Entry;
 use crate::meter::mark;
-use crate::refusals::first_number;
 use rules::contract::Contract;
 use rules::entries::Command;
-
-// The minutes of a contract's month.
-pub(crate) fn span_of(k: Contract) -> usize
-    ensures { λ r. ⌜ r ≡ spanOf k ⌝ }
-{
-    Contract::DAY.0 as usize * k.days as usize
-}
+use tables::agreement::span_of;
+use tables::refusals::first_number;
 
 impl Book {
     // Enters a contract.

@@ -4,7 +4,6 @@
 // refusal or puts the entry into the book. Whoever enters a list of commands tests once and goes by `enter_known`; a reading among them
 // goes by `meter::take_reading`, which is not handed the book.
 mod agreement;
-mod columns;
 mod defaults;
 mod empty;
 mod enter;

@@ -13,7 +13,6 @@ ghost use Rattle.book.specs.Readings.{openSpan, takesReading};
 ghost use Rattle.book.specs.Sound.{sound};
 use crate::Book;
 use crate::Entry;
-use crate::agreement::span_of;
 use energy::units::Kw;
 use energy::units::Minutes;
 use rules::checks::kw_from_to;
@@ -21,6 +20,7 @@ use rules::checks::pick;
 use rules::contract::Contract;
 use rules::entries::Command;
 use rules::entries::Reading;
+use tables::agreement::span_of;
 
 impl Book {
     // Enters a reading.

@@ -4,15 +4,16 @@ ghost use Prim.Native.Nat.{_≤_};
 ghost use lib.ListN.{take};
 ghost use Rattle.energy.specs.Lists.{pass};
 ghost use Rattle.rules.specs.Reached.{agreedTests};
-ghost use Rattle.book.specs.Sound.{noContractTests, tableTests, emptyTests, sound};
+ghost use Rattle.book.specs.Sound.{tableTests, emptyTests, sound};
 use crate::Book;
-use crate::defaults::defaults_sound;
-use crate::defaults::defaults_unused;
-use crate::instructions::instructions_sound;
-use crate::instructions::instructions_unused;
-use crate::windows::windows_sound;
-use crate::windows::windows_unused;
 use rules::contract::Contract;
+use tables::agreement::is_no_contract;
+use tables::defaults::defaults_sound;
+use tables::defaults::defaults_unused;
+use tables::instructions::instructions_sound;
+use tables::instructions::instructions_unused;
+use tables::windows::windows_sound;
+use tables::windows::windows_unused;
 
 impl Book {
     // Whether commands leave this book.
@@ -92,21 +93,4 @@ impl Book {
             & (self.ninstructions == 0)
             & (self.ndefaults == 0)
     }
-}
-
-// Whether a contract is all zeros.
-fn is_no_contract(k: Contract) -> bool
-    ensures { λ r. ⌜ r ≡ pass (noContractTests k) ⌝ }
-{
-    (k.days == 0)
-        & (k.kind == 0)
-        & (k.service == 0)
-        & (k.contracted.0 == 0)
-        & (k.rampup == 0)
-        & (k.rampdown == 0)
-        & (k.response.0 == 0)
-        & (k.recovery.0 == 0)
-        & (k.availability == 0)
-        & (k.utilisation == 0)
-        & (k.optional == 0)
 }

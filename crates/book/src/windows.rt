@@ -1,22 +1,20 @@
 // The table of windows.
 ghost use mathlib.Core.Path.{_≡_};
-ghost use mathlib.Core.List.{[], _∷_};
 ghost use Prim.Native.Nat.{_≤_};
-ghost use lib.ListN.{take, drop};
-ghost use Rattle.energy.specs.Lists.{all, last};
-ghost use Rattle.rules.specs.Reached.{windowsSound};
-ghost use Rattle.book.specs.Book.{noWindow};
+ghost use lib.ListN.{take};
+ghost use Rattle.energy.specs.Lists.{last};
+ghost use Rattle.tables.specs.Unused.{noWindow};
 ghost use Rattle.book.specs.Enter.{Enters};
 ghost use Rattle.book.specs.Numbers.{refusalOf};
-ghost use Rattle.book.specs.Sound.{isNoWindow, sound};
+ghost use Rattle.book.specs.Sound.{sound};
 use crate::Book;
 use crate::Entry;
-use crate::agreement::span_of;
 use energy::units::Minutes;
 use rules::checks::pick;
 use rules::contract::Contract;
 use rules::entries::Command;
 use rules::entries::Window;
+use tables::agreement::span_of;
 
 impl Book {
     // Enters a window.
@@ -77,52 +75,4 @@ impl Book {
         let w = self.windows[at];
         w.end
     }
-}
-
-// Whether a window could be entered after one that ends at a minute.
-fn window_fits(k: Contract, end: Minutes, w: Window) -> bool
-    ensures { λ r. ⌜ r ≡ windowsSound k (end .0) (w ∷ []) ⌝ }
-{
-    let span = span_of(k);
-    (w.input_refusal() == 0)
-        & (w.end.0 as usize <= span)
-        & !((k.service == Contract::COMMITTED) & (w.verdict == Contract::REJECTED))
-        & (end.0 <= w.start.0)
-}
-
-// Whether the first n windows could be entered one after the other.
-pub(crate) fn windows_sound(k: Contract, windows: [Window; 128], n: usize) -> bool
-    requires { ⌜ n ≤ 128 ⌝ }
-    ensures { λ r. ⌜ r ≡ windowsSound k 0 (take n windows) ⌝ }
-{
-    let mut end = Minutes(0);
-    let mut i = 0;
-    while i < n {
-        let w = windows[i];
-        let fits = window_fits(k, end, w);
-        if !fits {
-            return false;
-        }
-        let next = w.end;
-        end = next;
-        i += 1;
-    }
-    true
-}
-
-// Whether the windows after the first n are zeros.
-pub(crate) fn windows_unused(windows: [Window; 128], n: usize) -> bool
-    requires { ⌜ n ≤ 128 ⌝ }
-    ensures { λ r. ⌜ r ≡ all isNoWindow (drop n windows) ⌝ }
-{
-    let mut i = n;
-    while i < Contract::WINDOWS_MOST {
-        let w = windows[i];
-        let zero = (w.start.0 == 0) & (w.end.0 == 0) & (w.verdict == 0);
-        if !zero {
-            return false;
-        }
-        i += 1;
-    }
-    true
 }

@@ -21,7 +21,7 @@ use Rattle.rules.specs.declared.entries.Command.the-variants.{Contract as contr
 use Rattle.rules.proofs.Taken.{concatMap-append}
 use Rattle.book.specs.Book.{cell, missing}
 use Rattle.book.specs.declared.Book.{Book}
-use Rattle.book.proofs.Tables.{getD-within}
+use Rattle.tables.proofs.Tables.{getD-within}
 use Rattle.stor.specs.Layout.{fileBytes, Room, Laid, placesIn, usedIn, entries, readings, parts, Tabled}
 use Rattle.stor.specs.declared.writer.entries.Table.{Table}
 use Rattle.stor.specs.declared.writer.entries.Table.the-variants.{Windows, Instructions, Defaults}

@@ -11,8 +11,8 @@ use Rattle.rules.specs.Refusal.{inRange, rampTooLong}
 use Rattle.rules.specs.Input.{inputRefusal}
 use Rattle.rules.specs.declared.entries.Command.the-variants.{Contract as contractᶜ}
 use Rattle.rules.proofs.Reached.{parts, tested}
-use Rattle.book.proofs.Tables.{refuted, same-test}
-use Rattle.book.proofs.Walks.{contract-input}
+use Rattle.tables.proofs.Tables.{refuted, same-test}
+use Rattle.tables.proofs.Walks.{contract-input}
 use Rattle.book.proofs.Book.agreed_sound.Statement.{statement}
 use Rattle.book.proofs.Book.agreed_sound.Tie as tie
 

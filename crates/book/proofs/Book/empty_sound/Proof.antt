@@ -3,8 +3,9 @@ use mathlib.Core.Bool.{not}
 use mathlib.Core.List.{[], _∷_}
 use lib.Dec.{eqb}
 use Rattle.energy.specs.Lists.{pass}
-use Rattle.book.specs.Sound.{noContractTests, emptyTests}
-use Rattle.book.proofs.Tables.{chain-pass}
+use Rattle.tables.specs.Unused.{noContractTests}
+use Rattle.book.specs.Sound.{emptyTests}
+use Rattle.tables.proofs.Tables.{chain-pass}
 use Rattle.book.proofs.Book.empty_sound.Statement.{statement}
 use Rattle.book.proofs.Book.empty_sound.Tie as tie
 

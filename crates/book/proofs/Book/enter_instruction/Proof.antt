@@ -4,7 +4,7 @@ use Prim.Native.Nat.{_<_}
 use native.Mathlib.Omega.{arith}
 use lib.ListN.{length}
 use Rattle.rules.specs.declared.entries.Command.the-variants.{Instruction as instructionᶜ}
-use Rattle.book.proofs.Tables.{length-mapped}
+use Rattle.tables.proofs.Tables.{length-mapped}
 use Rattle.book.proofs.Entered.{refused-entry, taken-entry, instruction-room}
 use Rattle.book.proofs.Book.enter_instruction.Statement.{statement}
 use Rattle.book.proofs.Book.enter_instruction.Tie as tie

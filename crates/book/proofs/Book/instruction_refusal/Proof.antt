@@ -5,7 +5,7 @@ use lib.ListN.{length}
 use Rattle.energy.proofs.Tests.{of-T}
 use Rattle.rules.specs.Refusal.{inRange}
 use Rattle.rules.specs.declared.entries.Command.the-variants.{Contract as contractᶜ, Instruction as instructionᶜ}
-use Rattle.book.proofs.Tables.{length-mapped}
+use Rattle.tables.proofs.Tables.{length-mapped}
 use Rattle.book.proofs.Tested.{sound-parts, sound-used}
 use Rattle.book.proofs.Numbers.{firstOf, Late, met-first, met-late, instruction-later}
 use Rattle.book.proofs.Book.instruction_refusal.Statement.{statement}

@@ -3,9 +3,9 @@ use mathlib.Core.Path.{_≡_, sym, ap}
 use native.Mathlib.Omega.{arith}
 use lib.ListN.{length}
 use Rattle.energy.specs.Lists.{last}
-use Rattle.book.specs.Book.{noWindow}
-use Rattle.book.proofs.Tables.{length-mapped, last-used}
-use Rattle.book.proofs.Search.{endsAt}
+use Rattle.tables.specs.Unused.{noWindow}
+use Rattle.tables.proofs.Tables.{length-mapped, last-used}
+use Rattle.tables.proofs.Search.{endsAt}
 use Rattle.book.proofs.Book.last_end.Statement.{statement}
 use Rattle.book.proofs.Book.last_end.Tie as tie
 

@@ -6,9 +6,9 @@ use lib.ListN.{length, take}
 use lib.Seq.{length-take-le}
 use Rattle.rules.specs.Ledger.{endOf}
 use Rattle.rules.specs.declared.entries.Instruction.{Instruction}
-use Rattle.book.specs.Book.{noInstruction}
-use Rattle.book.proofs.Tables.{length-mapped, last-used}
-use Rattle.book.proofs.Walks.{recovered-last}
+use Rattle.tables.specs.Unused.{noInstruction}
+use Rattle.tables.proofs.Tables.{length-mapped, last-used}
+use Rattle.tables.proofs.Walks.{recovered-last}
 use Rattle.book.proofs.Book.ready.Statement.{statement}
 use Rattle.book.proofs.Book.ready.Tie as tie
 

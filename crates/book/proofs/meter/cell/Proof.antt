@@ -7,7 +7,7 @@ use mir.Syntax.{w32, w64}
 use mir.Val.{SFits}
 use mir.Facts.{toZ-ofZ, sfits-widen}
 use Rattle.book.specs.Book.{missing}
-use Rattle.book.proofs.Tables.{getD-within}
+use Rattle.tables.proofs.Tables.{getD-within}
 use Rattle.book.proofs.meter.cell.Statement.{statement}
 use Rattle.book.proofs.meter.cell.Tie as tie
 

@@ -6,7 +6,7 @@ use lib.ListN.{length, replicate, drop, set, length-set}
 use native.Mathlib.Omega.{arith}
 use borrow.Author.Needs.{needs}
 use Rattle.book.specs.Book.{missing}
-use Rattle.book.proofs.Tables.{fill-turn}
+use Rattle.tables.proofs.Tables.{fill-turn}
 use Rattle.book.proofs.meter.mark.Statement.{statement}
 use Rattle.book.proofs.meter.mark.Tie as tie
 

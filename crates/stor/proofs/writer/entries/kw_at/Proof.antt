@@ -6,7 +6,7 @@ use mir.Syntax.{w32, w64}
 use mir.Val.{SFits}
 use mir.Facts.{toZ-ofZ, sfits-widen}
 use Rattle.book.specs.Book.{missing}
-use Rattle.book.proofs.Tables.{getD-within}
+use Rattle.tables.proofs.Tables.{getD-within}
 use Rattle.stor.proofs.writer.entries.kw_at.Statement.{statement}
 use Rattle.stor.proofs.writer.entries.kw_at.Tie as tie
 

@@ -1,7 +1,7 @@
 -- `writer::layout::put_book` meets its contract: each part goes after those before it.
 use borrow.Author.Needs.{needs}
 use Rattle.book.specs.Sound.{Shaped}
-use Rattle.book.proofs.Tables.{length-mapped}
+use Rattle.tables.proofs.Tables.{length-mapped}
 use Rattle.stor.specs.Layout.{Tabled}
 use Rattle.stor.specs.declared.writer.entries.Table.{Table}
 use Rattle.stor.proofs.WrittenParts.{room-contract, room-windows, room-instructions, room-defaults, room-readings, room-close, parts-laid}

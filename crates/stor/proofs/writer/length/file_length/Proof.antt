@@ -7,7 +7,7 @@ use lib.ListN.{length}
 use Rattle.rules.specs.Ledger.{spanOf}
 use Rattle.rules.specs.declared.entries.Command.the-variants.{Contract as contractᶜ, Close as closeᶜ}
 use Rattle.book.specs.Sound.{Shaped}
-use Rattle.book.proofs.Tables.{length-mapped}
+use Rattle.tables.proofs.Tables.{length-mapped}
 use Rattle.stor.specs.Layout.{fileBytes, parts, Tabled}
 use Rattle.stor.specs.declared.writer.entries.Table.{Table}
 use Rattle.stor.proofs.WrittenParts.{once-most, once-length, readings-few, readings-length, parts-length, parts-short}

@@ -1,0 +1,111 @@
+-- One turn of the walks over windows, instructions and defaults.
+use mathlib.Core.Path.{_≡_, refl, sym, ap, _∙_}
+use mathlib.Core.Logic.{_↔_}
+use mathlib.Core.Bool.{Bool, true, false, not, _&&_, cond, and-true}
+use mathlib.Core.List.{List, [], _∷_, map}
+use Prim.Native.Nat.{ℕ, _+_, _≤_, _<_}
+use native.Mathlib.Omega.{arith}
+use lib.Dec.{T, eqb, ltb}
+use lib.ListN.{length, getD, take}
+use lib.Seq.{slice}
+use Rattle.energy.specs.Lists.{last}
+use Rattle.rules.specs.Ledger.{spanOf, endOf}
+use Rattle.rules.specs.Refusal.{inRange, rampTooLong, badWindow, recovered}
+use Rattle.rules.specs.Input.{inputRefusal}
+use Rattle.rules.specs.Reached.{windowsSound, instructionsSound, defaultSound}
+use Rattle.rules.specs.declared.contract.Contract.{Contract}
+use Rattle.rules.specs.declared.entries.Window.{Window}
+use Rattle.rules.specs.declared.entries.Instruction.{Instruction}
+use Rattle.rules.specs.declared.entries.Default.{Default}
+use Rattle.rules.specs.declared.entries.Command.{Command}
+use Rattle.rules.specs.declared.entries.Command.the-variants.{Contract as contractᶜ, Window as windowᶜ, Instruction as instructionᶜ, Default as defaultᶜ}
+use Rattle.rules.proofs.Input.{input-cond}
+use Rattle.tables.specs.Unused.{noWindow, noInstruction}
+use Rattle.tables.specs.Numbers.{Held}
+use Rattle.tables.proofs.Tables.{slice-turn}
+use Rattle.tables.proofs.Search.{startOf, endsAt, in-table}
+
+-- ---- no refusal from the input
+
+-- no number from the input: no condition of it holds
+pub input-none : (c : Command) → eqb (inputRefusal c) 0 ≡ (inRange c && (not (rampTooLong c) && not (badWindow c)))
+input-none c = ap (λ n. eqb n 0) (input-cond c) ∙ go (inRange c) (rampTooLong c) (badWindow c)
+  where
+    go : (p q r : Bool) → eqb (cond (not p) 3 (cond q 4 (cond r 5 0))) 0 ≡ (p && (not q && not r))
+    go true true r = refl
+    go true false true = refl
+    go true false false = refl
+    go false q r = refl
+
+pub window-input : (w : Window) → eqb (inputRefusal (windowᶜ w)) 0 ≡ (inRange (windowᶜ w) && not (badWindow (windowᶜ w)))
+window-input w = input-none (windowᶜ w)
+
+pub instruction-input : (i : Instruction) → eqb (inputRefusal (instructionᶜ i)) 0 ≡ inRange (instructionᶜ i)
+instruction-input i = input-none (instructionᶜ i) ∙ and-true (inRange (instructionᶜ i))
+
+pub contract-input : (k : Contract) → eqb (inputRefusal (contractᶜ k)) 0 ≡ (inRange (contractᶜ k) && not (rampTooLong (contractᶜ k)))
+contract-input k = input-none (contractᶜ k) ∙ ap (λ b. inRange (contractᶜ k) && b) (and-true (not (rampTooLong (contractᶜ k))))
+
+pub default-input : (d : Default) → eqb (inputRefusal (defaultᶜ d)) 0 ≡ inRange (defaultᶜ d)
+default-input d = input-none (defaultᶜ d) ∙ and-true (inRange (defaultᶜ d))
+
+-- ---- a table is sound where its first entry is, and the rest after it
+
+windows-first : (k : Contract) (e : ℕ) (w : Window) (ws : List Window) → windowsSound k e (w ∷ ws) ≡ (windowsSound k e (w ∷ []) && windowsSound k (w .end .0) ws)
+unfolding windowsSound
+windows-first k e w ws = rw and-true
+
+instructions-first : (k : Contract) (e : ℕ) (i : Instruction) (is : List Instruction)
+    → instructionsSound k e (i ∷ is) ≡ (instructionsSound k e (i ∷ []) && instructionsSound k (endOf k i + k .recovery .0) is)
+unfolding instructionsSound
+instructions-first k e i is = rw and-true
+
+-- ---- a walk at entry i of the first n: what it has still to find is what it was asked
+
+module _ {a : Bool} (k : Contract) (e : ℕ) (ws : List Window) (i n : ℕ) (h : i < n) (r : n ≤ length ws) (inv : a ≡ windowsSound k e (slice i n ws)) where
+  abbrev window : Window
+  window = getD ws i noWindow
+
+  window-turn : a ≡ (windowsSound k e (window ∷ []) && windowsSound k (window .end .0) (slice (i + 1) n ws))
+  window-turn = inv ∙ rw (slice-turn ws i n noWindow h r) (windows-first k e window (slice (i + 1) n ws))
+
+  pub windows-fail : windowsSound k e (window ∷ []) ≡ false → false ≡ a
+  windows-fail q = sym (window-turn ∙ rw q)
+
+  pub windows-on : windowsSound k e (window ∷ []) ≡ true → a ≡ windowsSound k (window .end .0) (slice (i + 1) n ws)
+  windows-on q = window-turn ∙ rw q
+
+module _ {a : Bool} (k : Contract) (e : ℕ) (is : List Instruction) (i n : ℕ) (h : i < n) (r : n ≤ length is) (inv : a ≡ instructionsSound k e (slice i n is)) where
+  abbrev instruction : Instruction
+  instruction = getD is i noInstruction
+
+  instruction-turn : a ≡ (instructionsSound k e (instruction ∷ []) && instructionsSound k (endOf k instruction + k .recovery .0) (slice (i + 1) n is))
+  instruction-turn = inv ∙ rw (slice-turn is i n noInstruction h r) (instructions-first k e instruction (slice (i + 1) n is))
+
+  pub instructions-fail : instructionsSound k e (instruction ∷ []) ≡ false → false ≡ a
+  instructions-fail q = sym (instruction-turn ∙ rw q)
+
+  pub instructions-on : instructionsSound k e (instruction ∷ []) ≡ true → a ≡ instructionsSound k (endOf k instruction + k .recovery .0) (slice (i + 1) n is)
+  instructions-on q = instruction-turn ∙ rw q
+
+-- when an instruction may be issued, by the last one
+pub recovered-last : (k : Contract) (is : List Instruction) (d : Instruction) → 0 < length is → recovered k is ≡ endOf k (last d is) + k .recovery .0
+unfolding last
+recovered-last k [] d h = absurd (omega arith)
+recovered-last k (i ∷ is) d h = refl
+
+-- ---- defaults beside windows that are given by their columns
+
+-- what the columns and the span say
+pub record Columns (k : Contract) (ws : List Window) (n : ℕ) (starts ends : List ℕ) (span : ℕ) : Type 0 where
+  pub first : starts ≡ map startOf ws
+  pub last : ends ≡ map endsAt ws
+  pub minutes : span ≡ spanOf k
+  pub used : n ≤ length ws
+
+-- the test of one default
+pub default-fits : {k : Contract} {ws : List Window} {n : ℕ} {starts ends : List ℕ} {span : ℕ} (d : Default) (r : Bool) → Columns k ws n starts ends span
+    → T r ↔ Held starts ends n (d .minute .0) → (eqb (inputRefusal (defaultᶜ d)) 0 && ltb (d .minute .0) span && r) ≡ defaultSound k (take n ws) d
+default-fits {k} {ws} {n} d r t h =
+    let held : T r ↔ Held (map startOf ws) (map endsAt ws) n (d .minute .0) = rw (t .first, t .last) at h in
+    rw (default-input d, t .minutes, in-table ws n (t .used) (d .minute .0) r held)

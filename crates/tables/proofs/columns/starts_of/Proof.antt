@@ -1,0 +1,77 @@
+use Prim.Native.Nat.{ℕ, _≤_, _-_}
+use mathlib.Core.Path.{_≡_, refl}
+use mathlib.Core.List.{map}
+use lib.ListN.{length, take, length-set}
+use native.Mathlib.Omega.{arith}
+use borrow.Author.Needs.{needs}
+use Rattle.rules.specs.declared.entries.Window.{Window}
+use Rattle.tables.specs.Unused.{noWindow}
+use Rattle.tables.proofs.Tables.{length-mapped, column-turn, column-whole}
+use Rattle.tables.proofs.columns.starts_of.Statement.{statement}
+use Rattle.tables.proofs.columns.starts_of.Tie as tie
+
+abbrev startOf : Window → ℕ
+startOf w = w .start .0
+
+abbrev Inv-loop : tie.InvT-loop
+Inv-loop windows starts₀ i₀ starts i = (i ≤ 128) × (length starts ≡ 128) × (take i starts ≡ map startOf (take i windows))
+
+abbrev μ-loop : tie.MeasureT-loop
+μ-loop windows starts₀ i₀ starts i = 128 - i
+
+-- the table's length
+cells : (c : tie.Start Inv-loop μ-loop) → length (c .args .t1) ≡ 128
+cells c = search (length-mapped, needs)
+
+loop-holds : tie.Need-loop-holds Inv-loop μ-loop
+loop-holds c = (search needs, refl, refl)
+
+mul-w : tie.Need-mul-w Inv-loop μ-loop
+mul-w c = search needs
+
+array-copy-out-w : tie.Need-array-copy-out-w Inv-loop μ-loop
+array-copy-out-w c = search needs
+
+mul-starts : tie.Need-mul-starts Inv-loop μ-loop
+mul-starts c = search needs
+
+array-write-starts : tie.Need-array-write-starts Inv-loop μ-loop
+array-write-starts c = search needs
+
+add-i : tie.Need-add-i Inv-loop μ-loop
+add-i c = search needs
+
+loop-less : tie.Need-loop-less Inv-loop μ-loop
+loop-less c = search needs
+
+loop-again : tie.Need-loop-again Inv-loop μ-loop
+loop-again c =
+    let at = c .before .before in
+    let ws = at .before .args .t1 in
+    let whole : length ws ≡ 128 = cells (at .before) in (
+      search needs,
+      simp length-set (at .loop .inv .1),
+      column-turn startOf ws (at .loop .starts) (at .loop .i) noWindow (omega arith) (omega arith) (at .loop .inv .2),
+    )
+
+returns : tie.Need-returns Inv-loop μ-loop
+returns c =
+    let at = c .before in
+    let end : at .loop .i ≡ 128 = omega arith in
+    column-whole startOf (at .before .args .t1) (at .loop .starts) 128 (cells (at .before)) (at .loop .inv .1) (rw end at (at .loop .inv .2))
+
+pub starts-of-spec : {M : Type 1} → statement M
+starts-of-spec =
+    tie.close
+    (tie.spec
+    Inv-loop
+    μ-loop
+    loop-holds
+    mul-w
+    array-copy-out-w
+    mul-starts
+    array-write-starts
+    add-i
+    loop-less
+    loop-again
+    returns)

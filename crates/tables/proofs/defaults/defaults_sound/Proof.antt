@@ -1,0 +1,137 @@
+use Prim.Native.Nat.{_-_, _≤_}
+use mathlib.Core.Path.{_≡_, refl, sym, _∙_}
+use native.Mathlib.Omega.{arith}
+use borrow.Author.Needs.{needs}
+use borrow.Author.Tests.{not-true, not-false}
+use mathlib.Core.Bool.{_&&_}
+use mathlib.Core.List.{List}
+use lib.Dec.{eqb, ltb}
+use lib.ListN.{length, getD, take}
+use lib.Seq.{slice, getD-take, length-take-le}
+use Rattle.energy.specs.Lists.{all}
+use Rattle.energy.proofs.Tests.{to-T}
+use Rattle.rules.specs.Reached.{defaultSound}
+use Rattle.rules.specs.declared.contract.Contract.{Contract}
+use Rattle.rules.specs.declared.entries.Window.{Window}
+use Rattle.tables.specs.Unused.{noDefault}
+use Rattle.tables.proofs.Tables.{length-mapped, all-fails, all-on, all-passes}
+use Rattle.tables.proofs.Search.{ordered}
+use Rattle.tables.proofs.Walks.{Columns, default-fits}
+use Rattle.tables.proofs.defaults.defaults_sound.Statement.{statement}
+use Rattle.tables.proofs.defaults.defaults_sound.Tie as tie
+
+abbrev Inv-loop : tie.InvT-loop
+Inv-loop w n defaults starts ends span i₀ i =
+    (i ≤ n) × ((k : Contract) (ws : List Window) → Columns k ws w starts ends span → all (defaultSound k (take w ws)) (take n defaults) ≡ all (defaultSound k (take w ws)) (slice i n defaults))
+
+abbrev μ-loop : tie.MeasureT-loop
+μ-loop w n defaults starts ends span i₀ i = n - i
+
+-- the windows in use are of the table
+windowed : (c : tie.Start Inv-loop μ-loop) → c .args .w ≤ length (c .args .windows)
+windowed c = let cells : length (c .args .windows) ≡ 128 = search (length-mapped, needs) in omega (arith, c .pre .1)
+
+-- the defaults in use are of the table
+room : (c : tie.Start Inv-loop μ-loop) → c .args .n ≤ length (c .args .t4)
+room c = let cells : length (c .args .t4) ≡ 128 = search (length-mapped, needs) in omega (arith, c .pre .0)
+
+-- the columns are the table's
+columns : (c : tie.After-span-of Inv-loop μ-loop)
+    → Columns (c .before .before .before .args .k) (c .before .before .before .args .windows) (c .before .before .before .args .w) (c .before .before .starts-of .result) (c .before .ends-of .result) (c .span-of .result)
+columns c =
+    record { first = c .before .before .starts-of .ensures; last = c .before .ends-of .ensures; minutes = c .span-of .ensures; used = windowed (c .before .before .before) }
+
+starts-of-requires : tie.Need-starts-of-requires Inv-loop μ-loop
+starts-of-requires c κs = search needs
+
+ends-of-requires : tie.Need-ends-of-requires Inv-loop μ-loop
+ends-of-requires c κs = search needs
+
+span-of-requires : tie.Need-span-of-requires Inv-loop μ-loop
+span-of-requires c κs = search needs
+
+loop-holds : tie.Need-loop-holds Inv-loop μ-loop
+loop-holds c = (search needs, λ k ws t. refl)
+
+mul-d : tie.Need-mul-d Inv-loop μ-loop
+mul-d c = search needs
+
+array-copy-out-d : tie.Need-array-copy-out-d Inv-loop μ-loop
+array-copy-out-d c = search needs
+
+input-refusal-requires : tie.Need-input-refusal-requires Inv-loop μ-loop
+input-refusal-requires c κs = search needs
+
+cast-fits : tie.Need-cast-fits Inv-loop μ-loop
+cast-fits c = search needs
+
+in-columns-requires : tie.Need-in-columns-requires Inv-loop μ-loop
+in-columns-requires c κs =
+    let at = c .before .before .before .before .before .before .before in
+    let b = at .before .before .before in
+    (b .pre .1, rw (columns at .first, columns at .last) (ordered (b .args .windows) (b .args .w) (windowed b) (b .args .k) (to-T (b .pre .2))))
+
+-- what the turn tests is the default's test
+fits : (c : tie.After-in-columns Inv-loop μ-loop) (k : Contract) (ws : List Window)
+    → Columns k ws (c .before .before .before .before .before .before .before .before .before .before .before .args .w) (c .before .before .before .before .before .before .before .before .before .before .starts-of .result) (c .before .before .before .before .before .before .before .before .before .ends-of .result) (c .before .before .before .before .before .before .before .before .span-of .result)
+    → (eqb (c .before .before .before .before .input-refusal .result) 0 && ltb (getD (c .before .before .before .before .before .before .before .before .before .before .before .args .t4) (c .before .before .before .before .before .before .before .loop .i) noDefault .minute .0) (c .before .before .before .before .before .before .before .before .span-of .result) && c .in-columns .result)
+    ≡ defaultSound k (take (c .before .before .before .before .before .before .before .before .before .before .before .args .w) ws) (getD (take (c .before .before .before .before .before .before .before .before .before .before .before .args .n) (c .before .before .before .before .before .before .before .before .before .before .before .args .t4)) (c .before .before .before .before .before .before .before .loop .i) noDefault)
+fits c k ws t =
+    let at = c .before .before .before .before .before .before .before in
+    let b = at .before .before .before .before in
+    let d = getD (b .args .t4) (at .loop .i) noDefault in
+    rw (c .before .before .before .before .input-refusal .ensures, getD-take (b .args .n) (b .args .t4) (at .loop .i) noDefault (omega arith)) (default-fits d (c .in-columns .result) t (c .in-columns .ensures))
+
+returns : tie.Need-returns Inv-loop μ-loop
+returns c =
+    let at = c .before .before .before .before .before .before .before .before in
+    let b = at .before .before .before .before in
+    let k = b .args .k in
+    let ws = b .args .windows in
+    all-fails (defaultSound k (take (b .args .w) ws)) (take (b .args .n) (b .args .t4)) 0 (at .loop .i) noDefault (at .loop .inv .1 k ws (columns (at .before)))
+    (rw (length-take-le (b .args .n) (b .args .t4) (room b)) (omega arith)) (sym (fits (c .before) k ws (columns (at .before))) ∙ not-true _ (c .if1 .taken))
+
+add-i : tie.Need-add-i Inv-loop μ-loop
+add-i c = search needs
+
+loop-less : tie.Need-loop-less Inv-loop μ-loop
+loop-less c = search needs
+
+loop-again : tie.Need-loop-again Inv-loop μ-loop
+loop-again c =
+    let at = c .before .before .before .before .before .before .before .before in
+    let b = at .before .before .before .before in (
+      search needs,
+      λ k ws t. all-on (defaultSound k (take (b .args .w) ws)) (take (b .args .n) (b .args .t4)) 0 (at .loop .i) noDefault (at .loop .inv .1 k ws t)
+          (rw (length-take-le (b .args .n) (b .args .t4) (room b)) (omega arith)) (sym (fits (c .before) k ws t) ∙ not-false _ (c .if1 .left)),
+    )
+
+returns-2 : tie.Need-returns-2 Inv-loop μ-loop
+returns-2 c =
+    let at = c .before in
+    let b = at .before .before .before .before in
+    let k = b .args .k in
+    let ws = b .args .windows in
+    all-passes (defaultSound k (take (b .args .w) ws)) (take (b .args .n) (b .args .t4)) 0 (at .loop .i) noDefault (at .loop .inv .1 k ws (columns (at .before)))
+    (rw (length-take-le (b .args .n) (b .args .t4) (room b)) (omega arith))
+
+pub defaults-sound-spec : {M : Type 1} → statement M
+defaults-sound-spec =
+    tie.close
+    (tie.spec
+    Inv-loop
+    μ-loop
+    starts-of-requires
+    ends-of-requires
+    span-of-requires
+    loop-holds
+    mul-d
+    array-copy-out-d
+    input-refusal-requires
+    cast-fits
+    in-columns-requires
+    returns
+    add-i
+    loop-less
+    loop-again
+    returns-2)

@@ -1,0 +1,105 @@
+use Prim.Native.Nat.{_-_, _≤_}
+use mathlib.Core.Path.{_≡_, refl, sym, _∙_}
+use native.Mathlib.Omega.{arith}
+use borrow.Author.Needs.{needs}
+use borrow.Author.Tests.{not-true, not-false}
+use lib.ListN.{length, take}
+use lib.Seq.{slice, slice-empty}
+use Rattle.rules.specs.Reached.{instructionsSound}
+use Rattle.tables.proofs.Tables.{length-mapped}
+use Rattle.tables.proofs.Walks.{instructions-fail, instructions-on}
+use Rattle.tables.proofs.instructions.instructions_sound.Statement.{statement}
+use Rattle.tables.proofs.instructions.instructions_sound.Tie as tie
+
+abbrev Inv-loop : tie.InvT-loop
+Inv-loop k n instructions down ready₀ x₀ ready x = (x ≤ n) × (instructionsSound k 0 (take n instructions) ≡ instructionsSound k ready (slice x n instructions))
+
+abbrev μ-loop : tie.MeasureT-loop
+μ-loop k n instructions down ready₀ x₀ ready x = n - x
+
+-- the instructions in use are of the table
+room : (c : tie.Start Inv-loop μ-loop) → c .args .n ≤ length (c .args .t2)
+room c = let cells : length (c .args .t2) ≡ 64 = search (length-mapped, needs) in omega (arith, c .pre .0)
+
+down-minutes-requires : tie.Need-down-minutes-requires Inv-loop μ-loop
+down-minutes-requires c κs = c .pre .1
+
+loop-holds : tie.Need-loop-holds Inv-loop μ-loop
+loop-holds c = (search needs, refl)
+
+mul-i : tie.Need-mul-i Inv-loop μ-loop
+mul-i c = search needs
+
+array-copy-out-i : tie.Need-array-copy-out-i Inv-loop μ-loop
+array-copy-out-i c = search needs
+
+instruction-fits-requires : tie.Need-instruction-fits-requires Inv-loop μ-loop
+instruction-fits-requires c κs = c .before .before .before .down-minutes .ensures
+
+returns : tie.Need-returns Inv-loop μ-loop
+returns c =
+    let at = c .before .before .before .before in
+    let b = at .before .before .args in
+    instructions-fail (b .k) (at .loop .ready) (b .t2) (at .loop .x) (b .n) (omega arith) (room (at .before .before)) (at .loop .inv .1)
+    (sym (c .before .instruction-fits .ensures) ∙ not-true _ (c .if1 .taken))
+
+cast-ready : tie.Need-cast-ready Inv-loop μ-loop
+cast-ready c = search needs
+
+cast-ready-2 : tie.Need-cast-ready-2 Inv-loop μ-loop
+cast-ready-2 c = search needs
+
+add-ready : tie.Need-add-ready Inv-loop μ-loop
+add-ready c = search needs
+
+cast-ready-3 : tie.Need-cast-ready-3 Inv-loop μ-loop
+cast-ready-3 c = search needs
+
+add-ready-2 : tie.Need-add-ready-2 Inv-loop μ-loop
+add-ready-2 c = search needs
+
+add-x : tie.Need-add-x Inv-loop μ-loop
+add-x c = search needs
+
+loop-less : tie.Need-loop-less Inv-loop μ-loop
+loop-less c = search needs
+
+loop-again : tie.Need-loop-again Inv-loop μ-loop
+loop-again c =
+    let at = c .before .before .before .before .before .before in
+    let b = at .before .before .args in (
+      search needs,
+      rw (at .before .down-minutes .ensures)
+          (instructions-on (b .k) (at .loop .ready) (b .t2) (at .loop .x) (b .n) (omega arith) (room (at .before .before)) (at .loop .inv .1)
+          (sym (c .before .before .before .instruction-fits .ensures) ∙ not-false _ (c .before .before .if1 .left))),
+    )
+
+returns-2 : tie.Need-returns-2 Inv-loop μ-loop
+unfolding instructionsSound
+returns-2 c =
+    let at = c .before in
+    let b = at .before .before .args in
+    let end : at .loop .x ≡ b .n = omega arith in
+    sym (at .loop .inv .1 ∙ rw (end, slice-empty (b .n) (b .t2)))
+
+pub instructions-sound-spec : {M : Type 1} → statement M
+instructions-sound-spec =
+    tie.close
+    (tie.spec
+    Inv-loop
+    μ-loop
+    down-minutes-requires
+    loop-holds
+    mul-i
+    array-copy-out-i
+    instruction-fits-requires
+    returns
+    cast-ready
+    cast-ready-2
+    add-ready
+    cast-ready-3
+    add-ready-2
+    add-x
+    loop-less
+    loop-again
+    returns-2)

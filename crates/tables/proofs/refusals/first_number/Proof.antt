@@ -1,0 +1,38 @@
+use borrow.Author.Needs.{needs}
+use Rattle.tables.specs.Numbers.{firstNumber}
+use Rattle.tables.proofs.refusals.first_number.Statement.{statement}
+use Rattle.tables.proofs.refusals.first_number.Tie as tie
+
+pick-requires : tie.Need-pick-requires
+pick-requires c κs = search needs
+
+pick-requires-2 : tie.Need-pick-requires-2
+pick-requires-2 c κs = search needs
+
+pick-requires-3 : tie.Need-pick-requires-3
+pick-requires-3 c κs = search needs
+
+pick-requires-4 : tie.Need-pick-requires-4
+pick-requires-4 c κs = search needs
+
+pick-requires-5 : tie.Need-pick-requires-5
+pick-requires-5 c κs = search needs
+
+pick-requires-6 : tie.Need-pick-requires-6
+pick-requires-6 c κs = search needs
+
+returns : tie.Need-returns
+unfolding firstNumber
+returns c = cc
+
+pub first-number-spec : {M : Type 1} → statement M
+first-number-spec =
+    tie.close
+    (tie.spec
+    pick-requires
+    pick-requires-2
+    pick-requires-3
+    pick-requires-4
+    pick-requires-5
+    pick-requires-6
+    returns)

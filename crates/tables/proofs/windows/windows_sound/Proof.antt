@@ -1,0 +1,79 @@
+use Prim.Native.Nat.{_-_, _≤_}
+use mathlib.Core.Path.{_≡_, refl, sym, _∙_}
+use native.Mathlib.Omega.{arith}
+use borrow.Author.Needs.{needs}
+use borrow.Author.Tests.{not-true, not-false}
+use lib.ListN.{length, take}
+use lib.Seq.{slice, slice-empty}
+use Rattle.rules.specs.Reached.{windowsSound}
+use Rattle.tables.proofs.Tables.{length-mapped}
+use Rattle.tables.proofs.Walks.{windows-fail, windows-on}
+use Rattle.tables.proofs.windows.windows_sound.Statement.{statement}
+use Rattle.tables.proofs.windows.windows_sound.Tie as tie
+
+abbrev Inv-loop : tie.InvT-loop
+Inv-loop k n windows end₀ i₀ end i = (i ≤ n) × (windowsSound k 0 (take n windows) ≡ windowsSound k (end .0) (slice i n windows))
+
+abbrev μ-loop : tie.MeasureT-loop
+μ-loop k n windows end₀ i₀ end i = n - i
+
+-- the windows in use are of the table
+room : (c : tie.Start Inv-loop μ-loop) → c .args .n ≤ length (c .args .t2)
+room c = let cells : length (c .args .t2) ≡ 128 = search (length-mapped, needs) in omega (arith, c .pre)
+
+loop-holds : tie.Need-loop-holds Inv-loop μ-loop
+loop-holds c = (search needs, refl)
+
+mul-w : tie.Need-mul-w Inv-loop μ-loop
+mul-w c = search needs
+
+array-copy-out-w : tie.Need-array-copy-out-w Inv-loop μ-loop
+array-copy-out-w c = search needs
+
+window-fits-requires : tie.Need-window-fits-requires Inv-loop μ-loop
+window-fits-requires c κs = search needs
+
+returns : tie.Need-returns Inv-loop μ-loop
+returns c =
+    let at = c .before .before .before .before in
+    let b = at .before .args in
+    windows-fail (b .k) (at .loop .end .0) (b .t2) (at .loop .i) (b .n) (omega arith) (room (at .before)) (at .loop .inv .1)
+    (sym (c .before .window-fits .ensures) ∙ not-true _ (c .if1 .taken))
+
+add-i : tie.Need-add-i Inv-loop μ-loop
+add-i c = search needs
+
+loop-less : tie.Need-loop-less Inv-loop μ-loop
+loop-less c = search needs
+
+loop-again : tie.Need-loop-again Inv-loop μ-loop
+loop-again c =
+    let at = c .before .before .before .before .before in
+    let b = at .before .args in (
+      search needs,
+      windows-on (b .k) (at .loop .end .0) (b .t2) (at .loop .i) (b .n) (omega arith) (room (at .before)) (at .loop .inv .1)
+          (sym (c .before .before .window-fits .ensures) ∙ not-false _ (c .before .if1 .left)),
+    )
+
+returns-2 : tie.Need-returns-2 Inv-loop μ-loop
+unfolding windowsSound
+returns-2 c =
+    let at = c .before in
+    let end : at .loop .i ≡ at .before .args .n = omega arith in
+    sym (at .loop .inv .1 ∙ rw (end, slice-empty (at .before .args .n) (at .before .args .t2)))
+
+pub windows-sound-spec : {M : Type 1} → statement M
+windows-sound-spec =
+    tie.close
+    (tie.spec
+    Inv-loop
+    μ-loop
+    loop-holds
+    mul-w
+    array-copy-out-w
+    window-fits-requires
+    returns
+    add-i
+    loop-less
+    loop-again
+    returns-2)

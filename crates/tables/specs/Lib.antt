@@ -1,0 +1,2 @@
+pub mod Unused
+pub mod Numbers

@@ -1,0 +1,24 @@
+// The first refusals as one number, 0 for none.
+ghost use mathlib.Core.Path.{_≡_};
+ghost use Rattle.tables.specs.Numbers.{firstNumber};
+use rules::checks::pick;
+
+// What a command meets before the conditions of its own kind: the number from its input, then 11 to 15.
+// left: commands leave the book; first: the command is a contract; short: meter memory is shorter than the span.
+pub fn first_number(
+    input: u8,
+    left: bool,
+    closed: bool,
+    agreed: bool,
+    first: bool,
+    short: bool,
+) -> u8
+    ensures { λ r. ⌜ r ≡ firstNumber input left closed agreed first short ⌝ }
+{
+    let r15 = pick(short, 15, 0);
+    let r14 = pick(agreed & first, 14, r15);
+    let r13 = pick(!agreed & !first, 13, r14);
+    let r12 = pick(closed, 12, r13);
+    let r11 = pick(!left, 11, r12);
+    pick(input != 0, input, r11)
+}
