@@ -4,4 +4,3 @@ pub mod RoundTrip
 pub mod Pieces
 pub mod Files
 pub mod Turns
-pub mod WholeFile

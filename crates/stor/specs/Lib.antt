@@ -4,4 +4,3 @@ pub mod Appendix2
 pub mod RoundTrip
 pub mod Files
 pub mod Turn
-pub mod Whole

@@ -1,3 +1,2 @@
-// The package's front: whole unit files read, entered and settled.
+// Whole unit files and pieces of them, read and entered.
 pub mod file;
-pub mod whole;

@@ -14,10 +14,10 @@ use Rattle.book.specs.Book.{emptyBook, ledgerIn}
 use Rattle.book.specs.Sound.{sound}
 use Rattle.settlement.specs.Settle.{settleBook, settledBy, noStatement, Settled}
 use Rattle.settlement.specs.declared.Settlement.{Settlement}
 use Rattle.stor.specs.Files.{load, LoadedFile, settlesFile, settleFile}
-use Rattle.stor.specs.Whole.{toSettle, answerBy}
+use Rattle.whole.specs.Whole.{toSettle, answerBy}
 use Rattle.stor.specs.declared.file.Loaded.{Loaded}
 use Rattle.stor.specs.declared.file.FileAnswer.{FileAnswer}
 
 -- what a refusal of settling leaves: the statement of zeros, and the records as they were
 abbrev Refuses : Settled → List Line → Type 0

@@ -1,15 +1,15 @@
 // The call over a whole unit file with lent line memory: the file is entered, its book settled, and the answer is the file's.
 ghost use mathlib.Core.Path.{_≡_};
 ghost use Rattle.stor.specs.Files.{settleFile};
-ghost use Rattle.stor.specs.Whole.{toSettle, answerBy};
-use crate::file::FileAnswer;
-use crate::file::Loaded;
-use crate::file::load_file;
+ghost use Rattle.whole.specs.Whole.{toSettle, answerBy};
 use book::Book;
 use rules::answer::Answer;
 use rules::statement::Line;
 use settlement::Settlement;
 use settlement::settle::settle;
+use stor::file::FileAnswer;
+use stor::file::Loaded;
+use stor::file::load_file;
 
 // The book that is settled: the file's where all was taken, else the empty one, which settling refuses without touching a record.
 fn to_settle(l: Loaded) -> Book

@@ -1,4 +1,4 @@
--- `stor::whole::settle_file` meets its contract: a walk of its MIR, by hand. Of the four functions that it calls the proof knows only that they meet their contracts. Meter memory is
+-- `whole::settle_file` meets its contract: a walk of its MIR, by hand. Of the four functions that it calls the proof knows only that they meet their contracts. Meter memory is
 -- opened once, its elements are lent to `load_file` for a lifetime made for that call, then, as `load_file` left them, shared with `settle` for another, and it is closed. The lines are
 -- given up for good, to `settle`.
 -- Assumes nothing.
@@ -53,40 +53,40 @@ use Rattle.book.specs.Sound.{sound as soundBook}
 use Rattle.book.specs.declared.Book.{Book}
 use Rattle.settlement.specs.declared.Settlement.{Settlement}
 use Rattle.settlement.specs.Settle.{settleBook}
 use Rattle.stor.specs.declared.file.Loaded.{Loaded}
 use Rattle.stor.specs.declared.file.FileAnswer.{FileAnswer}
 use Rattle.stor.specs.Files.{load as loadOf}
-use Rattle.stor.specs.Whole.{toSettle, answerBy}
-use Rattle.stor.proofs.WholeFile.{settled}
+use Rattle.whole.specs.Whole.{toSettle, answerBy}
+use Rattle.whole.proofs.WholeFile.{settled}
 use Rattle.rules.proofs.statement.Line as T
 use Rattle.book.proofs.Book as B
 use Rattle.book.proofs.Book.Laws as B′
 use Rattle.settlement.proofs.Settlement as O
 use Rattle.settlement.proofs.Settlement.Laws as O′
 use Rattle.stor.proofs.file.Loaded as L
 use Rattle.stor.proofs.file.Loaded.Laws as L′
 use Rattle.stor.proofs.file.FileAnswer as F
 use Rattle.stor.proofs.file.FileAnswer.Laws as F′
 use Rattle.stor.proofs.file.load_file as load-file
 use Rattle.stor.proofs.file.load_file.Symbol as load-file-def
 use Rattle.stor.proofs.file.load_file.Symbol.{name as #load-file}
 use Rattle.stor.proofs.file.load_file.Met as load-file-thm
-use Rattle.stor.proofs.whole.to_settle as to-settle
-use Rattle.stor.proofs.whole.to_settle.Symbol as to-settle-def
-use Rattle.stor.proofs.whole.to_settle.Symbol.{name as #to-settle}
-use Rattle.stor.proofs.whole.to_settle.Met as to-settle-thm
+use Rattle.whole.proofs.to_settle as to-settle
+use Rattle.whole.proofs.to_settle.Symbol as to-settle-def
+use Rattle.whole.proofs.to_settle.Symbol.{name as #to-settle}
+use Rattle.whole.proofs.to_settle.Met as to-settle-thm
 use Rattle.settlement.proofs.settle.settle as settle
 use Rattle.settlement.proofs.settle.settle.Symbol as settle-def
 use Rattle.settlement.proofs.settle.settle.Symbol.{name as #settle}
 use Rattle.settlement.proofs.settle.settle.Met as settle-thm
-use Rattle.stor.proofs.whole.answer_of as answer-of
-use Rattle.stor.proofs.whole.answer_of.Symbol as answer-of-def
-use Rattle.stor.proofs.whole.answer_of.Symbol.{name as #answer-of}
-use Rattle.stor.proofs.whole.answer_of.Met as answer-of-thm
-use Rattle.stor.proofs.whole.settle_file.Key.{name as #settle-file}
-use Rattle.stor.proofs.whole.settle_file as this
-use Rattle.stor.proofs.whole.settle_file.Statement as stated
-use Rattle.stor.proofs.whole.settle_file.Code as code
+use Rattle.whole.proofs.answer_of as answer-of
+use Rattle.whole.proofs.answer_of.Symbol as answer-of-def
+use Rattle.whole.proofs.answer_of.Symbol.{name as #answer-of}
+use Rattle.whole.proofs.answer_of.Met as answer-of-thm
+use Rattle.whole.proofs.settle_file.Key.{name as #settle-file}
+use Rattle.whole.proofs.settle_file as this
+use Rattle.whole.proofs.settle_file.Statement as stated
+use Rattle.whole.proofs.settle_file.Code as code
 
 abbrev R : RattleType
 R = T.the-row
@@ -322,6 +322,6 @@ settle-file-spec 𝓤 H 𝓜 𝓖 𝓡 =
     (tables 𝓤 H 𝓜 𝓡 code.env .C) (tables 𝓤 H 𝓜 𝓡 code.env .Λ) #settle-file code.function (code.unfolded 𝓤 H 𝓜 𝓡)
     (file-meets 𝓤 H (𝓖 .A) (givenOf 𝓤 H 𝓜 𝓖) (𝓜 .mem) (𝓡 .run) (tablesOf 𝓤 H 𝓜 (tables 𝓤 H 𝓜 𝓡 code.env))
     (cited 𝓤 H (LoadC 𝓤 H (𝓖 .A) (𝓜 .mem) (𝓡 .run)) 𝓜 𝓡 code.env #load-file load-file-def.routine code.calls-stor·file·load-file (load-file-thm.met 𝓤 H 𝓜 𝓖 𝓡))
-    (cited 𝓤 H (BookC 𝓤 H (𝓖 .A) (𝓜 .mem) (𝓡 .run)) 𝓜 𝓡 code.env #to-settle to-settle-def.routine code.calls-stor·whole·to-settle (to-settle-thm.met 𝓤 H 𝓜 𝓖 𝓡))
+    (cited 𝓤 H (BookC 𝓤 H (𝓖 .A) (𝓜 .mem) (𝓡 .run)) 𝓜 𝓡 code.env #to-settle to-settle-def.routine code.calls-whole·to-settle (to-settle-thm.met 𝓤 H 𝓜 𝓖 𝓡))
     (cited 𝓤 H (SettleC 𝓤 H (𝓖 .A) (𝓜 .mem) (𝓡 .run)) 𝓜 𝓡 code.env #settle settle-def.routine code.calls-settlement·settle·settle (settle-thm.met 𝓤 H 𝓜 𝓖 𝓡))
-    (cited 𝓤 H (AnswerC 𝓤 H (𝓖 .A) (𝓜 .mem) (𝓡 .run)) 𝓜 𝓡 code.env #answer-of answer-of-def.routine code.calls-stor·whole·answer-of (answer-of-thm.met 𝓤 H 𝓜 𝓖 𝓡)))
+    (cited 𝓤 H (AnswerC 𝓤 H (𝓖 .A) (𝓜 .mem) (𝓡 .run)) 𝓜 𝓡 code.env #answer-of answer-of-def.routine code.calls-whole·answer-of (answer-of-thm.met 𝓤 H 𝓜 𝓖 𝓡)))

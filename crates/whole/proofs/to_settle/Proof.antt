@@ -1,8 +1,8 @@
--- `stor::whole::to_settle` meets its contract: the answer decides.
+-- `whole::to_settle` meets its contract: the answer decides.
 use mathlib.Core.Path.{refl}
 use borrow.Author.Needs.{needs}
-use Rattle.stor.proofs.whole.to_settle.Statement.{statement}
-use Rattle.stor.proofs.whole.to_settle.Tie as tie
+use Rattle.whole.proofs.to_settle.Statement.{statement}
+use Rattle.whole.proofs.to_settle.Tie as tie
 
 enum-told : tie.Need-enum-told
 enum-told c = search needs

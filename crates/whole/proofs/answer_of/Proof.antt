@@ -1,8 +1,8 @@
--- `stor::whole::answer_of` meets its contract: the answer decides.
+-- `whole::answer_of` meets its contract: the answer decides.
 use mathlib.Core.Path.{refl}
 use borrow.Author.Needs.{needs}
-use Rattle.stor.proofs.whole.answer_of.Statement.{statement}
-use Rattle.stor.proofs.whole.answer_of.Tie as tie
+use Rattle.whole.proofs.answer_of.Statement.{statement}
+use Rattle.whole.proofs.answer_of.Tie as tie
 
 enum-told : tie.Need-enum-told
 enum-told c = search needs
