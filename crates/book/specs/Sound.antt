@@ -10,7 +10,7 @@ use Rattle.energy.specs.Lists.{all, pass}
 use Rattle.rules.specs.Refusal.{taken}
 use Rattle.rules.specs.Reached.{agreedTests}
 use Rattle.tables.specs.Unused.{isNoWindow, isNoInstruction, isNoDefault}
-pub use Rattle.tables.specs.Unused.{noContractTests}
+unfoldable pub use Rattle.tables.specs.Unused.{noContractTests}
 use Rattle.book.specs.Book.{emptyBook, putAll}
 use Rattle.rules.specs.declared.entries.Command.{Command}
 use Rattle.book.specs.declared.Book.{Book}

@@ -4,7 +4,3 @@ pub mod RoundTrip
 pub mod Pieces
 pub mod Files
 pub mod Turns
-pub mod WrittenLaid
-pub mod WrittenParts
-pub mod WrittenBook
-pub mod WholeFile

@@ -28,7 +28,7 @@ use Rattle.book.specs.declared.Book.{Book}
 use Rattle.book.proofs.Follow.{Follows, follow, starts, contract-is}
 use Rattle.book.proofs.Determined.{empty-contract}
 use Rattle.book.proofs.Left.{book-reached, same-book}
-use Rattle.stor.specs.Write.{writeConditions, writtenBy, writeBook, WrittenBytes}
+use Rattle.writer.specs.Write.{writeConditions, writtenBy, writeBook, WrittenBytes}
 use Rattle.stor.specs.RoundTrip.{enterAll, bytesIn, SameAgain, RoundTrip·theorem}
 
 -- ---- what was written

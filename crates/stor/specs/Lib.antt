@@ -1,9 +1,6 @@
 pub mod Steps
 pub mod Demand3
 pub mod Appendix2
-pub mod Layout
-pub mod Write
 pub mod RoundTrip
 pub mod Files
 pub mod Turn
-pub mod Whole

@@ -11,7 +11,7 @@ use Rattle.book.specs.Book.{ledgerIn, emptyBook}
 use Rattle.book.specs.Sound.{Shaped}
 use Rattle.book.specs.Enter.{enterBook}
 use Rattle.book.specs.declared.Book.{Book}
-use Rattle.stor.specs.Write.{writeBook, WrittenBytes}
+use Rattle.writer.specs.Write.{writeBook, WrittenBytes}
 
 -- book and meter memory after entering commands one after the other
 pub record After : Type 0 where

@@ -1,4 +1,2 @@
-// The package's front: a whole book written as a unit file, and whole unit files read, entered and settled.
+// Whole unit files and pieces of them, read and entered.
 pub mod file;
-pub mod whole;
-pub mod writer;

@@ -1,0 +1,3 @@
+pub mod WrittenLaid
+pub mod WrittenParts
+pub mod WrittenBook

@@ -1,0 +1,74 @@
+-- `writer::layout::put_readings` meets its contract: the readings of the minutes passed are put, and the next one goes after them.
+use mathlib.Core.Path.{_≡_}
+use Prim.Native.Nat.{_-_, _≤_}
+use native.Mathlib.Omega.{arith}
+use borrow.Author.Needs.{needs}
+use Rattle.writer.specs.Laid.{Laid, readings}
+use Rattle.writer.proofs.WrittenLaid.{laid-none, laid-long, room-so, room-turn, laid-turn}
+use Rattle.writer.proofs.WrittenParts.{readings-none, readings-turns}
+use Rattle.writer.proofs.layout.put_readings.Statement.{statement}
+use Rattle.writer.proofs.layout.put_readings.Tie as tie
+
+abbrev Inv-loop : tie.InvT-loop
+Inv-loop meter span out₀ at place₀ m₀ out place m = (m ≤ span) × Laid (readings meter m) out₀ at out place
+
+abbrev μ-loop : tie.MeasureT-loop
+μ-loop meter span out₀ at place₀ m₀ out place m = span - m
+
+loop-holds : tie.Need-loop-holds Inv-loop μ-loop
+loop-holds c = (search needs, rw (readings-none (c .before .args .meter .now)) (laid-none _ _))
+
+cast-t9 : tie.Need-cast-t9 Inv-loop μ-loop
+cast-t9 c = omega (arith, c .before .before .before .pre .1)
+
+kw-at-requires : tie.Need-kw-at-requires Inv-loop μ-loop
+kw-at-requires c κs = omega arith
+
+put-cell-requires : tie.Need-put-cell-requires Inv-loop μ-loop
+put-cell-requires c κs =
+    let l = c .before .before in
+    let s = l .before .before .before in
+    rw (c .before .kw-at .ensures) (room-turn (readings-turns (s .args .meter .now) (s .args .span)) (s .pre .2) (l .loop-test .taken) (l .before .loop .inv .1))
+
+add-m : tie.Need-add-m Inv-loop μ-loop
+add-m c = search needs
+
+loop-less : tie.Need-loop-less Inv-loop μ-loop
+loop-less c = search needs
+
+loop-again : tie.Need-loop-again Inv-loop μ-loop
+loop-again c =
+    let p = c .before .before in
+    let k = p .before .before in
+    let l = k .before in
+    let s = l .before .before .before in (
+      search needs,
+      laid-turn (readings-turns (s .args .meter .now) (s .args .span)) (s .pre .2) (l .loop-test .taken) (l .before .loop .inv .1) (rw (k .kw-at .ensures) at (p .put-cell .ensures)),
+    )
+
+same-length : tie.Need-same-length Inv-loop μ-loop
+same-length c =
+    let s = c .before .before .before in
+    laid-long (room-so (readings-turns (s .args .meter .now) (s .args .span)) (s .pre .2) (c .before .loop .m) (c .before .loop .inv .0)) (c .before .loop .inv .1)
+
+returns : tie.Need-returns Inv-loop μ-loop
+returns c =
+    let l = c .before in
+    let end : l .loop .m ≡ l .before .before .args .span = omega arith in
+    rw end at (l .loop .inv .1)
+
+pub put-readings-spec : {M : Type 1} → statement M
+put-readings-spec =
+    tie.close
+    (tie.spec
+    Inv-loop
+    μ-loop
+    loop-holds
+    cast-t9
+    kw-at-requires
+    put-cell-requires
+    add-m
+    loop-less
+    loop-again
+    same-length
+    returns)

@@ -1,0 +1,39 @@
+-- "The writer": a book as a unit file in lent bytes, by one equation over the rules.
+use mathlib.Core.Bool.{Bool, not}
+use mathlib.Core.List.{List, [], _∷_, _++_}
+use mathlib.Core.Option.{Option, none, some}
+use Prim.Native.Nat.{ℕ}
+use lib.IntN.{ℤ}
+use lib.Dec.{ltb}
+use lib.ListN.{length, drop}
+use Rattle.rules.specs.Ledger.{Ledger, contractOf, spanOf}
+use Rattle.rules.specs.Refusal.{Condition, _when_, lowest, answerOf}
+use Rattle.rules.specs.File.{fileOf}
+use Rattle.book.specs.Book.{ledgerIn}
+use Rattle.book.specs.Sound.{sound}
+use Rattle.book.specs.declared.Book.{Book}
+use Rattle.writer.specs.declared.Written.{Written}
+
+-- what writing meets. unleft: no list of commands leaves the book; size and room: the lengths of meter memory and of the lent bytes
+unfoldable pub writeConditions : Bool → ℕ → ℕ → Ledger → List Condition
+writeConditions unleft size room g =
+    (11 when unleft) ∷ (15 when ltb size (spanOf (contractOf g))) ∷ (26 when ltb room (length (fileOf g))) ∷ []
+
+-- the answer, and the lent bytes after it
+pub record WrittenBytes : Type 0 where
+  pub written : Written
+  pub memory : List ℕ
+
+-- the file in the first bytes, and those after it as they were; a refusal alters none
+abbrev pub writtenBy : Option ℕ → Ledger → List ℕ → WrittenBytes
+writtenBy none g memory =
+    record {
+      written = record { answer = answerOf none; size = length (fileOf g) };
+      memory = fileOf g ++ drop (length (fileOf g)) memory;
+    }
+writtenBy (some n) g memory = record { written = record { answer = answerOf (some n); size = 0 }; memory = memory }
+
+-- writing a book
+unfoldable pub writeBook : Book → List ℤ → List ℕ → WrittenBytes
+writeBook b meter memory =
+    writtenBy (lowest (writeConditions (not (sound b)) (length meter) (length memory) (ledgerIn b meter))) (ledgerIn b meter) memory

@@ -1,0 +1,74 @@
+// What a book is written as: the entries of its tables as commands, and the cells of meter memory.
+ghost use mathlib.Core.Path.{_≡_};
+ghost use Prim.Native.Nat.{_<_};
+ghost use lib.ListN.{length, getD};
+ghost use Rattle.rules.specs.Ledger.{spanOf};
+ghost use Rattle.rules.specs.Refusal.{isReading};
+ghost use Rattle.book.specs.Book.{missing};
+ghost use Rattle.writer.specs.Laid.{placesIn, usedIn};
+use book::Book;
+use energy::units::Kw;
+use rules::checks::kw_from_to;
+use rules::contract::Contract;
+use rules::entries::Command;
+
+// The minutes of a contract's month.
+pub(crate) fn span_of(k: Contract) -> usize
+    ensures { λ r. ⌜ r ≡ spanOf k ⌝ }
+{
+    1440 * k.days as usize
+}
+
+// A table of a book.
+pub(crate) enum Table {
+    Windows,
+    Instructions,
+    Defaults,
+}
+
+// How many entries of a table are in use.
+pub(crate) fn used(b: Book, table: Table) -> usize
+    ensures { λ r. ⌜ r ≡ usedIn b table ⌝ }
+{
+    match table {
+        Table::Windows => b.nwindows,
+        Table::Instructions => b.ninstructions,
+        Table::Defaults => b.ndefaults,
+    }
+}
+
+// An entry of a table as a command.
+pub(crate) fn entry(b: Book, table: Table, i: usize) -> Command
+    requires { ⌜ i < length (placesIn b table) ⌝ }
+    ensures { λ r. ⌜ r ≡ getD (placesIn b table) i Command.Close ⌝ }
+{
+    match table {
+        Table::Windows => {
+            let w = b.windows[i];
+            Command::Window(w)
+        }
+        Table::Instructions => {
+            let x = b.instructions[i];
+            Command::Instruction(x)
+        }
+        Table::Defaults => {
+            let d = b.defaults[i];
+            Command::Default(d)
+        }
+    }
+}
+
+// The kW in a minute's cell.
+pub(crate) fn kw_at(meter: &[i32], m: usize) -> Kw
+    requires { ⌜ m < length (now meter) ⌝ }
+    ensures { λ r. ⌜ r .0 ≡ getD (now (meter .entry)) m missing ⌝ }
+{
+    Kw(meter[m] as i64)
+}
+
+// Whether a cell's kW is a reading.
+pub(crate) fn is_reading(kw: Kw) -> bool
+    ensures { λ r. ⌜ r ≡ isReading (kw .0) ⌝ }
+{
+    kw_from_to(Contract::READING_LEAST, Contract::READING_MOST, kw)
+}
