@@ -15,7 +15,7 @@ use borrow.Author.Needs.{needs}
 use Rattle.energy.specs.Lists.{concatMap}
 use Rattle.rules.specs.Statement.{nothing}
 use Rattle.rules.specs.declared.statement.Available.{Available}
-use Rattle.tables.proofs.Tables.{length-mapped}
+use Rattle.lines.proofs.Folds.{length-mapped}
 use Rattle.host.specs.Sums.{pairOf}
 use Rattle.host.proofs.Laid.{put-two, concat-suc, length-pairs}
 use Rattle.host.proofs.sums.put_entries.Statement.{statement}
