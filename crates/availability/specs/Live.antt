@@ -6,7 +6,7 @@ use Prim.Native.Nat.{ℕ, zero, suc, _+_, _/_, _≤_, _<_}
 use lib.Dec.{eqb, leb, ltb}
 use lib.ListN.{length, getD}
 use Rattle.rules.specs.declared.entries.Window.{Window}
-use Rattle.book.specs.Book.{noWindow}
+use Rattle.tables.specs.Unused.{noWindow}
 use Rattle.lines.specs.Terms.{ceaseOf}
 
 -- the first n instructions end in the month, and reach is at most recovery and response at their largest

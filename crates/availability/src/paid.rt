@@ -4,7 +4,7 @@ ghost use mathlib.Core.Bool.{cond};
 ghost use Prim.Native.Nat.{ℕ, _≤_, _<_};
 ghost use lib.ListN.{length, getD};
 ghost use Rattle.energy.specs.Number.{Within};
-ghost use Rattle.book.specs.Book.{noDefault};
+ghost use Rattle.tables.specs.Unused.{noDefault};
 ghost use Rattle.availability.specs.Live.{Dark};
 ghost use Rattle.availability.specs.Paid.{Marks, Placed, Spans, Struck, availabilityBy, entriesBy, entryOf, marked, paidIn, penaltyBy, reachFrom, reachTo};
 use crate::live::mark;

@@ -7,7 +7,7 @@ use native.Mathlib.Omega.{arith}
 use lib.ListN.{length, getD, set, length-set}
 use lib.Seq.{getD-set-same, getD-set-other}
 use Rattle.rules.specs.declared.entries.Instruction.{Instruction}
-use Rattle.book.specs.Book.{noInstruction}
+use Rattle.tables.specs.Unused.{noInstruction}
 use Rattle.lines.specs.Terms.{Timed}
 
 module _ (at f : ℕ → ℕ) where

@@ -6,7 +6,7 @@ use lib.ListN.{length, getD}
 use Rattle.rules.specs.Ledger.{kwOf, upMinutes, downMinutes}
 use Rattle.rules.specs.declared.contract.Contract.{Contract}
 use Rattle.rules.specs.declared.entries.Instruction.{Instruction}
-use Rattle.book.specs.Book.{noInstruction}
+use Rattle.tables.specs.Unused.{noInstruction}
 use Rattle.lines.specs.declared.terms.Terms.{Terms}
 
 -- what lines need of a contract, beside the number of instructions

@@ -4,7 +4,7 @@ use Prim.Native.Nat.{_+_, _-_, _≤_, _<_}
 use native.Mathlib.Omega.{arith}
 use lib.ListN.{length, getD}
 use borrow.Author.Needs.{needs}
-use Rattle.book.specs.Book.{noWindow}
+use Rattle.tables.specs.Unused.{noWindow}
 use Rattle.availability.specs.Live.{isLive, Lit, Showed}
 use Rattle.availability.proofs.Marks.{lit-none, lit-next}
 use Rattle.availability.proofs.live.show_live.Statement.{statement}

@@ -4,7 +4,7 @@ use Prim.Native.Nat.{_-_, _<_}
 use native.Mathlib.Omega.{arith}
 use lib.ListN.{getD, set}
 use borrow.Author.Needs.{needs}
-use Rattle.book.specs.Book.{noWindow}
+use Rattle.tables.specs.Unused.{noWindow}
 use Rattle.rules.specs.declared.entries.Window.{Window}
 use Rattle.availability.specs.Live.{Marked}
 use Rattle.availability.specs.Paid.{numberOf, windowOf, reachFrom, reachTo, Marks}
