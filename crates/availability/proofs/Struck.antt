@@ -11,10 +11,10 @@ use lib.ListN.{length, getD, set, replicate, length-set, length-replicate, getD-
 use lib.Seq.{getD-set-same, getD-set-other}
 use borrow.Author.Tests.{le-leb, lt-leb}
 use Rattle.energy.proofs.Tests.{eq-true, eq-false}
-use Rattle.rules.specs.declared.entries.Default.{Default}
-use Rattle.rules.specs.declared.entries.Window.{Window}
+use Rattle.commands.specs.declared.entries.Default.{Default}
+use Rattle.commands.specs.declared.entries.Window.{Window}
 use Rattle.tables.specs.Unused.{noDefault}
-use Rattle.availability.specs.Live.{Marked, Dark}
+use Rattle.live.specs.Live.{Marked, Dark}
 use Rattle.availability.specs.Paid.{numberOf, windowOf, reachFrom, reachTo, loses, strikes, lostTo, struckTo, Marks, Struck, marked}
 
 -- a table of zeros has no mark

@@ -11,8 +11,8 @@ use Rattle.energy.specs.Energy.{periodParts, penceOfParts}
 use Rattle.energy.specs.Lists.{count, between}
 use Rattle.energy.specs.Number.{up}
 use Rattle.rules.specs.Statement.{nothing}
-use Rattle.rules.specs.declared.entries.Default.{Default}
-use Rattle.rules.specs.declared.entries.Window.{Window}
+use Rattle.commands.specs.declared.entries.Default.{Default}
+use Rattle.commands.specs.declared.entries.Window.{Window}
 use Rattle.rules.specs.declared.statement.Available.{Available}
 use Rattle.tables.specs.Unused.{noDefault, noWindow}
 use Rattle.availability.specs.declared.paid.Entries.{Entries}

@@ -1,3 +1,2 @@
-// Availability: which windows are live, which of their periods are paid, and what they are paid.
-pub mod live;
+// Availability: which periods of the live windows are paid, and what they are paid.
 pub mod paid;

@@ -8,10 +8,10 @@ use lib.ListN.{length, take, drop, replicate, length-drop, take-append-drop}
 use lib.Seq.{length-take-le}
 use Rattle.energy.specs.Lists.{all, isEmpty}
 use Rattle.energy.proofs.Tests.{T-and}
-use Rattle.rules.specs.declared.contract.Contract.{Contract}
-use Rattle.rules.specs.declared.entries.Window.{Window}
-use Rattle.rules.specs.declared.entries.Instruction.{Instruction}
-use Rattle.rules.specs.declared.entries.Default.{Default}
+use Rattle.commands.specs.declared.contract.Contract.{Contract}
+use Rattle.commands.specs.declared.entries.Window.{Window}
+use Rattle.commands.specs.declared.entries.Instruction.{Instruction}
+use Rattle.commands.specs.declared.entries.Default.{Default}
 use Rattle.tables.specs.Unused.{noWindow, noInstruction, noDefault, isNoWindow, isNoInstruction, isNoDefault}
 use Rattle.book.specs.Sound.{sound, Shaped}
 use Rattle.book.specs.declared.Book.{Book}

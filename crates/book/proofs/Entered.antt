@@ -12,18 +12,19 @@ use lib.ListN.{length}
 use borrow.Author.Tests.{leb-false, ltb-false, not-false}
 use Rattle.energy.proofs.Tests.{T-and}
 use Rattle.rules.specs.Ledger.{spanOf}
-use Rattle.rules.specs.Refusal.{isReading, from-to, Condition, conditions, lowest, refusal}
-use Rattle.rules.specs.Input.{orZero}
+use Rattle.rules.specs.Refusal.{conditions, refusal}
+use Rattle.commands.specs.Input.{isReading, from-to, Condition, lowest, orZero}
 use Rattle.rules.specs.declared.answer.Answer.the-variants.{Taken, Refused}
-use Rattle.rules.specs.declared.contract.Contract.{Contract}
-use Rattle.rules.specs.declared.entries.Window.{Window}
-use Rattle.rules.specs.declared.entries.Instruction.{Instruction}
-use Rattle.rules.specs.declared.entries.Default.{Default}
-use Rattle.rules.specs.declared.entries.Reading.{Reading}
-use Rattle.rules.specs.declared.entries.Command.{Command}
-use Rattle.rules.specs.declared.entries.Command.the-variants.{Contract as contractᶜ, Window as windowᶜ, Instruction as instructionᶜ, Default as defaultᶜ, Reading as readingᶜ}
+use Rattle.commands.specs.declared.contract.Contract.{Contract}
+use Rattle.commands.specs.declared.entries.Window.{Window}
+use Rattle.commands.specs.declared.entries.Instruction.{Instruction}
+use Rattle.commands.specs.declared.entries.Default.{Default}
+use Rattle.commands.specs.declared.entries.Reading.{Reading}
+use Rattle.commands.specs.declared.entries.Command.{Command}
+use Rattle.commands.specs.declared.entries.Command.the-variants.{Contract as contractᶜ, Window as windowᶜ, Instruction as instructionᶜ, Default as defaultᶜ, Reading as readingᶜ}
 use Rattle.rules.proofs.Taken.{Allowed, allowed, clear}
-use Rattle.book.specs.Book.{ledgerIn, putBook, putMeter}
+use Rattle.meter.specs.Meter.{putMeter}
+use Rattle.book.specs.Book.{ledgerIn, putBook}
 use Rattle.book.specs.Enter.{Enters, enterBook}
 use Rattle.book.specs.Numbers.{refusalOf}
 use Rattle.book.specs.Sound.{sound}

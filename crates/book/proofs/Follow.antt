@@ -14,20 +14,22 @@ use lib.ListN.{length, take, drop, set, getD, replicate, length-set, length-appe
 use lib.Seq.{drop-cons, drop-set-lt}
 use Rattle.energy.specs.Lists.{all, any, pass, isEmpty, concatMap}
 use Rattle.energy.proofs.Tests.{T-and}
+use Rattle.commands.specs.Input.{from-to, isReading}
 use Rattle.rules.specs.Ledger.{Ledger, ledgerOf, contractOf, spanOf, readingOf}
-use Rattle.rules.specs.Refusal.{refusal, from-to, isReading, joined, answerOf}
+use Rattle.rules.specs.Refusal.{refusal, joined, answerOf}
 use Rattle.rules.specs.Reached.{Reached, untouched, agreed, agreedTests}
-use Rattle.rules.specs.declared.contract.Contract.{Contract}
-use Rattle.rules.specs.declared.entries.Window.{Window}
-use Rattle.rules.specs.declared.entries.Instruction.{Instruction}
-use Rattle.rules.specs.declared.entries.Default.{Default}
-use Rattle.rules.specs.declared.entries.Reading.{Reading}
-use Rattle.rules.specs.declared.entries.Command.{Command}
-use Rattle.rules.specs.declared.entries.Command.the-variants.{Contract as contractᶜ, Window as windowᶜ, Instruction as instructionᶜ, Default as defaultᶜ, Reading as readingᶜ, Close as closeᶜ}
+use Rattle.commands.specs.declared.contract.Contract.{Contract}
+use Rattle.commands.specs.declared.entries.Window.{Window}
+use Rattle.commands.specs.declared.entries.Instruction.{Instruction}
+use Rattle.commands.specs.declared.entries.Default.{Default}
+use Rattle.commands.specs.declared.entries.Reading.{Reading}
+use Rattle.commands.specs.declared.entries.Command.{Command}
+use Rattle.commands.specs.declared.entries.Command.the-variants.{Contract as contractᶜ, Window as windowᶜ, Instruction as instructionᶜ, Default as defaultᶜ, Reading as readingᶜ, Close as closeᶜ}
 use Rattle.rules.proofs.Reached.{step, start}
 use Rattle.rules.proofs.Taken.{grown, ledgerOf-snoc, Allowed, allowed}
 use Rattle.rules.proofs.FileLength.{span-fits}
-use Rattle.book.specs.Book.{emptyBook, ledgerIn, putBook, putMeter, cell, missing}
+use Rattle.meter.specs.Meter.{putMeter, cell, missing}
+use Rattle.book.specs.Book.{emptyBook, ledgerIn, putBook}
 use Rattle.tables.specs.Unused.{noContractTests, isNoWindow, isNoInstruction, isNoDefault}
 use Rattle.book.specs.Sound.{sound, Shaped, tableTests, emptyTests}
 use Rattle.book.specs.Enter.{enterBook, enteredBy}

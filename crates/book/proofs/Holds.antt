@@ -14,15 +14,16 @@ use lib.Seq.{take-suc-set, getD-set-same, getD-set-other}
 use Rattle.energy.specs.Lists.{later}
 use Rattle.energy.proofs.Tests.{to-T, of-T}
 use Rattle.rules.specs.Ledger.{readingIn, spanOf}
-use Rattle.rules.specs.Refusal.{isReading}
-use Rattle.rules.specs.declared.contract.Contract.{Contract}
-use Rattle.rules.specs.declared.entries.Window.{Window}
-use Rattle.rules.specs.declared.entries.Instruction.{Instruction}
-use Rattle.rules.specs.declared.entries.Default.{Default}
-use Rattle.rules.specs.declared.entries.Reading.{Reading}
-use Rattle.rules.specs.declared.entries.Command.the-variants.{Contract as contractᶜ, Window as windowᶜ, Instruction as instructionᶜ, Default as defaultᶜ, Reading as readingᶜ, Close as closeᶜ}
+use Rattle.commands.specs.Input.{isReading}
+use Rattle.commands.specs.declared.contract.Contract.{Contract}
+use Rattle.commands.specs.declared.entries.Window.{Window}
+use Rattle.commands.specs.declared.entries.Instruction.{Instruction}
+use Rattle.commands.specs.declared.entries.Default.{Default}
+use Rattle.commands.specs.declared.entries.Reading.{Reading}
+use Rattle.commands.specs.declared.entries.Command.the-variants.{Contract as contractᶜ, Window as windowᶜ, Instruction as instructionᶜ, Default as defaultᶜ, Reading as readingᶜ, Close as closeᶜ}
 use Rattle.rules.proofs.Taken.{grown}
-use Rattle.book.specs.Book.{ledgerIn, putBook, putMeter, cell, missing}
+use Rattle.meter.specs.Meter.{putMeter, cell, missing}
+use Rattle.book.specs.Book.{ledgerIn, putBook}
 use Rattle.book.specs.declared.Book.{Book}
 
 -- the entries in use, with one more

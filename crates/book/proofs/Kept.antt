@@ -14,8 +14,8 @@ use Rattle.rules.specs.Ledger.{Ledger, ledgerOf, contractOf, spanOf}
 use Rattle.rules.specs.Refusal.{refusal, spanFor}
 use Rattle.rules.specs.Reached.{Reached}
 use Rattle.rules.specs.File.{written}
-use Rattle.rules.specs.declared.entries.Command.{Command}
-use Rattle.rules.specs.declared.entries.Command.the-variants.{Contract as contractᶜ, Window as windowᶜ, Instruction as instructionᶜ, Default as defaultᶜ, Reading as readingᶜ, Close as closeᶜ}
+use Rattle.commands.specs.declared.entries.Command.{Command}
+use Rattle.commands.specs.declared.entries.Command.the-variants.{Contract as contractᶜ, Window as windowᶜ, Instruction as instructionᶜ, Default as defaultᶜ, Reading as readingᶜ, Close as closeᶜ}
 use Rattle.rules.proofs.Taken.{Allowed, allowed}
 use Rattle.rules.proofs.Rewritten.{rewritten}
 use Rattle.book.specs.Book.{ledgerIn}

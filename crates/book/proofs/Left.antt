@@ -11,14 +11,16 @@ use lib.Dec.{T, ltb, ltb→lt}
 use lib.ListN.{length, take, getD, replicate, length-replicate, length-take}
 use Rattle.energy.specs.Lists.{pass}
 use Rattle.energy.proofs.Tests.{to-T, of-T}
+use Rattle.commands.specs.Input.{isReading}
 use Rattle.rules.specs.Ledger.{Ledger, ledgerOf, contractOf, spanOf}
-use Rattle.rules.specs.Refusal.{refusal, isReading, joined, takenAfter, taken}
+use Rattle.rules.specs.Refusal.{refusal, joined, takenAfter, taken}
 use Rattle.rules.specs.Reached.{Reached, untouched, agreed, Untouched, Agreed, agreedTests}
 use Rattle.rules.specs.File.{written}
 use Rattle.rules.specs.Rewritten.{Rewritten}
-use Rattle.rules.specs.declared.entries.Command.{Command}
+use Rattle.commands.specs.declared.entries.Command.{Command}
 use Rattle.rules.proofs.Rewritten.{rewritten}
-use Rattle.book.specs.Book.{emptyBook, ledgerIn, putBook, putMeter, putAll, cell, missing}
+use Rattle.meter.specs.Meter.{putMeter, cell, missing}
+use Rattle.book.specs.Book.{emptyBook, ledgerIn, putBook, putAll}
 use Rattle.book.specs.Sound.{sound, Shaped, Left, Left·theorem}
 use Rattle.book.specs.declared.Book.{Book}
 use Rattle.book.proofs.Holds.{none-below}

@@ -1,5 +1,4 @@
 pub mod Tested
-pub mod Cells
 pub mod Numbers
 pub mod Entered
 pub mod Holds
@@ -8,3 +7,5 @@ pub mod Determined
 pub mod Left
 pub mod Kept
 pub mod Readings
+pub mod Chains
+pub mod SoundBook

@@ -12,20 +12,21 @@ use lib.ListN.{length, getD, drop, take}
 use lib.Seq.{length-take-le}
 use borrow.Author.Tests.{ne-eqb}
 use Rattle.energy.specs.Lists.{any, first, isEmpty, isSome, last}
-use Rattle.rules.specs.Command.{onContract, always}
+use Rattle.commands.specs.Command.{onContract, always}
 use Rattle.rules.specs.Ledger.{isContract, spanOf, expiry, endOf, within}
-use Rattle.rules.specs.Refusal.{isReading, inRange, rampTooLong, badWindow, spanFor, recovered, Condition, conditions, lowest, refusal}
-use Rattle.rules.specs.Input.{inputRefusal, orZero}
-use Rattle.rules.specs.declared.contract.Contract.{Contract}
-use Rattle.rules.specs.declared.entries.Window.{Window}
-use Rattle.rules.specs.declared.entries.Instruction.{Instruction}
-use Rattle.rules.specs.declared.entries.Default.{Default}
-use Rattle.rules.specs.declared.entries.Reading.{Reading}
-use Rattle.rules.specs.declared.entries.Command.{Command}
-use Rattle.rules.specs.declared.entries.Command.the-variants.{Contract as contractᶜ, Window as windowᶜ, Instruction as instructionᶜ, Default as defaultᶜ, Reading as readingᶜ, Close as closeᶜ}
-use Rattle.rules.proofs.Input.{input-cond}
+use Rattle.rules.specs.Refusal.{spanFor, recovered, conditions, refusal}
+use Rattle.commands.specs.Input.{isReading, inRange, rampTooLong, badWindow, Condition, lowest, inputRefusal, orZero}
+use Rattle.commands.specs.declared.contract.Contract.{Contract}
+use Rattle.commands.specs.declared.entries.Window.{Window}
+use Rattle.commands.specs.declared.entries.Instruction.{Instruction}
+use Rattle.commands.specs.declared.entries.Default.{Default}
+use Rattle.commands.specs.declared.entries.Reading.{Reading}
+use Rattle.commands.specs.declared.entries.Command.{Command}
+use Rattle.commands.specs.declared.entries.Command.the-variants.{Contract as contractᶜ, Window as windowᶜ, Instruction as instructionᶜ, Default as defaultᶜ, Reading as readingᶜ, Close as closeᶜ}
+use Rattle.commands.proofs.Input.{input-cond}
 use Rattle.tables.specs.Unused.{noWindow}
-use Rattle.book.specs.Book.{missing, ledgerIn}
+use Rattle.meter.specs.Meter.{missing}
+use Rattle.book.specs.Book.{ledgerIn}
 use Rattle.tables.specs.Numbers.{firstNumber}
 use Rattle.book.specs.Numbers.{refusalOf}
 use Rattle.book.specs.Sound.{sound}

@@ -10,47 +10,22 @@ use lib.ListN.{length, getD}
 use borrow.Author.Tests.{ltb-true, leb-true, lt-ltb, le-ltb, lt-leb, not-true}
 use Rattle.energy.proofs.Tests.{to-T, on-and}
 use Rattle.rules.specs.Ledger.{spanOf}
-use Rattle.rules.specs.Refusal.{from-to, isReading, inRange, rampTooLong, badWindow}
-use Rattle.rules.specs.Input.{inputRefusal}
+use Rattle.commands.specs.Input.{from-to, isReading, inRange, rampTooLong, badWindow, inputRefusal}
 use Rattle.rules.specs.declared.answer.Answer.the-variants.{Taken}
-use Rattle.rules.specs.declared.entries.Reading.{Reading}
-use Rattle.rules.specs.declared.entries.Command.{Command}
-use Rattle.rules.specs.declared.entries.Command.the-variants.{Contract as contractᶜ, Window as windowᶜ, Instruction as instructionᶜ, Default as defaultᶜ, Reading as readingᶜ, Close as closeᶜ}
-use Rattle.book.specs.Book.{missing, putMeter}
+use Rattle.commands.specs.declared.entries.Reading.{Reading}
+use Rattle.commands.specs.declared.entries.Command.{Command}
+use Rattle.commands.specs.declared.entries.Command.the-variants.{Contract as contractᶜ, Window as windowᶜ, Instruction as instructionᶜ, Default as defaultᶜ, Reading as readingᶜ, Close as closeᶜ}
+use Rattle.meter.specs.Meter.{missing, putMeter, takesReading}
 use Rattle.book.specs.Enter.{Entered, enterBook}
 use Rattle.tables.specs.Numbers.{firstNumber}
 use Rattle.book.specs.Numbers.{refusalOf}
-use Rattle.book.specs.Readings.{openSpan, takesReading}
+use Rattle.book.specs.Readings.{openSpan}
 use Rattle.book.specs.Sound.{sound}
 use Rattle.book.specs.declared.Book.{Book}
 use Rattle.book.specs.declared.Entry.{Entry}
-use Rattle.tables.proofs.Walks.{input-none}
 use Rattle.book.proofs.Numbers.{firstOf, met-late, reading-later}
 use Rattle.book.proofs.Entered.{taken-entry}
-
--- ---- the tests
-
-record Tests (span : ℕ) (meter : List ℤ) (r : Reading) : Type 0 where
-  input : eqb (inputRefusal (readingᶜ r)) 0 ≡ true
-  inside : r .minute .0 < span
-  held : r .minute .0 < length meter
-  unread : isReading (getD meter (r .minute .0) missing) ≡ false
-
-tests : (span : ℕ) (meter : List ℤ) (r : Reading) → takesReading span meter (readingᶜ r) ≡ true → Tests span meter r
-unfolding takesReading
-tests span meter r t =
-    let m : ℕ = r .minute .0 in
-    let p = on-and (eqb (inputRefusal (readingᶜ r)) 0 && ltb m span && ltb m (length meter)) (not (isReading (getD meter m missing))) t in
-    let q = on-and (eqb (inputRefusal (readingᶜ r)) 0 && ltb m span) (ltb m (length meter)) (p .0) in
-    let o = on-and (eqb (inputRefusal (readingᶜ r)) 0) (ltb m span) (q .0) in
-    record { input = o .0; inside = ltb-true m span (o .1); held = ltb-true m (length meter) (q .1); unread = not-true (isReading (getD meter m missing)) (p .1) }
-
--- such a reading has a cell, and fits it
-pub taken-fits : (span : ℕ) (meter : List ℤ) (r : Reading) → takesReading span meter (readingᶜ r) ≡ true → (r .minute .0 < length meter) × T (isReading (r .kw .0))
-taken-fits span meter r t =
-    let p = tests span meter r t in
-    let n : inRange (readingᶜ r) ≡ true = on-and (inRange (readingᶜ r)) (not (rampTooLong (readingᶜ r)) && not (badWindow (readingᶜ r))) (sym (input-none (readingᶜ r)) ∙ p .input) .0 in
-    (p .held, to-T (on-and (from-to 0 44640 (r .minute .0)) (isReading (r .kw .0)) n .1))
+use Rattle.meter.proofs.Taking.{tests}
 
 -- ---- the open span
 

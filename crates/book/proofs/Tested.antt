@@ -10,11 +10,11 @@ use Rattle.energy.specs.Lists.{all, first, pass}
 use Rattle.energy.proofs.Tests.{to-T, of-T, T-and, and-T, passes, passed}
 use Rattle.rules.specs.Ledger.{contractOf, noContract}
 use Rattle.rules.specs.Reached.{agreedTests}
-use Rattle.rules.specs.declared.contract.Contract.{Contract}
-use Rattle.rules.specs.declared.entries.Window.{Window}
-use Rattle.rules.specs.declared.entries.Instruction.{Instruction}
-use Rattle.rules.specs.declared.entries.Default.{Default}
-use Rattle.rules.proofs.Chain.{not-on}
+use Rattle.commands.specs.declared.contract.Contract.{Contract}
+use Rattle.commands.specs.declared.entries.Window.{Window}
+use Rattle.commands.specs.declared.entries.Instruction.{Instruction}
+use Rattle.commands.specs.declared.entries.Default.{Default}
+use Rattle.commands.proofs.Chain.{not-on}
 use Rattle.rules.proofs.Reached.{Parts, parts}
 use Rattle.book.specs.Book.{ledgerIn}
 use Rattle.tables.specs.Unused.{isNoWindow, isNoInstruction, isNoDefault, isZero, noContractTests}

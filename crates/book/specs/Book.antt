@@ -1,16 +1,16 @@
--- "The book": its tables, what it holds with meter memory in the rules' terms, and what a taken command puts into both.
+-- "The book": its tables, what it holds with meter memory in the rules' terms, and what a taken command puts into it.
 use mathlib.Core.Bool.{true, false, cond}
-use mathlib.Core.List.{List, [], _∷_, _++_}
-use mathlib.Core.Option.{Option, none, some}
+use mathlib.Core.List.{List, [], _∷_}
+use mathlib.Core.Option.{none}
 use Prim.Native.Nat.{_+_}
-use lib.IntN.{ℤ, negsuc}
+use lib.IntN.{ℤ}
 use lib.Dec.{ltb}
-use lib.ListN.{getD, take, drop, set, replicate}
+use lib.ListN.{getD, take, set, replicate}
 use Rattle.rules.specs.Ledger.{Ledger, noContract, spanOf}
-use Rattle.rules.specs.Refusal.{isReading}
-use Rattle.rules.specs.declared.entries.Command.{Command}
-use Rattle.rules.specs.declared.entries.Command.the-variants.{Contract as contractᶜ, Window as windowᶜ, Instruction as instructionᶜ, Default as defaultᶜ, Reading as readingᶜ, Close as closeᶜ}
+use Rattle.commands.specs.declared.entries.Command.{Command}
+use Rattle.commands.specs.declared.entries.Command.the-variants.{Contract as contractᶜ, Window as windowᶜ, Instruction as instructionᶜ, Default as defaultᶜ, Reading as readingᶜ, Close as closeᶜ}
 pub use Rattle.tables.specs.Unused.{noWindow, noInstruction, noDefault}
+use Rattle.meter.specs.Meter.{missing, cell}
 use Rattle.book.specs.declared.Book.{Book}
 
 -- the empty book: no contract, and zeros
@@ -28,14 +28,6 @@ emptyBook =
       ndefaults = 0;
     }
 
--- the mark of a minute without a reading
-abbrev pub missing : ℤ
-missing = negsuc 2147483647
-
--- a cell's reading: none where it is outside the range
-abbrev pub cell : ℤ → Option ℤ
-cell z = cond (isReading z) (some z) none
-
 -- ---- what a book and meter memory hold
 
 -- the ledger of a book and meter memory. Cells past the span are no readings
@@ -50,7 +42,7 @@ ledgerIn b meter =
       reading = λ m. cond (ltb m (spanOf (b .contract))) (cell (getD meter m missing)) none;
     }
 
--- ---- a taken command put into the book and the meter memory
+-- ---- a taken command put into the book
 
 -- the book with a command's entry
 abbrev pub putBook : Book → Command → Book
@@ -115,15 +107,6 @@ putBook b closeᶜ =
       defaults = b .defaults;
       ndefaults = b .ndefaults;
     }
-
--- meter memory with a command's reading, or with a contract's span marked
-abbrev pub putMeter : List ℤ → Command → List ℤ
-putMeter meter (contractᶜ k) = replicate (spanOf k) missing ++ drop (spanOf k) meter
-putMeter meter (windowᶜ w) = meter
-putMeter meter (instructionᶜ i) = meter
-putMeter meter (defaultᶜ d) = meter
-putMeter meter (readingᶜ r) = set meter (r .minute .0) (r .kw .0)
-putMeter meter closeᶜ = meter
 
 -- the book with the entries of a list of commands
 unfoldable pub putAll : Book → List Command → Book

@@ -7,8 +7,9 @@ use Prim.Native.Nat.{ℕ}
 use lib.IntN.{ℤ}
 use lib.ListN.{length}
 use Rattle.rules.specs.Refusal.{refusal, answerOf}
-use Rattle.rules.specs.declared.entries.Command.{Command}
-use Rattle.book.specs.Book.{ledgerIn, putBook, putMeter}
+use Rattle.commands.specs.declared.entries.Command.{Command}
+use Rattle.meter.specs.Meter.{putMeter}
+use Rattle.book.specs.Book.{ledgerIn, putBook}
 use Rattle.book.specs.Sound.{sound}
 use Rattle.book.specs.declared.Book.{Book}
 use Rattle.book.specs.declared.Entry.{Entry}

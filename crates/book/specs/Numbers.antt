@@ -5,8 +5,8 @@ use Prim.Native.Nat.{ℕ}
 use lib.IntN.{ℤ}
 use lib.ListN.{length}
 use Rattle.rules.specs.Refusal.{refusal}
-use Rattle.rules.specs.Input.{orZero}
-use Rattle.rules.specs.declared.entries.Command.{Command}
+use Rattle.commands.specs.Input.{orZero}
+use Rattle.commands.specs.declared.entries.Command.{Command}
 use Rattle.book.specs.Book.{ledgerIn}
 use Rattle.book.specs.Sound.{sound}
 use Rattle.book.specs.declared.Book.{Book}

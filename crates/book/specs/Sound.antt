@@ -12,7 +12,7 @@ use Rattle.rules.specs.Reached.{agreedTests}
 use Rattle.tables.specs.Unused.{isNoWindow, isNoInstruction, isNoDefault}
 unfoldable pub use Rattle.tables.specs.Unused.{noContractTests}
 use Rattle.book.specs.Book.{emptyBook, putAll}
-use Rattle.rules.specs.declared.entries.Command.{Command}
+use Rattle.commands.specs.declared.entries.Command.{Command}
 use Rattle.book.specs.declared.Book.{Book}
 
 -- some list of commands, with meter memory of some length, leaves the book

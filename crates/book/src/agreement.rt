@@ -5,9 +5,9 @@ ghost use Rattle.book.specs.Numbers.{refusalOf};
 ghost use Rattle.book.specs.Sound.{sound};
 use crate::Book;
 use crate::Entry;
-use crate::meter::mark;
-use rules::contract::Contract;
-use rules::entries::Command;
+use commands::contract::Contract;
+use commands::entries::Command;
+use meter::mark;
 use tables::agreement::span_of;
 use tables::refusals::first_number;
 

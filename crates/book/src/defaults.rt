@@ -5,10 +5,10 @@ ghost use Rattle.book.specs.Numbers.{refusalOf};
 ghost use Rattle.book.specs.Sound.{sound};
 use crate::Book;
 use crate::Entry;
-use rules::checks::pick;
-use rules::contract::Contract;
-use rules::entries::Command;
-use rules::entries::Default;
+use commands::checks::pick;
+use commands::contract::Contract;
+use commands::entries::Command;
+use commands::entries::Default;
 use tables::agreement::span_of;
 use tables::defaults::in_window;
 

@@ -2,12 +2,12 @@
 ghost use mathlib.Core.Path.{_≡_};
 ghost use Rattle.book.specs.Book.{emptyBook};
 use crate::Book;
+use commands::contract::Contract;
+use commands::entries::Default;
+use commands::entries::Instruction;
+use commands::entries::Window;
 use energy::units::Kw;
 use energy::units::Minutes;
-use rules::contract::Contract;
-use rules::entries::Default;
-use rules::entries::Instruction;
-use rules::entries::Window;
 
 impl Book {
     // A book without a contract, all zeros.

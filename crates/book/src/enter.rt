@@ -6,7 +6,7 @@ ghost use Rattle.book.specs.Numbers.{refusalOf};
 ghost use Rattle.book.specs.Sound.{sound};
 use crate::Book;
 use crate::Entry;
-use rules::entries::Command;
+use commands::entries::Command;
 
 impl Book {
     // Enters a command, by its own method.

@@ -2,17 +2,17 @@
 ghost use mathlib.Core.Path.{_≡_};
 ghost use Prim.Native.Nat.{_≤_};
 ghost use lib.ListN.{take};
-ghost use Rattle.rules.specs.Ledger.{downMinutes};
+ghost use Rattle.commands.specs.Input.{downMinutes};
 ghost use Rattle.rules.specs.Refusal.{recovered};
 ghost use Rattle.book.specs.Enter.{Enters};
 ghost use Rattle.book.specs.Numbers.{refusalOf};
 ghost use Rattle.book.specs.Sound.{sound};
 use crate::Book;
 use crate::Entry;
-use rules::checks::pick;
-use rules::contract::Contract;
-use rules::entries::Command;
-use rules::entries::Instruction;
+use commands::checks::pick;
+use commands::contract::Contract;
+use commands::entries::Command;
+use commands::entries::Instruction;
 use tables::agreement::span_of;
 use tables::instructions::down_minutes;
 

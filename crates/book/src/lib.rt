@@ -8,16 +8,16 @@ mod defaults;
 mod empty;
 mod enter;
 mod instructions;
-pub mod meter;
+mod reading;
 mod refusals;
 mod sound;
 mod windows;
 
+use commands::contract::Contract;
+use commands::entries::Default;
+use commands::entries::Instruction;
+use commands::entries::Window;
 use rules::answer::Answer;
-use rules::contract::Contract;
-use rules::entries::Default;
-use rules::entries::Instruction;
-use rules::entries::Window;
 
 // The tables are in order of entry; unused entries are zeros.
 pub struct Book {

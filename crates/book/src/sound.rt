@@ -6,7 +6,7 @@ ghost use Rattle.energy.specs.Lists.{pass};
 ghost use Rattle.rules.specs.Reached.{agreedTests};
 ghost use Rattle.book.specs.Sound.{tableTests, emptyTests, sound};
 use crate::Book;
-use rules::contract::Contract;
+use commands::contract::Contract;
 use tables::agreement::is_no_contract;
 use tables::defaults::defaults_sound;
 use tables::defaults::defaults_unused;

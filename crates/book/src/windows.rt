@@ -9,11 +9,11 @@ ghost use Rattle.book.specs.Numbers.{refusalOf};
 ghost use Rattle.book.specs.Sound.{sound};
 use crate::Book;
 use crate::Entry;
+use commands::checks::pick;
+use commands::contract::Contract;
+use commands::entries::Command;
+use commands::entries::Window;
 use energy::units::Minutes;
-use rules::checks::pick;
-use rules::contract::Contract;
-use rules::entries::Command;
-use rules::entries::Window;
 use tables::agreement::span_of;
 
 impl Book {

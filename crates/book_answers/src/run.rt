@@ -4,7 +4,7 @@ use crate::shown::heading;
 use crate::shown::show;
 use book::Book;
 use book::Entry;
-use rules::entries::Command;
+use commands::entries::Command;
 use script::cells::at_most;
 use script::cells::fill;
 use script::cells::get;

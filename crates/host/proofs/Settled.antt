@@ -9,7 +9,7 @@ use lib.IntN.{ℤ}
 use lib.ListN.{length, drop}
 use borrow.Author.Tests.{ltb-false}
 use Rattle.rules.specs.Ledger.{Ledger}
-use Rattle.rules.specs.Refusal.{_when_, lowest}
+use Rattle.commands.specs.Input.{_when_, lowest}
 use Rattle.rules.specs.Segment.{segments}
 use Rattle.rules.specs.Statement.{settleConditions, settleRefusal, statementOf}
 use Rattle.rules.specs.declared.answer.Answer.{Answer}
@@ -18,7 +18,7 @@ use Rattle.rules.proofs.LineBound.{lines-segments}
 use Rattle.book.specs.Book.{ledgerIn}
 use Rattle.book.specs.Sound.{sound}
 use Rattle.book.specs.declared.Book.{Book}
-use Rattle.settlement.specs.Numbers.{numberBook, numberedBy}
+use Rattle.numbers.specs.Numbers.{numberBook, numberedBy}
 use Rattle.settlement.specs.declared.Settlement.{Settlement}
 use Rattle.host.specs.Answers.{numberOf}
 use Rattle.host.specs.Calls.{settleInto, sumsBy}

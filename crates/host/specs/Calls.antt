@@ -10,11 +10,11 @@ use Rattle.rules.specs.declared.answer.Answer.the-variants.{Taken, Refused}
 use Rattle.rules.specs.declared.statement.Statement.{Statement}
 use Rattle.book.specs.Book.{emptyBook}
 use Rattle.book.specs.declared.Book.{Book}
-use Rattle.settlement.specs.Numbers.{Numbered, numberBook}
+use Rattle.numbers.specs.Numbers.{Numbered, numberBook}
 use Rattle.stor.specs.Files.{LoadedFile, load}
 use Rattle.host.specs.Answers.{numberOf, packed}
 use Rattle.host.specs.Sums.{sumCount, sumsOf}
-use Rattle.host.specs.Tables.{bookOf, entire}
+use Rattle.given.specs.Tables.{bookOf, entire}
 
 -- ---- a file entered
 

@@ -3,18 +3,17 @@
 mod answers;
 mod settling;
 mod sums;
-mod tables;
 
 ghost use mathlib.Core.Path.{_≡_};
 ghost use Rattle.host.specs.Calls.{enterFile, settleFile, settleTables};
 use answers::number_of;
 use answers::pack;
+use given::book_of;
+use given::entire_tables;
 use rules::answer::Answer;
 use settling::settle_book;
 use stor::file::load_file;
 use sums::SUMS;
-use tables::book_of;
-use tables::entire_tables;
 
 // Enters a whole unit file. The answer is the refusal's number, or 0, and 256 times the offset of the refused command, or the file's length.
 #[no_mangle]

@@ -6,8 +6,8 @@ ghost use Rattle.host.specs.Calls.{settleInto};
 ghost use Rattle.host.specs.Sums.{sumCount};
 use crate::sums::put_sums;
 use book::Book;
+use numbers::settle_numbers;
 use rules::answer::Answer;
-use settlement::numbers::settle_numbers;
 
 // The number under which settling a book is refused, or 0. Line and sum memory are written only where it is 0.
 pub(crate) fn settle_book(b: Book, meter: &[i32], lines: &mut [i64], sums: &mut [i64]) -> u8

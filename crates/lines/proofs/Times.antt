@@ -6,7 +6,7 @@ use native.Mathlib.Decide.{ℕ-discrete}
 use native.Mathlib.Omega.{arith}
 use lib.ListN.{length, getD, set, length-set}
 use lib.Seq.{getD-set-same, getD-set-other}
-use Rattle.rules.specs.declared.entries.Instruction.{Instruction}
+use Rattle.commands.specs.declared.entries.Instruction.{Instruction}
 use Rattle.tables.specs.Unused.{noInstruction}
 use Rattle.lines.specs.Terms.{Timed}
 

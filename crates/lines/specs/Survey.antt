@@ -6,7 +6,7 @@ use lib.IntN.{ℤ}
 use lib.ListN.{length}
 use Rattle.energy.specs.Energy.{cell}
 use Rattle.energy.specs.Lists.{all, between}
-use Rattle.rules.specs.Refusal.{isReading}
+use Rattle.commands.specs.Input.{isReading}
 use Rattle.rules.proofs.Count.{touched}
 use Rattle.lines.specs.declared.terms.Terms.{Terms}
 use Rattle.lines.specs.declared.survey.Survey.{Survey}

@@ -2,11 +2,11 @@
 ghost use mathlib.Core.Path.{_≡_};
 ghost use Prim.Native.Nat.{_≤_};
 ghost use lib.IntN.{pos};
-ghost use Rattle.rules.specs.Ledger.{kwOf};
+ghost use Rattle.commands.specs.Input.{kwOf};
 ghost use Rattle.lines.specs.Terms.{Timed, noTerms, termsOf};
+use commands::contract::Contract;
+use commands::entries::Instruction;
 use energy::ramp::ramp_minutes;
-use rules::contract::Contract;
-use rules::entries::Instruction;
 
 // What a line needs of the contract, and the number of instructions.
 pub struct Terms {

@@ -2,7 +2,7 @@
 mod input;
 mod output;
 
-use rules::contract::Contract;
+use commands::contract::Contract;
 
 fn main() {
     let mut meter = [Contract::NO_READING; 15840];

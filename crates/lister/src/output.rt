@@ -8,10 +8,10 @@ use listing::rows::line_row;
 use listing::rows::refusal_row;
 use listing::rows::totals_row;
 use listing::rows::window_row;
+use records::Listing;
+use records::listed::listed;
 use rules::answer::Answer;
 use rules::statement::Statement;
-use settlement::Listing;
-use settlement::listed::listed;
 
 fn print(r: Row)
     requires { ⌜ Counted r ⌝ }

@@ -13,8 +13,8 @@ use Rattle.rules.specs.Refusal.{refusal, answerOf, taken}
 use Rattle.rules.specs.Statement.{settleRefusal}
 use Rattle.rules.specs.File.{readAt, write}
 use Rattle.rules.specs.Examples.{minus, agree, guide, days, kind, service, contracted, rampup, rampdown, response, recovery, availability, utilisation, optional, flexible, accepted, rejected, offer, call, fault, metered, readings, periods, calls, opening, appendix2, sample, sampleBytes}
-use Rattle.rules.specs.declared.entries.Command.{Command}
-use Rattle.rules.specs.declared.entries.Command.the-variants.{Contract as contractᶜ, Close as closeᶜ}
+use Rattle.commands.specs.declared.entries.Command.{Command}
+use Rattle.commands.specs.declared.entries.Command.the-variants.{Contract as contractᶜ, Close as closeᶜ}
 use Rattle.rules.specs.declared.answer.Answer.{Answer}
 use Rattle.rules.specs.declared.answer.Answer.the-variants.{Taken, Refused}
 use Rattle.rules.specs.declared.file.Read.{Read}

@@ -16,7 +16,7 @@ use Rattle.rules.specs.Ledger.{Ledger, contractOf}
 use Rattle.rules.specs.Segment.{price, Segment, segments}
 use Rattle.rules.specs.Statement.{expectedOf, deliveredOf, lineOf, lines, statementOf, paidPeriods, periodExact, periodPence, availableOf, windowsPaid, exactOf, rateOf, exactEnergy, paidCount, exactAmount, allowance, Differ}
 use Rattle.rules.specs.Bounds.{Bounds}
-use Rattle.rules.specs.declared.entries.Window.{Window}
+use Rattle.commands.specs.declared.entries.Window.{Window}
 use Rattle.rules.specs.declared.statement.Line.{Line}
 use Rattle.rules.specs.declared.statement.Available.{Available}
 

@@ -7,8 +7,8 @@ use Rattle.energy.specs.Lists.{sumℕ}
 use Rattle.rules.specs.Ledger.{Ledger, ledgerOf, contractOf}
 use Rattle.rules.specs.Refusal.{taken}
 use Rattle.rules.specs.Lines.{LinesMet·theorem}
-use Rattle.rules.specs.declared.entries.Command.{Command}
-use Rattle.rules.specs.declared.entries.Command.the-variants.{Contract as contractᶜ, Instruction as instructionᶜ}
+use Rattle.commands.specs.declared.entries.Command.{Command}
+use Rattle.commands.specs.declared.entries.Command.the-variants.{Contract as contractᶜ, Instruction as instructionᶜ}
 use Rattle.rules.proofs.Opened.{opened}
 use Rattle.rules.proofs.Count.{touched}
 use Rattle.rules.proofs.Reached.{reached}

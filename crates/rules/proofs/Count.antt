@@ -11,8 +11,8 @@ use lib.ListN.{length}
 use borrow.Author.Tests.{ltb-true, ltb-false, lt-ltb, le-ltb}
 use Rattle.rules.specs.Ledger.{expiry, rise, endOf}
 use Rattle.rules.specs.Segment.{segmentsOf}
-use Rattle.rules.specs.declared.contract.Contract.{Contract}
-use Rattle.rules.specs.declared.entries.Instruction.{Instruction}
+use Rattle.commands.specs.declared.contract.Contract.{Contract}
+use Rattle.commands.specs.declared.entries.Instruction.{Instruction}
 use Rattle.rules.proofs.Cuts.{cutOf, split, rises, cut, cutsFrom, segmentAt, segments-cuts, Timed}
 
 -- the periods that the minutes from a to b - 1 touch

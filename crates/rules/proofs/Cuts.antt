@@ -13,8 +13,8 @@ use Rattle.energy.specs.Lists.{filter, between}
 use Rattle.energy.proofs.Sums.{between-split, between-cons}
 use Rattle.rules.specs.Ledger.{expiry, rise, endOf}
 use Rattle.rules.specs.Segment.{periodOf, stageOf, sameStage, alike, heads, active, Segment, segmentsOf}
-use Rattle.rules.specs.declared.contract.Contract.{Contract}
-use Rattle.rules.specs.declared.entries.Instruction.{Instruction}
+use Rattle.commands.specs.declared.contract.Contract.{Contract}
+use Rattle.commands.specs.declared.entries.Instruction.{Instruction}
 use Rattle.rules.specs.declared.statement.Stage.{Stage}
 use Rattle.rules.specs.declared.statement.Stage.the-variants.{Up, Steady, Down}
 use Rattle.rules.proofs.Lists.{filter-ext, filter-yes, filter-append, filter-all, filter-none}

@@ -18,9 +18,9 @@ use Rattle.rules.specs.Refusal.{refusal, joined, takenAfter, taken}
 use Rattle.rules.specs.File.{total, table, widthsOf, widthsFor, write}
 use Rattle.rules.specs.Reached.{Reached, untouched, agreed, Untouched, Agreed}
 use Rattle.rules.specs.FileLength.{FileLength·theorem}
-use Rattle.rules.specs.declared.entries.Reading.{Reading}
-use Rattle.rules.specs.declared.entries.Command.{Command}
-use Rattle.rules.specs.declared.entries.Command.the-variants.{Contract as contractᶜ, Window as windowᶜ, Instruction as instructionᶜ, Default as defaultᶜ, Reading as readingᶜ, Close as closeᶜ}
+use Rattle.commands.specs.declared.entries.Reading.{Reading}
+use Rattle.commands.specs.declared.entries.Command.{Command}
+use Rattle.commands.specs.declared.entries.Command.the-variants.{Contract as contractᶜ, Window as windowᶜ, Instruction as instructionᶜ, Default as defaultᶜ, Reading as readingᶜ, Close as closeᶜ}
 use Rattle.rules.proofs.Reached.{step as keeps, start}
 use Rattle.rules.proofs.Reread.{reread}
 use Rattle.rules.proofs.Taken.{grown, ledgerOf-snoc, concatMap-append, Allowed, allowed}

@@ -1,7 +1,5 @@
-pub mod Chain
 pub mod Lists
-pub mod Input
-pub mod Terms
+pub mod First
 pub mod Taken
 pub mod Tables
 pub mod Reached

@@ -14,11 +14,11 @@ use Rattle.rules.specs.Statement.{lineOf, lines}
 use Rattle.rules.specs.Reached.{instructionsSound, Reached}
 use Rattle.rules.specs.Reached.Reached.{untouched, agreed}
 use Rattle.rules.specs.Lines.{LineBound, LineBound·theorem}
-use Rattle.rules.specs.declared.contract.Contract.{Contract}
-use Rattle.rules.specs.declared.entries.Instruction.{Instruction}
+use Rattle.commands.specs.declared.contract.Contract.{Contract}
+use Rattle.commands.specs.declared.entries.Instruction.{Instruction}
 use Rattle.rules.proofs.Cuts.{Timed}
 use Rattle.rules.proofs.Count.{touched, stages-most, count-segments}
-use Rattle.rules.proofs.Terms.{Terms}
+use Rattle.commands.proofs.Terms.{Terms}
 use Rattle.rules.proofs.Tables.{InstructionFits, instructions-cons}
 use Rattle.rules.proofs.Reached.{parts-of, terms-of, reached}
 

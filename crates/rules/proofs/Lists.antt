@@ -1,4 +1,4 @@
--- Laws of what a test keeps of a list, and how many it keeps.
+-- Laws of what a test keeps of a list, and how many it keeps; and what stands within a list.
 use mathlib.Core.Path.{_≡_, refl, sym, ap, ap₂, _∙_, subst}
 use mathlib.Core.Logic.{⊎-elim}
 use mathlib.Core.Bool.{Bool, true, false, _&&_, true≢false}
@@ -8,6 +8,7 @@ use native.Mathlib.Decide.{ℕ-discrete}
 use native.Mathlib.Nat.{le-refl, zero-add}
 use native.Mathlib.Omega.{arith}
 use lib.Dec.{T}
+use lib.ListN.{length, getD}
 use Rattle.energy.specs.Lists.{filter, count, run, between}
 use Rattle.energy.proofs.Tests.{to-T}
 
@@ -155,3 +156,11 @@ module _ {A B : Type 0} where
   unfolding count
   count-map f g [] = refl
   count-map f g (x ∷ xs) = ap (λ n. elim (f (g x)) as (λ z. ℕ) [ true ↦ suc n | false ↦ n ]) (count-map f g xs)
+
+-- ---- places
+
+-- within the list, what stands past its end does not matter
+pub getD-within : {A : Type 0} (l : List A) (i : ℕ) (d d′ : A) → i < length l → getD l i d ≡ getD l i d′
+getD-within [] i d d′ h = absurd (omega arith)
+getD-within (x ∷ l) zero d d′ h = refl
+getD-within (x ∷ l) (suc i) d d′ h = getD-within l i d d′ (omega arith)

@@ -1,8 +1,9 @@
 -- The definitions of the rules, all opened by one name: `unfolding opened` lets a closed case compute.
 use Rattle.energy.specs.Lists.{first, filter, any, all, count, sum, sumℕ, isEmpty, last, isSome, else, later, concatMap, pass, run, between}
 use Rattle.energy.specs.Number.{ceiling, nearest, lesser}
-use Rattle.rules.specs.Ledger.{readingOf, ledgerOf, contractOf, upMinutes, downMinutes}
-use Rattle.rules.specs.Refusal.{conditions, lowest, refusal, takenAfter, taken}
+use Rattle.commands.specs.Input.{upMinutes, downMinutes, lowest}
+use Rattle.rules.specs.Ledger.{readingOf, ledgerOf, contractOf}
+use Rattle.rules.specs.Refusal.{conditions, refusal, takenAfter, taken}
 use Rattle.rules.specs.Segment.{active, baseMinutes, needed, complete, stageOf, excludes, live, inLive, rateAt, alike, heads, segmentsOf, segmentsFrom, segments}
 use Rattle.rules.specs.Statement.{reads, baseLoad, expectedOf, deliveredOf, lineOf, lines, paid, paidPeriods, penalty, periodExact, periodPence, availableOf, windowsPaid, statementOf, exactOf, exactEnergy, paidCount, exactAmount, allowance, settleConditions, settleRefusal}
 use Rattle.rules.specs.File.{table, widthsOf, total, wordFrom, bytesOf, signedOf, operands, commandOf, readAt, writeOperands, write, written, fileOf, commandsFrom, commandsIn}

@@ -17,11 +17,11 @@ use Rattle.rules.specs.Ledger.{Ledger, contractOf, rise, endOf}
 use Rattle.rules.specs.Segment.{periodOf, stageOf, sameStage, alike, heads, active, Segment, segmentsOf, segmentsFrom, segments}
 use Rattle.rules.specs.Statement.{lineOf, lines}
 use Rattle.rules.specs.Lines.{belongs, Active, MinuteOf, Partition·theorem}
-use Rattle.rules.specs.declared.contract.Contract.{Contract}
-use Rattle.rules.specs.declared.entries.Instruction.{Instruction}
+use Rattle.commands.specs.declared.contract.Contract.{Contract}
+use Rattle.commands.specs.declared.entries.Instruction.{Instruction}
 use Rattle.rules.specs.declared.statement.Line.{Line}
 use Rattle.rules.specs.declared.statement.Stage.{Stage}
-use Rattle.rules.proofs.Chain.{together}
+use Rattle.commands.proofs.Chain.{together}
 use Rattle.rules.proofs.Lists.{kept-was, in-run, count-yes, count-no, count-ext, count-none, count-append, count-filter, count-map}
 use Rattle.rules.proofs.Cuts.{stage-same, headTest, rankOf, rank-mono, alike-rank, heads-rank}
 

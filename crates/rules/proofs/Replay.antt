@@ -12,16 +12,17 @@ use lib.ListN.{length, length-append}
 use lib.Seq.{append-snoc}
 use Rattle.energy.specs.Lists.{all, any, concatMap, first, isEmpty, later}
 use Rattle.energy.proofs.Tests.{T-and, of-T}
+use Rattle.commands.specs.Input.{lowest, inRange, rampTooLong, badWindow}
 use Rattle.rules.specs.Ledger.{Ledger, ledgerOf, contractOf, spanOf, expiry, endOf, within, readingOf}
-use Rattle.rules.specs.Refusal.{conditions, lowest, refusal, inRange, rampTooLong, badWindow, joined, takenAfter}
+use Rattle.rules.specs.Refusal.{conditions, refusal, joined, takenAfter}
 use Rattle.rules.specs.Reached.{windowsSound, instructionsSound, defaultSound}
-use Rattle.rules.specs.declared.contract.Contract.{Contract}
-use Rattle.rules.specs.declared.entries.Window.{Window}
-use Rattle.rules.specs.declared.entries.Instruction.{Instruction}
-use Rattle.rules.specs.declared.entries.Default.{Default}
-use Rattle.rules.specs.declared.entries.Command.{Command}
-use Rattle.rules.specs.declared.entries.Command.the-variants.{Contract as contractᶜ, Window as windowᶜ, Instruction as instructionᶜ, Default as defaultᶜ}
-use Rattle.rules.proofs.Chain.{apart, not-on}
+use Rattle.commands.specs.declared.contract.Contract.{Contract}
+use Rattle.commands.specs.declared.entries.Window.{Window}
+use Rattle.commands.specs.declared.entries.Instruction.{Instruction}
+use Rattle.commands.specs.declared.entries.Default.{Default}
+use Rattle.commands.specs.declared.entries.Command.{Command}
+use Rattle.commands.specs.declared.entries.Command.the-variants.{Contract as contractᶜ, Window as windowᶜ, Instruction as instructionᶜ, Default as defaultᶜ}
+use Rattle.commands.proofs.Chain.{apart, not-on}
 use Rattle.rules.proofs.Taken.{grown, ledgerOf-snoc}
 use Rattle.rules.proofs.Tables.{lastEnd, last-end, ready, ready-recovered}
 

@@ -14,16 +14,16 @@ use lib.Signed.{leZ}
 use borrow.Author.Tests.{lt-ltb, le-ltb, le-leb, lt-leb}
 use Rattle.energy.specs.Lists.{all, concatMap}
 use Rattle.energy.proofs.Tests.{T-and, and-T}
-use Rattle.rules.specs.Refusal.{inRange, isReading, from-to, from-toℤ}
+use Rattle.commands.specs.Input.{inRange, isReading, from-to, from-toℤ}
 use Rattle.rules.specs.File.{table, widthsOf, total, signedOf, unsignedOf, operands, commandOf, readBody, readAt, byteOf, operandsOf, writeOperands, widthsFor, write, readOn, commandsFrom, commandsIn}
 use Rattle.rules.specs.Reread.{fit, signFits, sayable, Reread}
-use Rattle.rules.specs.declared.entries.Command.{Command}
-use Rattle.rules.specs.declared.entries.Command.the-variants.{Contract as contractᶜ, Window as windowᶜ, Instruction as instructionᶜ, Default as defaultᶜ, Reading as readingᶜ, Close as closeᶜ}
+use Rattle.commands.specs.declared.entries.Command.{Command}
+use Rattle.commands.specs.declared.entries.Command.the-variants.{Contract as contractᶜ, Window as windowᶜ, Instruction as instructionᶜ, Default as defaultᶜ, Reading as readingᶜ, Close as closeᶜ}
 use Rattle.rules.specs.declared.file.Read.{Read}
 use Rattle.rules.specs.declared.file.Read.the-variants.{Got, End, Refused}
 use Rattle.rules.proofs.Operands.{operands-back, length-operands}
-use Rattle.rules.proofs.Chain.{apart}
-use Rattle.rules.proofs.Terms.{ranges, bounds}
+use Rattle.commands.proofs.Chain.{apart}
+use Rattle.commands.proofs.Terms.{ranges, bounds}
 
 -- ---- a command from its operands
 

@@ -12,17 +12,18 @@ use lib.Dec.{T, eqb, ltb}
 use lib.IntN.{ℤ}
 use Rattle.energy.specs.Lists.{all, any, between, concatMap, first, isEmpty, isSome, later, run}
 use Rattle.energy.proofs.Tests.{and-T, of-T}
+use Rattle.commands.specs.Input.{isReading, lowest}
 use Rattle.rules.specs.Ledger.{Ledger, ledgerOf, contractOf, spanOf, readingOf}
-use Rattle.rules.specs.Refusal.{conditions, isReading, lowest, refusal, taken}
+use Rattle.rules.specs.Refusal.{conditions, refusal, taken}
 use Rattle.rules.specs.Reached.{Untouched, Agreed, Reached}
 use Rattle.rules.specs.Reached.Reached.{untouched, agreed}
 use Rattle.rules.specs.File.{readingAt, written, fileOf, commandsIn}
 use Rattle.rules.specs.Reread.{sayable}
 use Rattle.rules.specs.Rewritten.{Rewritten·theorem}
-use Rattle.rules.specs.declared.contract.Contract.{Contract}
-use Rattle.rules.specs.declared.entries.Command.{Command}
-use Rattle.rules.specs.declared.entries.Command.the-variants.{Close as closeᶜ}
-use Rattle.rules.proofs.Terms.{Terms}
+use Rattle.commands.specs.declared.contract.Contract.{Contract}
+use Rattle.commands.specs.declared.entries.Command.{Command}
+use Rattle.commands.specs.declared.entries.Command.the-variants.{Close as closeᶜ}
+use Rattle.commands.proofs.Terms.{Terms}
 use Rattle.rules.proofs.Taken.{later-none, grown, allowed}
 use Rattle.rules.proofs.Reached.{Parts, parts-of, terms-of}
 use Rattle.rules.proofs.Reread.{reread}

@@ -10,14 +10,15 @@ use native.Mathlib.Omega.{arith}
 use lib.Dec.{T, eqb→eq}
 use borrow.Author.Tests.{eq-eqb, ne-eqb}
 use Rattle.energy.specs.Lists.{filter, run, between}
-use Rattle.rules.specs.Ledger.{Ledger, ledgerOf, contractOf, upMinutes, rise, endOf}
+use Rattle.commands.specs.Input.{upMinutes}
+use Rattle.rules.specs.Ledger.{Ledger, ledgerOf, contractOf, rise, endOf}
 use Rattle.rules.specs.Refusal.{taken}
 use Rattle.rules.specs.Segment.{alike, heads, active, Segment, segmentsOf, segmentsFrom, segments}
 use Rattle.rules.specs.Reached.{instructionsSound, Reached}
 use Rattle.rules.specs.Reached.Reached.{untouched, agreed}
 use Rattle.rules.specs.Lines.{InOrder, Rising·theorem}
-use Rattle.rules.specs.declared.contract.Contract.{Contract}
-use Rattle.rules.specs.declared.entries.Instruction.{Instruction}
+use Rattle.commands.specs.declared.contract.Contract.{Contract}
+use Rattle.commands.specs.declared.entries.Instruction.{Instruction}
 use Rattle.rules.proofs.Lists.{kept-was, was-kept, in-run, run-has, filter-cases}
 use Rattle.rules.proofs.Cuts.{headTest, rankOf, rank-mono, alike-rank, heads-rank}
 use Rattle.rules.proofs.Tables.{instructions-cons}

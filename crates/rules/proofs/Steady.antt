@@ -13,9 +13,9 @@ use Rattle.rules.specs.Segment.{periodOf, stageOf, sameStage, alike, act
 use Rattle.rules.specs.Reached.{windowsSound, Reached}
 use Rattle.rules.specs.Reached.Reached.{untouched, agreed}
 use Rattle.rules.specs.Lines.{OneRate, OneRate·theorem}
-use Rattle.rules.specs.declared.contract.Contract.{Contract}
-use Rattle.rules.specs.declared.entries.Window.{Window}
-use Rattle.rules.specs.declared.entries.Instruction.{Instruction}
+use Rattle.commands.specs.declared.contract.Contract.{Contract}
+use Rattle.commands.specs.declared.entries.Window.{Window}
+use Rattle.commands.specs.declared.entries.Instruction.{Instruction}
 use Rattle.rules.specs.declared.statement.Stage.{Stage}
 use Rattle.rules.specs.declared.statement.Stage.the-variants.{Up, Steady, Down}
 use Rattle.rules.specs.declared.statement.Rate.the-variants.{Utilisation, Optional}

@@ -7,16 +7,17 @@ use lib.Dec.{T, eqb, leb, ltb, leb→le, le→leb, eqb→eq}
 use borrow.Author.Tests.{leb-false, ltb-false}
 use Rattle.energy.specs.Lists.{all, any, last}
 use Rattle.energy.proofs.Tests.{T-and, and-T, off-T, off-not, off-or, all-mono, any-snoc}
+use Rattle.commands.specs.Input.{from-to, inRange, badWindow}
 use Rattle.rules.specs.Ledger.{spanOf, expiry, endOf, within}
-use Rattle.rules.specs.Refusal.{from-to, inRange, badWindow, recovered}
+use Rattle.rules.specs.Refusal.{recovered}
 use Rattle.rules.specs.Reached.{windowsSound, instructionsSound, defaultSound}
-use Rattle.rules.specs.declared.contract.Contract.{Contract}
-use Rattle.rules.specs.declared.entries.Window.{Window}
-use Rattle.rules.specs.declared.entries.Instruction.{Instruction}
-use Rattle.rules.specs.declared.entries.Default.{Default}
-use Rattle.rules.specs.declared.entries.Command.the-variants.{Window as windowᶜ, Instruction as instructionᶜ, Default as defaultᶜ}
-use Rattle.rules.proofs.Chain.{chain, apart, together, not-on}
-use Rattle.rules.proofs.Terms.{bounds}
+use Rattle.commands.specs.declared.contract.Contract.{Contract}
+use Rattle.commands.specs.declared.entries.Window.{Window}
+use Rattle.commands.specs.declared.entries.Instruction.{Instruction}
+use Rattle.commands.specs.declared.entries.Default.{Default}
+use Rattle.commands.specs.declared.entries.Command.the-variants.{Window as windowᶜ, Instruction as instructionᶜ, Default as defaultᶜ}
+use Rattle.commands.proofs.Chain.{chain, apart, together, not-on}
+use Rattle.commands.proofs.Terms.{bounds}
 
 -- ---- windows
 

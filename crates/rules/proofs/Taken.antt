@@ -7,9 +7,10 @@ use Prim.Native.Nat.{ℕ}
 use lib.Dec.{T, ltb}
 use Rattle.energy.specs.Lists.{any, concatMap, isEmpty, later}
 use Rattle.energy.proofs.Tests.{off-not}
+use Rattle.commands.specs.Input.{Condition, lowest, inRange, rampTooLong, badWindow}
 use Rattle.rules.specs.Ledger.{Ledger, ledgerOf, contractIn, windowIn, instructionIn, defaultIn, isClose, isContract, readingIn, readingOf}
-use Rattle.rules.specs.Refusal.{Condition, conditions, lowest, refusal, inRange, rampTooLong, badWindow, spanFor, beyondSpan, rejectedCommitted, windowOverlaps, ceaseEarly, issueEarly, outsideWindows, hasReading, tableFull}
-use Rattle.rules.specs.declared.entries.Command.{Command}
+use Rattle.rules.specs.Refusal.{conditions, refusal, spanFor, beyondSpan, rejectedCommitted, windowOverlaps, ceaseEarly, issueEarly, outsideWindows, hasReading, tableFull}
+use Rattle.commands.specs.declared.entries.Command.{Command}
 
 -- ---- the ledger of one command more
 

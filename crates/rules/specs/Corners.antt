@@ -10,8 +10,8 @@ use Rattle.energy.specs.Lists.{filter}
 use Rattle.rules.specs.Statement.{lines, statementOf, windowsPaid, exactEnergy, exactAmount, allowance}
 use Rattle.rules.specs.File.{written, fileOf}
 use Rattle.rules.specs.Examples.{minus, agree, guide, service, recovery, response, rampup, rampdown, flexible, accepted, rejected, offer, call, fault, metered, readings, periods, opening, ledger}
-use Rattle.rules.specs.declared.entries.Command.{Command}
-use Rattle.rules.specs.declared.entries.Command.the-variants.{Close as closeᶜ}
+use Rattle.commands.specs.declared.entries.Command.{Command}
+use Rattle.commands.specs.declared.entries.Command.the-variants.{Close as closeᶜ}
 use Rattle.rules.specs.declared.statement.Stage.{Stage}
 use Rattle.rules.specs.declared.statement.Stage.the-variants.{Up, Steady, Down}
 use Rattle.rules.specs.declared.statement.Rate.{Rate}

@@ -6,8 +6,8 @@ use lib.ListN.{set}
 use Rattle.rules.specs.Ledger.{Ledger, ledgerOf}
 use Rattle.rules.specs.Refusal.{taken}
 use Rattle.rules.specs.File.{commandOf}
-use Rattle.rules.specs.declared.entries.Command.{Command}
-use Rattle.rules.specs.declared.entries.Command.the-variants.{Window as windowᶜ, Instruction as instructionᶜ, Default as defaultᶜ, Reading as readingᶜ, Close as closeᶜ}
+use Rattle.commands.specs.declared.entries.Command.{Command}
+use Rattle.commands.specs.declared.entries.Command.the-variants.{Window as windowᶜ, Instruction as instructionᶜ, Default as defaultᶜ, Reading as readingᶜ, Close as closeᶜ}
 
 -- −n
 abbrev pub minus : ℕ → ℤ

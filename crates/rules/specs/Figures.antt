@@ -8,13 +8,14 @@ use lib.IntN.{ℤ, pos}
 use lib.ListN.{length, set, replicate}
 use Rattle.energy.specs.Energy.{kwh, payment}
 use Rattle.energy.specs.Lists.{first}
-use Rattle.rules.specs.Ledger.{contractOf, upMinutes, downMinutes, endOf}
+use Rattle.commands.specs.Input.{upMinutes, downMinutes}
+use Rattle.rules.specs.Ledger.{contractOf, endOf}
 use Rattle.rules.specs.Refusal.{refusal, taken}
 use Rattle.rules.specs.Segment.{live}
 use Rattle.rules.specs.Statement.{lines, statementOf, windowsPaid, penalty, periodPence, nothing, settleRefusal}
 use Rattle.rules.specs.File.{table, whole, bytesOf, wordFrom}
 use Rattle.rules.specs.Examples.{minus, agree, guide, service, recovery, rampup, rampdown, flexible, accepted, rejected, offer, call, fault, periods, faults, generated, opening, month, appendix2, appendix3, ledger}
-use Rattle.rules.specs.declared.entries.Command.{Command}
+use Rattle.commands.specs.declared.entries.Command.{Command}
 use Rattle.rules.specs.declared.statement.Stage.{Stage}
 use Rattle.rules.specs.declared.statement.Stage.the-variants.{Up, Steady, Down}
 use Rattle.rules.specs.declared.statement.Rate.{Rate}

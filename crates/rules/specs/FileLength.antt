@@ -5,7 +5,7 @@ use lib.ListN.{length}
 use Rattle.energy.specs.Lists.{concatMap}
 use Rattle.rules.specs.Refusal.{taken}
 use Rattle.rules.specs.File.{write}
-use Rattle.rules.specs.declared.entries.Command.{Command}
+use Rattle.commands.specs.declared.entries.Command.{Command}
 
 -- 32 + 6 × 128 + 5 × 64 + 5 × 128 + 1 bytes, and 7 for each cell of meter memory: 112,641 for the 15,840 cells of 11 days
 abbrev pub FileLength·theorem : Type 0

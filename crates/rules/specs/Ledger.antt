@@ -4,16 +4,16 @@ use mathlib.Core.Bool.{Bool, true, false, cond, _&&_}
 use mathlib.Core.List.{List, [], _∷_}
 use mathlib.Core.Option.{Option, none, some}
 use Prim.Native.Nat.{ℕ, _+_, _-_, _*_}
-use lib.IntN.{ℤ, pos, natAbs}
+use lib.IntN.{ℤ, pos}
 use lib.Dec.{eqb, leb, ltb}
 use Rattle.energy.specs.Lists.{first, later, concatMap, any}
-use Rattle.energy.specs.Number.{ceiling}
-use Rattle.rules.specs.Command.{onContract, onWindow, onInstruction, onDefault, onReading, onClose, always}
-use Rattle.rules.specs.declared.contract.Contract.{Contract}
-use Rattle.rules.specs.declared.entries.Window.{Window}
-use Rattle.rules.specs.declared.entries.Instruction.{Instruction}
-use Rattle.rules.specs.declared.entries.Default.{Default}
-use Rattle.rules.specs.declared.entries.Command.{Command}
+use Rattle.commands.specs.Command.{onContract, onWindow, onInstruction, onDefault, onReading, onClose, always}
+use Rattle.commands.specs.Input.{upMinutes, downMinutes}
+use Rattle.commands.specs.declared.contract.Contract.{Contract}
+use Rattle.commands.specs.declared.entries.Window.{Window}
+use Rattle.commands.specs.declared.entries.Instruction.{Instruction}
+use Rattle.commands.specs.declared.entries.Default.{Default}
+use Rattle.commands.specs.declared.entries.Command.{Command}
 
 -- what has been entered. There is at most one contract
 pub record Ledger : Type 0 where
@@ -71,7 +71,7 @@ ledgerOf t =
       reading = readingOf t;
     }
 
--- ---- the contract and its figures
+-- ---- the contract and its month
 
 -- in place of a contract that is not there: zeros, so that the span is 0
 abbrev pub noContract : Contract
@@ -97,18 +97,6 @@ contractOf g = first noContract (g .contracts)
 -- the minutes of the month
 abbrev pub spanOf : Contract → ℕ
 spanOf k = 1440 * k .days
-
--- contracted kW
-abbrev pub kwOf : Contract → ℕ
-kwOf k = natAbs (k .contracted .0)
-
--- ramp up minutes U
-unfoldable pub upMinutes : Contract → ℕ
-upMinutes k = ceiling (kwOf k) (k .rampup)
-
--- ramp down minutes V
-unfoldable pub downMinutes : Contract → ℕ
-downMinutes k = ceiling (kwOf k) (k .rampdown)
 
 -- ---- the times of an instruction, and a window's minutes
 

@@ -11,9 +11,9 @@ use Rattle.rules.specs.Ledger.{Ledger, ledgerOf, contractOf, rise, endOf
 use Rattle.rules.specs.Refusal.{taken}
 use Rattle.rules.specs.Segment.{periodOf, stageOf, sameStage, rateAt, Segment, segments}
 use Rattle.rules.specs.Statement.{lines}
-use Rattle.rules.specs.declared.contract.Contract.{Contract}
-use Rattle.rules.specs.declared.entries.Instruction.{Instruction}
-use Rattle.rules.specs.declared.entries.Command.{Command}
+use Rattle.commands.specs.declared.contract.Contract.{Contract}
+use Rattle.commands.specs.declared.entries.Instruction.{Instruction}
+use Rattle.commands.specs.declared.entries.Command.{Command}
 use Rattle.rules.specs.declared.statement.Line.{Line}
 
 -- ---- minutes and lines

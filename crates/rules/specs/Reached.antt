@@ -8,14 +8,15 @@ use lib.IntN.{ℤ}
 use lib.Dec.{T, eqb, leb, ltb}
 use lib.ListN.{length}
 use Rattle.energy.specs.Lists.{all, any, pass}
+use Rattle.commands.specs.Input.{inRange, rampTooLong, badWindow, isReading}
 use Rattle.rules.specs.Ledger.{Ledger, ledgerOf, contractOf, spanOf, expiry, endOf, within}
-use Rattle.rules.specs.Refusal.{inRange, rampTooLong, badWindow, isReading, taken}
-use Rattle.rules.specs.declared.contract.Contract.{Contract}
-use Rattle.rules.specs.declared.entries.Window.{Window}
-use Rattle.rules.specs.declared.entries.Instruction.{Instruction}
-use Rattle.rules.specs.declared.entries.Default.{Default}
-use Rattle.rules.specs.declared.entries.Command.{Command}
-use Rattle.rules.specs.declared.entries.Command.the-variants.{Contract as contractᶜ, Window as windowᶜ, Instruction as instructionᶜ, Default as defaultᶜ}
+use Rattle.rules.specs.Refusal.{taken}
+use Rattle.commands.specs.declared.contract.Contract.{Contract}
+use Rattle.commands.specs.declared.entries.Window.{Window}
+use Rattle.commands.specs.declared.entries.Instruction.{Instruction}
+use Rattle.commands.specs.declared.entries.Default.{Default}
+use Rattle.commands.specs.declared.entries.Command.{Command}
+use Rattle.commands.specs.declared.entries.Command.the-variants.{Contract as contractᶜ, Window as windowᶜ, Instruction as instructionᶜ, Default as defaultᶜ}
 
 -- windows that could be entered one after the other, the first not before minute e
 unfoldable pub windowsSound : Contract → ℕ → List Window → Bool

@@ -1,62 +1,19 @@
--- "When a command or call is turned down": each condition that a command meets, under its number, and what is taken of a list.
-use mathlib.Core.Bool.{Bool, true, false, not, _&&_, _||_}
+-- "When a command or call is turned down": after the conditions on the input each condition on the state, under its number, and what is taken of a list.
+use mathlib.Core.Bool.{Bool, false, not, _&&_}
 use mathlib.Core.List.{List, [], _∷_, _++_}
 use mathlib.Core.Option.{Option, none, some}
-use Prim.Native.Nat.{ℕ, _+_, _%_}
-use lib.IntN.{ℤ, pos, negsuc}
-use lib.Signed.{leZ}
+use Prim.Native.Nat.{ℕ, _+_}
 use lib.Dec.{eqb, leb, ltb}
 use lib.ListN.{length}
 use Rattle.energy.specs.Lists.{any, last, isEmpty, isSome}
-use Rattle.rules.specs.Command.{onContract, onWindow, onInstruction, onDefault, onReading, always}
-use Rattle.rules.specs.Ledger.{Ledger, ledgerOf, contractOf, isContract, spanOf, upMinutes, downMinutes, expiry, endOf, within}
-use Rattle.rules.specs.declared.contract.Contract.{Contract}
-use Rattle.rules.specs.declared.entries.Instruction.{Instruction}
-use Rattle.rules.specs.declared.entries.Command.{Command}
+use Rattle.commands.specs.Command.{onContract, onWindow, onInstruction, onDefault, onReading, always}
+use Rattle.commands.specs.Input.{Condition, _when_, inputConditions, lowest}
+use Rattle.rules.specs.Ledger.{Ledger, ledgerOf, contractOf, isContract, spanOf, expiry, endOf, within}
+use Rattle.commands.specs.declared.contract.Contract.{Contract}
+use Rattle.commands.specs.declared.entries.Instruction.{Instruction}
+use Rattle.commands.specs.declared.entries.Command.{Command}
 use Rattle.rules.specs.declared.answer.Answer.{Answer}
 use Rattle.rules.specs.declared.answer.Answer.the-variants.{Taken, Refused}
-
--- ---- from the input
-
--- n is from a to b
-abbrev pub from-to : ℕ → ℕ → ℕ → Bool
-from-to a b n = leb a n && leb n b
-
--- the same of a signed number
-abbrev pub from-toℤ : ℤ → ℤ → ℤ → Bool
-from-toℤ a b n = leZ a n && leZ n b
-
--- a reading: from −500,000 to 500,000 kW. A cell of meter memory that is none counts as no reading
-abbrev pub isReading : ℤ → Bool
-isReading z = from-toℤ (negsuc 499999) (pos 500000) z
-
--- 3: every operand is in its range or one of its values
-abbrev pub inRange : Command → Bool
-inRange c =
-    onContract
-    (λ k. from-to 1 31 (k .days) && from-to 0 1 (k .kind) && from-to 0 1 (k .service) && from-toℤ (pos 3000) (pos 500000) (k .contracted .0)
-    && from-to 1 500000 (k .rampup)
-    && from-to 1 500000 (k .rampdown)
-    && from-to 1 240 (k .response .0)
-    && from-to 0 1200 (k .recovery .0)
-    && from-to 0 1000000 (k .availability)
-    && from-to 0 1000000 (k .utilisation)
-    && from-to 0 1000000 (k .optional))
-    (onWindow (λ w. from-to 0 44640 (w .start .0) && from-to 0 44640 (w .end .0) && from-to 0 1 (w .verdict))
-    (onInstruction (λ i. from-to 3 44640 (i .issue .0) && from-to 0 44640 (i .cease .0))
-    (onDefault (λ d. from-to 0 44640 (d .minute .0) && from-to 1 4 (d .kind) && from-to 1 3 (d .reach))
-    (onReading (λ r. from-to 0 44640 (r .minute .0) && isReading (r .kw .0))
-    (always true)))))
-    c
-
--- 4: ramp up minutes above the response, or ramp down minutes above 240
-abbrev pub rampTooLong : Command → Bool
-rampTooLong c = onContract (λ k. ltb (k .response .0) (upMinutes k) || ltb 240 (downMinutes k)) (always false) c
-
--- 5: window start not below its end, or either not a multiple of 30
-abbrev pub badWindow : Command → Bool
-badWindow c =
-    onWindow (λ w. leb (w .end .0) (w .start .0) || not (eqb (w .start .0 % 30) 0) || not (eqb (w .end .0 % 30) 0)) (always false) c
 
 -- ---- from the state
 
@@ -118,24 +75,6 @@ tableFull g c =
 
 -- ---- the lowest number that applies
 
--- a refusal's number, and whether its condition holds
-pub record Condition : Type 0 where
-  pub number : ℕ
-  pub holds : Bool
-
--- n is the number where b holds
-abbrev pub _when_ : ℕ → Bool → Condition
-n when b = record { number = n; holds = b }
-
-infix 20 _when_
--- what a command meets whatever the book
-abbrev pub inputConditions : Command → List Condition
-inputConditions c =
-    (3 when not (inRange c))
-    ∷ (4 when rampTooLong c)
-    ∷ (5 when badWindow c)
-    ∷ []
-
 -- what a command meets. unleft: no list of commands leaves the book, which is never so of a book that one left; size: the length of meter memory
 unfoldable pub conditions : Bool → ℕ → Ledger → Command → List Condition
 conditions unleft size g c =
@@ -154,11 +93,6 @@ conditions unleft size g c =
     ∷ (22 when hasReading g c)
     ∷ (23 when tableFull g c)
     ∷ []
-
--- the lowest number whose condition holds
-unfoldable pub lowest : List Condition → Option ℕ
-lowest [] = none
-lowest (c ∷ cs) = elim (c .holds) [ true ↦ some (c .number) | false ↦ lowest cs ]
 
 -- the number under which a command is turned down, if it is
 unfoldable pub refusal : Bool → ℕ → Ledger → Command → Option ℕ

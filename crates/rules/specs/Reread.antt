@@ -8,10 +8,10 @@ use lib.IntN.{pos, negsuc}
 use lib.ListN.{length}
 use lib.Signed.{leZ}
 use Rattle.energy.specs.Lists.{all, concatMap}
-use Rattle.rules.specs.Command.{onContract, onReading, always}
-use Rattle.rules.specs.Refusal.{from-toℤ, inRange}
+use Rattle.commands.specs.Command.{onContract, onReading, always}
+use Rattle.commands.specs.Input.{from-toℤ, inRange}
 use Rattle.rules.specs.File.{total, readAt, operandsOf, widthsFor, write, commandsFrom, commandsIn}
-use Rattle.rules.specs.declared.entries.Command.{Command}
+use Rattle.commands.specs.declared.entries.Command.{Command}
 use Rattle.rules.specs.declared.file.Read.the-variants.{Got}
 
 -- each operand fits its width

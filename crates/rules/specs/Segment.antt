@@ -5,9 +5,9 @@ use Prim.Native.Nat.{ℕ, suc, _+_, _-_, _/_}
 use lib.Dec.{eqb, leb, ltb}
 use Rattle.energy.specs.Lists.{any, all, filter, concatMap, between, isSome}
 use Rattle.rules.specs.Ledger.{Ledger, contractOf, expiry, rise, endOf, within}
-use Rattle.rules.specs.declared.contract.Contract.{Contract}
-use Rattle.rules.specs.declared.entries.Window.{Window}
-use Rattle.rules.specs.declared.entries.Instruction.{Instruction}
+use Rattle.commands.specs.declared.contract.Contract.{Contract}
+use Rattle.commands.specs.declared.entries.Window.{Window}
+use Rattle.commands.specs.declared.entries.Instruction.{Instruction}
 use Rattle.rules.specs.declared.statement.Stage.{Stage}
 use Rattle.rules.specs.declared.statement.Stage.the-variants.{Up, Steady, Down}
 use Rattle.rules.specs.declared.statement.Rate.{Rate}

@@ -8,13 +8,13 @@ use lib.Dec.{eqb, leb, ltb}
 use lib.ListN.{length, replicate}
 use Rattle.energy.specs.Lists.{any, filter, count, sum, sumℕ, between, else}
 use Rattle.energy.specs.Energy.{steadyQuarters, rampQuarters, delivers, kwh, capped, payment, periodParts, penceOfParts}
-use Rattle.rules.specs.Ledger.{Ledger, contractOf, spanOf, kwOf, within}
-use Rattle.rules.specs.Refusal.{Condition, _when_, lowest}
+use Rattle.rules.specs.Ledger.{Ledger, contractOf, spanOf, within}
+use Rattle.commands.specs.Input.{kwOf, Condition, _when_, lowest}
 use Rattle.rules.specs.Segment.{periodOf, baseMinutes, complete, stageOf, live, rateAt, price, Segment, segments}
-use Rattle.rules.specs.declared.contract.Contract.{Contract}
-use Rattle.rules.specs.declared.entries.Window.{Window}
-use Rattle.rules.specs.declared.entries.Instruction.{Instruction}
-use Rattle.rules.specs.declared.entries.Default.{Default}
+use Rattle.commands.specs.declared.contract.Contract.{Contract}
+use Rattle.commands.specs.declared.entries.Window.{Window}
+use Rattle.commands.specs.declared.entries.Instruction.{Instruction}
+use Rattle.commands.specs.declared.entries.Default.{Default}
 use Rattle.rules.specs.declared.statement.Stage.{Stage}
 use Rattle.rules.specs.declared.statement.Stage.the-variants.{Up, Steady, Down}
 use Rattle.rules.specs.declared.statement.Rate.{Rate}

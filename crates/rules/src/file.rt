@@ -1,5 +1,5 @@
 // What a reader finds in a unit file.
-use crate::entries::Command;
+use commands::entries::Command;
 
 // At a position: a command and the position after it, a refusal (1 or 2), or the end.
 pub enum Read {

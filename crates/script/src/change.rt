@@ -6,12 +6,12 @@ use crate::text::short;
 use crate::text::signed;
 use crate::text::size;
 use book::Book;
+use commands::contract::Contract;
+use commands::entries::Default;
+use commands::entries::Instruction;
+use commands::entries::Window;
 use energy::units::Kw;
 use energy::units::Minutes;
-use rules::contract::Contract;
-use rules::entries::Default;
-use rules::entries::Instruction;
-use rules::entries::Window;
 
 // A contract with a field set: 2 days to 12 optional rate, in the contract's order.
 fn with_term(k: Contract, field: u8, line: &[u8]) -> Contract {

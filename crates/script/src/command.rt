@@ -3,13 +3,13 @@ use crate::text::byte;
 use crate::text::long;
 use crate::text::short;
 use crate::text::signed;
+use commands::contract::Contract;
+use commands::entries::Default;
+use commands::entries::Instruction;
+use commands::entries::Reading;
+use commands::entries::Window;
 use energy::units::Kw;
 use energy::units::Minutes;
-use rules::contract::Contract;
-use rules::entries::Default;
-use rules::entries::Instruction;
-use rules::entries::Reading;
-use rules::entries::Window;
 
 pub fn contract(line: &[u8]) -> Contract {
     Contract {

@@ -17,11 +17,11 @@ use Rattle.energy.proofs.Tests.{eq-true, eq-false, on-and}
 use Rattle.rules.specs.Ledger.{Ledger, within}
 use Rattle.rules.specs.Segment.{periodOf, live}
 use Rattle.rules.specs.Statement.{reaches, paid, periodsOf, paidPeriods, penalty, periodPence, availableOf, nothing, windowsPaid}
-use Rattle.rules.specs.declared.entries.Default.{Default}
-use Rattle.rules.specs.declared.entries.Window.{Window}
+use Rattle.commands.specs.declared.entries.Default.{Default}
+use Rattle.commands.specs.declared.entries.Window.{Window}
 use Rattle.rules.specs.declared.statement.Available.{Available}
 use Rattle.book.specs.Book.{noDefault, noWindow}
-use Rattle.availability.specs.Live.{covers}
+use Rattle.live.specs.Live.{covers}
 use Rattle.availability.specs.Paid.{numberOf, windowOf, reachFrom, reachTo, loses, strikes, lostTo, struckTo, penaltyBy, paidBy, entryOf, entryBy, entriesTo, periodsTo}
 use Rattle.lines.proofs.Folds.{any-all, count-snoc, sum-snoc, count-filter, map-snoc, count-none, count-shift}
 use Rattle.settlement.proofs.Lights.{covers-is}

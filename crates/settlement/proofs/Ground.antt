@@ -16,24 +16,25 @@ use Rattle.energy.specs.Lists.{all, first, isSome, else, run, between}
 use Rattle.energy.specs.Number.{Within}
 use Rattle.energy.proofs.Integers.{leZ-true, leZ-yes}
 use Rattle.energy.proofs.Tests.{on-and}
-use Rattle.rules.specs.Ledger.{Ledger, contractOf, spanOf, kwOf, upMinutes, downMinutes}
-use Rattle.rules.specs.Refusal.{isReading}
+use Rattle.rules.specs.Ledger.{Ledger, contractOf, spanOf}
+use Rattle.commands.specs.Input.{kwOf, upMinutes, downMinutes, isReading}
 use Rattle.rules.specs.Segment.{complete}
 use Rattle.rules.specs.Statement.{reads}
-use Rattle.rules.specs.declared.contract.Contract.{Contract}
-use Rattle.rules.specs.declared.entries.Default.{Default}
-use Rattle.rules.specs.declared.entries.Instruction.{Instruction}
-use Rattle.rules.specs.declared.entries.Window.{Window}
-use Rattle.book.specs.Book.{noWindow, noInstruction, noDefault, missing, cell as reading, ledgerIn}
+use Rattle.commands.specs.declared.contract.Contract.{Contract}
+use Rattle.commands.specs.declared.entries.Default.{Default}
+use Rattle.commands.specs.declared.entries.Instruction.{Instruction}
+use Rattle.commands.specs.declared.entries.Window.{Window}
+use Rattle.meter.specs.Meter.{missing, cell as reading}
+use Rattle.book.specs.Book.{noWindow, noInstruction, noDefault, ledgerIn}
 use Rattle.book.specs.Sound.{Shaped}
 use Rattle.book.specs.declared.Book.{Book}
 use Rattle.lines.specs.declared.terms.Terms.{Terms}
 use Rattle.lines.specs.Terms.{termsOf, issueOf, ceaseOf, Timed}
 use Rattle.lines.specs.Survey.{LaidAt, Laid, has, surveyOf, surveyTo}
-use Rattle.availability.specs.Live.{Cleared, Windows, isLive, Lit}
+use Rattle.live.specs.Live.{Cleared, Windows, isLive, Lit}
 use Rattle.availability.specs.Paid.{numberOf, windowOf, Placed, Spans}
 use Rattle.lines.specs.Cursor.{Planned}
-use Rattle.settlement.proofs.Sound.{SoundBook, SoundCall, SoundWindow, SoundDefault}
+use Rattle.book.proofs.SoundBook.{SoundBook, SoundCall, SoundWindow, SoundDefault}
 use Rattle.settlement.proofs.Surveyed.{Surveyed, survey-complete}
 use Rattle.settlement.proofs.Lights.{Shown, lights-tied, number-at, number-small}
 use Rattle.settlement.proofs.Availability.{Priced, Home, home, Inside, reach-inside}

@@ -4,11 +4,6 @@ pub mod Sequence
 pub mod Surveyed
 pub mod Lights
 pub mod Availability
-pub mod Chains
-pub mod Sound
 pub mod Ground
 pub mod Refused
 pub mod Stated
-pub mod Numbered
-pub mod Walk
-pub mod Whole

@@ -11,14 +11,15 @@ use lib.ListN.{length, getD}
 use borrow.Author.Tests.{lt-ltb, le-ltb, le-leb, lt-leb, leb-true, ltb-true}
 use Rattle.energy.specs.Lists.{any}
 use Rattle.energy.proofs.Tests.{eq-true, eq-false, on-and}
-use Rattle.rules.specs.Ledger.{Ledger, contractOf, endOf, downMinutes, within}
+use Rattle.commands.specs.Input.{downMinutes}
+use Rattle.rules.specs.Ledger.{Ledger, contractOf, endOf, within}
 use Rattle.rules.specs.Segment.{excludes, live, inLive}
-use Rattle.rules.specs.declared.contract.Contract.{Contract}
-use Rattle.rules.specs.declared.entries.Instruction.{Instruction}
-use Rattle.rules.specs.declared.entries.Window.{Window}
+use Rattle.commands.specs.declared.contract.Contract.{Contract}
+use Rattle.commands.specs.declared.entries.Instruction.{Instruction}
+use Rattle.commands.specs.declared.entries.Window.{Window}
 use Rattle.book.specs.Book.{noInstruction, noWindow}
 use Rattle.lines.specs.Terms.{ceaseOf}
-use Rattle.availability.specs.Live.{excludesAt, excludedTo, isLive, covers, numberTo, Lit}
+use Rattle.live.specs.Live.{excludesAt, excludedTo, isLive, covers, numberTo, Lit}
 use Rattle.lines.specs.Cursor.{lit}
 use Rattle.lines.proofs.Folds.{any-all, any-and}
 use Rattle.settlement.proofs.Tied.{instructionAt}

@@ -11,7 +11,7 @@ use lib.ListN.{length, replicate, length-replicate}
 use borrow.Author.Tests.{lt-ltb, le-ltb}
 use Rattle.energy.specs.Number.{Within}
 use Rattle.rules.specs.Ledger.{Ledger, contractOf, spanOf}
-use Rattle.rules.specs.Refusal.{lowest, _when_}
+use Rattle.commands.specs.Input.{lowest, _when_}
 use Rattle.rules.specs.Segment.{complete, segments}
 use Rattle.rules.specs.Statement.{settleConditions, settleRefusal}
 use Rattle.rules.specs.declared.answer.Answer.the-variants.{Refused}
@@ -23,7 +23,7 @@ use Rattle.lines.specs.Terms.{noTerms}
 use Rattle.lines.specs.Cursor.{startOf, enterOf}
 use Rattle.settlement.specs.Settle.{noStatement, settledBy, settleBook}
 use Rattle.settlement.specs.Prepared.{summed, refusalOf, lastCursor, settledWith, Prepares}
-use Rattle.settlement.proofs.Sound.{span-sound}
+use Rattle.book.proofs.SoundBook.{span-sound}
 
 -- ---- the refusals in their order
 abbrev by : Bool → Bool → Bool → Bool → Bool → Option ℕ

@@ -19,8 +19,8 @@ use Rattle.energy.proofs.Sums.{sum-append}
 use Rattle.rules.specs.Ledger.{Ledger, contractOf, rise, endOf}
 use Rattle.rules.specs.Segment.{Segment, segmentsFrom, segments}
 use Rattle.rules.specs.Statement.{lineOf, lines}
-use Rattle.rules.specs.declared.contract.Contract.{Contract}
-use Rattle.rules.specs.declared.entries.Instruction.{Instruction}
+use Rattle.commands.specs.declared.contract.Contract.{Contract}
+use Rattle.commands.specs.declared.entries.Instruction.{Instruction}
 use Rattle.rules.specs.declared.statement.Line.{Line}
 use Rattle.rules.proofs.Cuts.{cut, cutsFrom, segmentAt, segments-cuts, Timed}
 use Rattle.book.specs.Book.{noInstruction}

@@ -13,10 +13,11 @@ use Rattle.energy.specs.Lists.{sum}
 use Rattle.energy.specs.Number.{up, Within}
 use Rattle.energy.proofs.Integers.{add-parts}
 use Rattle.energy.proofs.Rounding.{half-up}
-use Rattle.rules.specs.Ledger.{Ledger, kwOf}
+use Rattle.commands.specs.Input.{kwOf}
+use Rattle.rules.specs.Ledger.{Ledger}
 use Rattle.rules.specs.Segment.{complete, segments}
 use Rattle.rules.specs.Statement.{lineOf, lines, periodExact, periodPence, windowsPaid, nothing, statementOf, settleRefusal}
-use Rattle.rules.specs.declared.contract.Contract.{Contract}
+use Rattle.commands.specs.declared.contract.Contract.{Contract}
 use Rattle.rules.specs.declared.statement.Available.{Available}
 use Rattle.rules.specs.declared.statement.Line.{Line}
 use Rattle.rules.specs.declared.answer.Answer.the-variants.{Taken}
@@ -29,7 +30,7 @@ use Rattle.availability.specs.declared.paid.Entries.{Entries}
 use Rattle.settlement.specs.declared.prepare.Prepared.{Prepared}
 use Rattle.lines.specs.declared.terms.Terms.{Terms}
 use Rattle.lines.specs.Terms.{termsOf}
-use Rattle.availability.specs.Live.{isLive, Lit}
+use Rattle.live.specs.Live.{isLive, Lit}
 use Rattle.availability.specs.Paid.{struckTo, penaltyBy, entriesBy, eachBy, availabilityBy}
 use Rattle.lines.specs.Cursor.{startOf, enterOf, stepOf, cursorAt, steppedLine, stored, either}
 use Rattle.settlement.specs.Settle.{Settled, settledBy, settleBook}

@@ -10,10 +10,11 @@ use lib.ListN.{length, take, length-append}
 use lib.Seq.{take-suc, take-length}
 use Rattle.energy.specs.Lists.{all, concatMap, between, isSome}
 use Rattle.energy.proofs.Sums.{all-append, all-ext}
-use Rattle.rules.specs.Ledger.{Ledger, contractOf, spanOf, expiry, rise, endOf, upMinutes, downMinutes}
+use Rattle.commands.specs.Input.{upMinutes, downMinutes}
+use Rattle.rules.specs.Ledger.{Ledger, contractOf, spanOf, expiry, rise, endOf}
 use Rattle.rules.specs.Segment.{baseMinutes, active, needed, complete, segmentsOf, segmentsFrom, segments}
-use Rattle.rules.specs.declared.contract.Contract.{Contract}
-use Rattle.rules.specs.declared.entries.Instruction.{Instruction}
+use Rattle.commands.specs.declared.contract.Contract.{Contract}
+use Rattle.commands.specs.declared.entries.Instruction.{Instruction}
 use Rattle.rules.proofs.Cuts.{Timed}
 use Rattle.rules.proofs.Count.{touched, count-segments}
 use Rattle.book.specs.Book.{noInstruction}

@@ -12,11 +12,12 @@ use Rattle.energy.specs.Energy.{cell, steadyQuarters, rampQuarters, delivers, e
 use Rattle.energy.specs.Lists.{sum, between}
 use Rattle.energy.specs.Number.{Within}
 use Rattle.energy.proofs.Sums.{sum-same, sum-ext}
-use Rattle.rules.specs.Ledger.{Ledger, contractOf, spanOf, kwOf, upMinutes, downMinutes, expiry, endOf}
+use Rattle.commands.specs.Input.{kwOf, upMinutes, downMinutes}
+use Rattle.rules.specs.Ledger.{Ledger, contractOf, spanOf, expiry, endOf}
 use Rattle.rules.specs.Segment.{baseMinutes, stageOf, inLive, anchor, rateAt, price, Segment}
 use Rattle.rules.specs.Statement.{expects, reads, baseLoad, expectedOf, deliveredOf, lineOf}
-use Rattle.rules.specs.declared.contract.Contract.{Contract}
-use Rattle.rules.specs.declared.entries.Instruction.{Instruction}
+use Rattle.commands.specs.declared.contract.Contract.{Contract}
+use Rattle.commands.specs.declared.entries.Instruction.{Instruction}
 use Rattle.rules.specs.declared.statement.Stage.{Stage}
 use Rattle.rules.specs.declared.statement.Stage.the-variants.{Up, Steady, Down}
 use Rattle.rules.specs.declared.statement.Rate.{Rate}

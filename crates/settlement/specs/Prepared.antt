@@ -16,7 +16,7 @@ use Rattle.availability.specs.declared.paid.Entries.{Entries}
 use Rattle.settlement.specs.declared.prepare.Prepared.{Prepared}
 use Rattle.lines.specs.declared.terms.Terms.{Terms}
 use Rattle.lines.specs.Cursor.{Plan, Ready, cursorAt, steppedLine, stored}
-use Rattle.availability.specs.Live.{isLive, Lit}
+use Rattle.live.specs.Live.{isLive, Lit}
 use Rattle.availability.specs.Paid.{availabilityBy}
 use Rattle.settlement.specs.Settle.{Settled, noStatement, settleBook}
 use Rattle.lines.specs.Terms.{noTerms}

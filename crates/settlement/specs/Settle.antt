@@ -9,14 +9,11 @@ use Rattle.rules.specs.Ledger.{Ledger}
 use Rattle.rules.specs.Refusal.{answerOf}
 use Rattle.rules.specs.Statement.{lines, nothing, statementOf, settleRefusal}
 use Rattle.rules.specs.declared.statement.Line.{Line}
-use Rattle.rules.specs.declared.statement.Stage.the-variants.{Up}
-use Rattle.rules.specs.declared.statement.Rate.the-variants.{Utilisation}
 use Rattle.rules.specs.declared.statement.Statement.{Statement}
 use Rattle.book.specs.Book.{ledgerIn}
 use Rattle.book.specs.Sound.{sound}
 use Rattle.book.specs.declared.Book.{Book}
 use Rattle.settlement.specs.declared.Settlement.{Settlement}
-use Rattle.settlement.specs.declared.Listing.{Listing}
 
 -- the answer with its statement, and line memory after it
 pub record Settled : Type 0 where
@@ -49,23 +46,3 @@ settledBy (some n) g memory =
 unfoldable pub settleBook : Book → List ℤ → List Line → Settled
 settleBook b meter memory =
     settledBy (settleRefusal (not (sound b)) (length meter) (length memory) (ledgerIn b meter)) (ledgerIn b meter) memory
-
--- a record before it holds a line
-abbrev pub noLine : Line
-noLine =
-    record {
-      instruction = 0;
-      period = 0;
-      stage = Up;
-      rate = Utilisation;
-      expected = record { 0 = pos 0 };
-      delivered = record { 0 = pos 0 };
-      capped = record { 0 = pos 0 };
-      pence = record { 0 = pos 0 };
-    }
-
--- settling a book into 719 records of its own: what `listed` promises
-unfoldable pub listBook : Book → List ℤ → Listing
-listBook b meter =
-    let s : Settled = settleBook b meter (replicate 719 noLine) in
-    record { settlement = s .settlement; lines = s .memory }

@@ -1,21 +1,12 @@
-// Settling a closed book: a line for each segment, into memory the caller lends, and the answer with the totals.
+// Settling a book, as far as it does not depend on the memory for its lines: every refusal, the tables that lines are calculated from, the windows' entries
+// and the sums. `records` and `numbers` put the lines into memory.
 use rules::answer::Answer;
-use rules::statement::Line;
 use rules::statement::Statement;
 
-pub mod listed;
-pub mod numbers;
-mod prepare;
-pub mod settle;
+pub mod prepare;
 
 // The answer, and the statement: zeros where settling is refused.
 pub struct Settlement {
     pub answer: Answer,
     pub statement: Statement,
-}
-
-// A settlement with line memory of its own.
-pub struct Listing {
-    pub settlement: Settlement,
-    pub lines: [Line; 719],
 }

@@ -1,24 +1,26 @@
-// What settling decides and calculates before the first record is written.
+// What settling decides and calculates before the first record is written, and the sums that it adds after the last.
 ghost use mathlib.Core.Path.{_≡_};
 ghost use mathlib.Core.Bool.{true};
 ghost use Prim.Native.Nat.{_≤_};
 ghost use lib.ListN.{length};
+ghost use Rattle.energy.specs.Number.{Within};
 ghost use Rattle.rules.specs.Ledger.{spanOf};
 ghost use Rattle.book.specs.Sound.{sound};
-ghost use Rattle.settlement.specs.Prepared.{LaidOut, Prepares, refusalOf, unsummed};
+ghost use Rattle.settlement.specs.Prepared.{LaidOut, Prepares, refusalOf, summed, unsummed};
 ghost use Rattle.lines.specs.Terms.{Timed, termsOf};
 use crate::Settlement;
-use availability::live::show_live;
 use availability::paid::Entries;
 use availability::paid::availability;
 use book::Book;
 use energy::units::Kwh;
 use energy::units::Pence;
+use lines::cursor::Cursor;
 use lines::survey::survey_all;
 use lines::terms::Terms;
 use lines::terms::no_terms;
 use lines::terms::terms_of;
 use lines::terms::times_of;
+use live::show_live;
 use rules::answer::Answer;
 use rules::statement::Available;
 use rules::statement::Statement;
@@ -163,9 +165,33 @@ fn check_book(b: Book, left: bool, meter: &[i32], room: usize) -> Prepared
 }
 
 // 25 and 26 are decided here, before a record is written.
-pub(crate) fn prepare(b: Book, meter: &[i32], room: usize) -> Prepared
+pub fn prepare(b: Book, meter: &[i32], room: usize) -> Prepared
     ensures { λ r. ⌜ Prepares b (now (meter .entry)) room r ⌝ }
 {
     let left = b.sound();
     check_book(b, left, meter, room)
+}
+
+// The answer with the sums of the lines.
+pub fn sum_up(s: Settlement, c: Cursor) -> Settlement
+    requires { ⌜ Within 100000000000000 (c .pence) × Within 100000000000000 (s .statement .availability .0) ⌝ }
+    ensures { λ r. ⌜ r ≡ summed s c ⌝ }
+{
+    let answer = s.answer;
+    let old = s.statement;
+    let windows = old.windows;
+    let availability = old.availability;
+    let total = c.pence + availability.0;
+    let statement = Statement {
+        lines: old.lines,
+        capped: Kwh(c.capped),
+        utilisation: Pence(c.pence),
+        availability: availability,
+        total: Pence(total),
+        windows: windows,
+    };
+    Settlement {
+        answer: answer,
+        statement: statement,
+    }
 }

@@ -5,13 +5,13 @@ ghost use Rattle.settlement_statements.specs.Month.{markOf, monthOf};
 use book::Book;
 use energy::units::Kwh;
 use energy::units::Pence;
+use records::listed::blank;
+use records::listed::listed;
+use records::settle::settle;
 use rules::statement::Line;
 use rules::statement::Rate;
 use rules::statement::Stage;
 use settlement::Settlement;
-use settlement::listed::blank;
-use settlement::listed::listed;
-use settlement::settle::settle;
 
 pub struct Month {
     pub settlement: Settlement,

@@ -8,8 +8,9 @@ use crate::rows::show;
 use crate::rows::turned_down;
 use book::Book;
 use book::Entry;
+use commands::entries::Command;
+use records::listed::blank;
 use rules::answer::Answer;
-use rules::entries::Command;
 use script::cells::at_most;
 use script::cells::fill;
 use script::cells::kw_of;
@@ -29,7 +30,6 @@ use script::text::line_end;
 use script::text::short;
 use script::text::signed;
 use script::text::size;
-use settlement::listed::blank;
 
 // The book, and the cells and records lent.
 pub struct Run {

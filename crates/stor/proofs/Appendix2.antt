@@ -9,14 +9,15 @@ use lib.Dec.{T}
 use lib.ListN.{length, replicate, length-replicate, getElem?}
 use Rattle.energy.specs.Lists.{all}
 use Rattle.energy.proofs.Tests.{off-not}
+use Rattle.commands.specs.Input.{Condition}
 use Rattle.rules.specs.Ledger.{Ledger, ledgerOf}
-use Rattle.rules.specs.Refusal.{Condition, taken}
+use Rattle.rules.specs.Refusal.{taken}
 use Rattle.rules.specs.Segment.{complete}
 use Rattle.rules.specs.Statement.{lines, statementOf, settleConditions, settleRefusal}
 use Rattle.rules.specs.File.{commandsIn}
 use Rattle.rules.specs.Reread.{sayable, fit}
 use Rattle.rules.specs.Examples.{appendix2, ledger}
-use Rattle.rules.specs.declared.entries.Command.{Command}
+use Rattle.commands.specs.declared.entries.Command.{Command}
 use Rattle.rules.specs.declared.statement.Line.{Line}
 use Rattle.rules.proofs.Taken.{Clear, clear}
 use Rattle.rules.proofs.Opened.{opened}

@@ -13,12 +13,14 @@ use lib.Arith.{le→nltb}
 use lib.ListN.{length, take, drop, getD, getElem?, length-map, replicate}
 use lib.Seq.{take-append-seam, drop-append-seam}
 use Rattle.energy.specs.Lists.{all, any, pass, sum, concatMap, first, isSome}
+use Rattle.commands.specs.Input.{Condition, lowest}
 use Rattle.rules.specs.Ledger.{Ledger, ledgerOf, contractOf, spanOf, readingOf}
-use Rattle.rules.specs.Refusal.{Condition, lowest, refusal, taken, takenAfter, joined}
+use Rattle.rules.specs.Refusal.{refusal, taken, takenAfter, joined}
 use Rattle.rules.specs.Segment.{needed, complete, segments}
 use Rattle.rules.specs.Statement.{lines, lineOf, statementOf, settleRefusal, settleConditions}
 use Rattle.rules.specs.File.{readAt, readOn, commandsFrom, commandsIn}
-use Rattle.book.specs.Book.{ledgerIn, emptyBook, putBook, putMeter, cell, missing}
+use Rattle.meter.specs.Meter.{putMeter, cell, missing}
+use Rattle.book.specs.Book.{ledgerIn, emptyBook, putBook}
 use Rattle.book.specs.Enter.{enterBook, Entered, enteredBy}
 use Rattle.settlement.specs.Settle.{settleBook, Settled, settledBy}
 use Rattle.book.specs.Sound.{sound, noContractTests, emptyTests, tableTests}
@@ -27,7 +29,7 @@ use Rattle.stor.specs.Steps.{Step, enter, read, settle, State, Outcome, 
 use Rattle.stor.specs.Demand3.{Needed, Given, SettlementRight, StatementRight, Demand3, Demand3·theorem, readAnswer}
 use Rattle.rules.specs.Statement.{exactEnergy}
 use Rattle.rules.specs.Refusal.{answerOf}
-use Rattle.rules.specs.declared.entries.Command.{Command}
+use Rattle.commands.specs.declared.entries.Command.{Command}
 use Rattle.book.specs.declared.Book.{Book}
 use Rattle.rules.specs.declared.file.Read.{Read}
 use Rattle.rules.specs.declared.file.Read.the-variants.{Got, End}

@@ -10,7 +10,7 @@ use lib.ListN.{length, replicate}
 use Rattle.rules.specs.Ledger.{ledgerOf}
 use Rattle.rules.specs.Refusal.{refusal, taken, takenAfter, joined, answerOf}
 use Rattle.rules.specs.File.{readAt, readOn, commandsFrom, commandsIn}
-use Rattle.rules.specs.declared.entries.Command.{Command}
+use Rattle.commands.specs.declared.entries.Command.{Command}
 use Rattle.rules.specs.declared.statement.Line.{Line}
 use Rattle.rules.specs.declared.answer.Answer.{Answer}
 use Rattle.rules.specs.declared.answer.Answer.the-variants.{Taken, Refused}

@@ -13,9 +13,10 @@ use lib.ListN.{length, drop, length-append, length-drop}
 use lib.Seq.{drop-append-le}
 use Rattle.energy.specs.Lists.{all}
 use Rattle.energy.proofs.Tests.{T-and}
-use Rattle.rules.specs.Refusal.{Condition, conditions, lowest, refusal}
+use Rattle.commands.specs.Input.{Condition, lowest}
+use Rattle.rules.specs.Refusal.{conditions, refusal}
 use Rattle.rules.specs.File.{readAt}
-use Rattle.rules.specs.declared.entries.Command.{Command}
+use Rattle.commands.specs.declared.entries.Command.{Command}
 use Rattle.rules.specs.declared.answer.Answer.{Answer}
 use Rattle.rules.specs.declared.answer.Answer.the-variants.{Taken, Refused}
 use Rattle.rules.specs.declared.file.Read.{Read}

@@ -12,12 +12,13 @@ use lib.Dec.{T, ltb}
 use lib.ListN.{length, take, drop}
 use lib.Seq.{take-append-seam}
 use Rattle.energy.proofs.Tests.{of-T, off-not}
+use Rattle.commands.specs.Input.{lowest}
 use Rattle.rules.specs.Ledger.{Ledger, ledgerOf, contractOf, spanOf}
-use Rattle.rules.specs.Refusal.{lowest, takenAfter, taken}
+use Rattle.rules.specs.Refusal.{takenAfter, taken}
 use Rattle.rules.specs.File.{written, fileOf, commandsIn}
 use Rattle.rules.specs.Reached.{Reached}
 use Rattle.rules.specs.Rewritten.{Rewritten}
-use Rattle.rules.specs.declared.entries.Command.{Command}
+use Rattle.commands.specs.declared.entries.Command.{Command}
 use Rattle.rules.specs.declared.answer.Answer.the-variants.{Taken}
 use Rattle.rules.proofs.Rewritten.{rewritten, file-commands}
 use Rattle.rules.proofs.Taken.{Clear, clear}

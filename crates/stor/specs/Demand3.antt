@@ -14,7 +14,7 @@ use Rattle.rules.specs.Segment.{needed}
 use Rattle.rules.specs.Statement.{lines, statementOf, exactEnergy, exactAmount, allowance, Differ}
 use Rattle.rules.specs.Lines.{Partition}
 use Rattle.rules.specs.File.{readAt, commandsIn}
-use Rattle.rules.specs.declared.entries.Command.{Command}
+use Rattle.commands.specs.declared.entries.Command.{Command}
 use Rattle.rules.specs.declared.statement.Line.{Line}
 use Rattle.rules.specs.declared.answer.Answer.{Answer}
 use Rattle.rules.specs.declared.answer.Answer.the-variants.{Taken, Refused}

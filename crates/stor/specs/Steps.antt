@@ -3,7 +3,7 @@ use mathlib.Core.List.{List, [], _∷_}
 use Prim.Native.Nat.{ℕ}
 use lib.IntN.{ℤ}
 use Rattle.rules.specs.File.{readAt}
-use Rattle.rules.specs.declared.entries.Command.{Command}
+use Rattle.commands.specs.declared.entries.Command.{Command}
 use Rattle.rules.specs.declared.statement.Line.{Line}
 use Rattle.rules.specs.declared.answer.Answer.{Answer}
 use Rattle.rules.specs.declared.file.Read.{Read}

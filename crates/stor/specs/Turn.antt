@@ -9,9 +9,8 @@ use Rattle.rules.specs.declared.answer.Answer.the-variants.{Taken, Refused}
 use Rattle.rules.specs.declared.file.Read.{Read}
 use Rattle.rules.specs.declared.file.Read.the-variants.{Got, End}
 use Rattle.rules.specs.declared.file.Read.the-variants.{Refused as refusedʳ}
-use Rattle.book.specs.Book.{putMeter}
+use Rattle.meter.specs.Meter.{putMeter, takesReading}
 use Rattle.book.specs.Enter.{enterBook}
-use Rattle.book.specs.Readings.{takesReading}
 use Rattle.book.specs.declared.Book.{Book}
 use Rattle.stor.specs.declared.file.Loaded.{Loaded}
 use Rattle.stor.specs.declared.file.Turn.{Turn}

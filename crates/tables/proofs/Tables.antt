@@ -14,7 +14,8 @@ use mir.Syntax.{w64}
 use mir.Val.{SFits, ofZ}
 use Rattle.energy.specs.Lists.{all, last, pass}
 use Rattle.energy.proofs.Integers.{parts-fit}
-use Rattle.rules.proofs.Chain.{chain}
+use Rattle.commands.proofs.Chain.{chain}
+use Rattle.rules.proofs.Lists.{getD-within}
 use Rattle.tables.specs.Unused.{isZero}
 
 -- ---- tests
@@ -53,12 +54,6 @@ zero-bits (negsuc n) h = ne-eqb (2 ^ 64 - suc n) 0 (λ e. omega (arith, parts-fi
 pub length-mapped : (X Y : Type 0) (f : X → Y) (l : List X) (n : ℕ) → length (map f l) ≡ n → length l ≡ n
 length-mapped X Y f l n e = sym (length-map l f) ∙ e
 
--- within the list, what stands past its end does not matter
-pub getD-within : {A : Type 0} (l : List A) (i : ℕ) (d d′ : A) → i < length l → getD l i d ≡ getD l i d′
-getD-within [] i d d′ h = absurd (omega arith)
-getD-within (x ∷ l) zero d d′ h = refl
-getD-within (x ∷ l) (suc i) d d′ h = getD-within l i d d′ (omega arith)
-
 module _ {A : Type 0} where
   -- one turn of a walk over the entries from i up to n
   pub slice-turn : (l : List A) (i n : ℕ) (d : A) → i < n → n ≤ length l → slice i n l ≡ getD l i d ∷ slice (i + 1) n l
@@ -79,15 +74,6 @@ module _ {A : Type 0} where
     pub all-passes : length l ≤ i → true ≡ all f (drop n l)
     unfolding all
     all-passes h = sym (e ∙ rw (drop-of-length-le l h))
-
-  -- a list that is filled from the front, one store a turn
-  fill-suc : (n : ℕ) (v : A) (d : List A) → n < length d → set (replicate n v ++ drop n d) n v ≡ replicate (suc n) v ++ drop (suc n) d
-  fill-suc n v [] l = absurd (omega arith)
-  fill-suc zero v (x ∷ d) l = refl
-  fill-suc (suc n) v (x ∷ d) l = rw (fill-suc n v d (omega arith))
-
-  pub fill-turn : (n : ℕ) (v : A) (d : List A) → n < length d → set (replicate n v ++ drop n d) n v ≡ replicate (n + 1) v ++ drop (n + 1) d
-  fill-turn n v d l = rw add-one (fill-suc n v d l)
 
 -- a table that is not full has room
 pub has-room : {A : Type 0} (l : List A) (n most : ℕ) → length l ≡ most → n ≤ most → leb most (length (take n l)) ≡ false → n < most

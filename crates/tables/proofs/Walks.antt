@@ -10,32 +10,22 @@ use lib.ListN.{length, getD, take}
 use lib.Seq.{slice}
 use Rattle.energy.specs.Lists.{last}
 use Rattle.rules.specs.Ledger.{spanOf, endOf}
-use Rattle.rules.specs.Refusal.{inRange, rampTooLong, badWindow, recovered}
-use Rattle.rules.specs.Input.{inputRefusal}
+use Rattle.rules.specs.Refusal.{recovered}
+use Rattle.commands.specs.Input.{inRange, rampTooLong, badWindow, inputRefusal}
 use Rattle.rules.specs.Reached.{windowsSound, instructionsSound, defaultSound}
-use Rattle.rules.specs.declared.contract.Contract.{Contract}
-use Rattle.rules.specs.declared.entries.Window.{Window}
-use Rattle.rules.specs.declared.entries.Instruction.{Instruction}
-use Rattle.rules.specs.declared.entries.Default.{Default}
-use Rattle.rules.specs.declared.entries.Command.{Command}
-use Rattle.rules.specs.declared.entries.Command.the-variants.{Contract as contractᶜ, Window as windowᶜ, Instruction as instructionᶜ, Default as defaultᶜ}
-use Rattle.rules.proofs.Input.{input-cond}
+use Rattle.commands.specs.declared.contract.Contract.{Contract}
+use Rattle.commands.specs.declared.entries.Window.{Window}
+use Rattle.commands.specs.declared.entries.Instruction.{Instruction}
+use Rattle.commands.specs.declared.entries.Default.{Default}
+use Rattle.commands.specs.declared.entries.Command.{Command}
+use Rattle.commands.specs.declared.entries.Command.the-variants.{Contract as contractᶜ, Window as windowᶜ, Instruction as instructionᶜ, Default as defaultᶜ}
+use Rattle.commands.proofs.Input.{input-none}
 use Rattle.tables.specs.Unused.{noWindow, noInstruction}
 use Rattle.tables.specs.Numbers.{Held}
 use Rattle.tables.proofs.Tables.{slice-turn}
 use Rattle.tables.proofs.Search.{startOf, endsAt, in-table}
 
 -- ---- no refusal from the input
-
--- no number from the input: no condition of it holds
-pub input-none : (c : Command) → eqb (inputRefusal c) 0 ≡ (inRange c && (not (rampTooLong c) && not (badWindow c)))
-input-none c = ap (λ n. eqb n 0) (input-cond c) ∙ go (inRange c) (rampTooLong c) (badWindow c)
-  where
-    go : (p q r : Bool) → eqb (cond (not p) 3 (cond q 4 (cond r 5 0))) 0 ≡ (p && (not q && not r))
-    go true true r = refl
-    go true false true = refl
-    go true false false = refl
-    go false q r = refl
 
 pub window-input : (w : Window) → eqb (inputRefusal (windowᶜ w)) 0 ≡ (inRange (windowᶜ w) && not (badWindow (windowᶜ w)))
 window-input w = input-none (windowᶜ w)

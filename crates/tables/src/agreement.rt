@@ -3,7 +3,7 @@ ghost use mathlib.Core.Path.{_≡_};
 ghost use Rattle.energy.specs.Lists.{pass};
 ghost use Rattle.rules.specs.Ledger.{spanOf};
 ghost use Rattle.tables.specs.Unused.{noContractTests};
-use rules::contract::Contract;
+use commands::contract::Contract;
 
 // The minutes of a contract's month.
 pub fn span_of(k: Contract) -> usize

@@ -2,12 +2,12 @@
 ghost use mathlib.Core.Path.{_≡_};
 ghost use mathlib.Core.List.{map};
 ghost use Prim.Native.Nat.{_≤_};
-ghost use Rattle.rules.specs.declared.entries.Window.{Window};
+ghost use Rattle.commands.specs.declared.entries.Window.{Window};
 ghost use Rattle.tables.specs.Numbers.{Rising, Started, Ordered, Held};
 ghost use mathlib.Core.Logic.{_↔_};
 ghost use lib.Dec.{T};
-use rules::contract::Contract;
-use rules::entries::Window;
+use commands::contract::Contract;
+use commands::entries::Window;
 
 // The starts of a table of windows.
 pub(crate) fn starts_of(windows: [Window; 128]) -> [u16; 128]

@@ -11,10 +11,10 @@ use crate::agreement::span_of;
 use crate::columns::ends_of;
 use crate::columns::in_columns;
 use crate::columns::starts_of;
+use commands::contract::Contract;
+use commands::entries::Default;
+use commands::entries::Window;
 use energy::units::Minutes;
-use rules::contract::Contract;
-use rules::entries::Default;
-use rules::entries::Window;
 
 // Whether a minute is in one of the first n windows.
 pub fn in_window(k: Contract, windows: [Window; 128], n: usize, m: Minutes) -> bool

@@ -5,15 +5,14 @@ ghost use mathlib.Core.Bool.{true};
 ghost use Prim.Native.Nat.{_≤_};
 ghost use lib.ListN.{take, drop};
 ghost use Rattle.energy.specs.Lists.{all};
-ghost use Rattle.rules.specs.Ledger.{downMinutes};
-ghost use Rattle.rules.specs.Refusal.{inRange};
+ghost use Rattle.commands.specs.Input.{downMinutes, inRange};
 ghost use Rattle.rules.specs.Reached.{instructionsSound};
 ghost use Rattle.tables.specs.Unused.{isNoInstruction};
 use crate::agreement::span_of;
+use commands::contract::Contract;
+use commands::entries::Command;
+use commands::entries::Instruction;
 use energy::ramp::ramp_minutes;
-use rules::contract::Contract;
-use rules::entries::Command;
-use rules::entries::Instruction;
 
 // The minutes of the ramp down.
 pub fn down_minutes(k: Contract) -> u32

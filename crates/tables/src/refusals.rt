@@ -1,7 +1,7 @@
 // The first refusals as one number, 0 for none.
 ghost use mathlib.Core.Path.{_≡_};
 ghost use Rattle.tables.specs.Numbers.{firstNumber};
-use rules::checks::pick;
+use commands::checks::pick;
 
 // What a command meets before the conditions of its own kind: the number from its input, then 11 to 15.
 // left: commands leave the book; first: the command is a contract; short: meter memory is shorter than the span.

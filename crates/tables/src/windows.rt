@@ -7,9 +7,9 @@ ghost use Rattle.energy.specs.Lists.{all};
 ghost use Rattle.rules.specs.Reached.{windowsSound};
 ghost use Rattle.tables.specs.Unused.{isNoWindow};
 use crate::agreement::span_of;
+use commands::contract::Contract;
+use commands::entries::Window;
 use energy::units::Minutes;
-use rules::contract::Contract;
-use rules::entries::Window;
 
 // Whether a window could be entered after one that ends at a minute.
 fn window_fits(k: Contract, end: Minutes, w: Window) -> bool

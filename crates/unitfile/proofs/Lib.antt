@@ -1,7 +1,3 @@
-mod Words
-mod Signs
-mod Operands
-mod Rows
 mod Encoding
 pub mod Found
 pub mod Steps

@@ -8,10 +8,10 @@ use native.Mathlib.Omega.{arith}
 use lib.ListN.{length, getD, take, drop, length-append, length-drop, take-append-drop, List·getD-append}
 use lib.Seq.{take-all, take-append-le, drop-append-le, drop-drop, getD-drop}
 use Rattle.rules.specs.File.{table, widthsOf, total, operands, commandOf, readAt}
-use Rattle.rules.specs.declared.entries.Command.{Command}
+use Rattle.commands.specs.declared.entries.Command.{Command}
 use Rattle.rules.specs.declared.file.Read.{Read}
 use Rattle.rules.specs.declared.file.Read.the-variants.{Got, Refused, End}
-use Rattle.unitfile.proofs.Rows.{widths-most}
+use Rattle.format.proofs.Rows.{widths-most}
 use Rattle.unitfile.proofs.Found.{Found, ended, unknown, short, entire, found, found-reads, found-at}
 
 -- ---- a piece, and bytes after it

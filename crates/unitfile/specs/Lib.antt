@@ -1,4 +1,2 @@
-pub mod Table
-pub mod Operands
 pub mod Write
 pub mod Reader

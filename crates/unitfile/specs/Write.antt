@@ -5,7 +5,7 @@ use Prim.Native.Nat.{ℕ, _+_}
 use lib.Dec.{leb}
 use lib.ListN.{length, take, drop}
 use Rattle.rules.specs.File.{write}
-use Rattle.rules.specs.declared.entries.Command.{Command}
+use Rattle.commands.specs.declared.entries.Command.{Command}
 use Rattle.unitfile.specs.declared.encode.Written.{Written}
 use Rattle.unitfile.specs.declared.encode.Written.the-variants.{Next, Refused}
 

@@ -1,21 +1,21 @@
 // Decoding: the command that stands at a position of a unit file.
-use crate::command::command_of;
-use crate::command::reading_of;
-use crate::number::number_in;
-use crate::table::KW_WIDTH;
-use crate::table::MINUTE_WIDTH;
-use crate::table::READING_BYTE;
-use crate::table::READING_LENGTH;
-use crate::table::row_of;
-use rules::entries::Command;
+use commands::entries::Command;
+use format::number::number_in;
+use format::table::KW_WIDTH;
+use format::table::MINUTE_WIDTH;
+use format::table::READING_BYTE;
+use format::table::READING_LENGTH;
+use format::table::row_of;
+use operands::command::command_of;
+use operands::command::reading_of;
 use rules::file::Read;
 ghost use mathlib.Core.Path.{_≡_};
 ghost use mathlib.Core.List.{[], _∷_};
 ghost use Prim.Native.Nat.{_+_, _≤_, _<_};
 ghost use lib.ListN.{length, getD, take, drop};
 ghost use Rattle.rules.specs.File.{total, operands, readAt};
-ghost use Rattle.unitfile.specs.Table.{padded};
-ghost use Rattle.unitfile.specs.Operands.{Narrow};
+ghost use Rattle.format.specs.Table.{padded};
+ghost use Rattle.format.specs.Operands.{Narrow};
 
 // The operands that stand from a position on, by their widths.
 fn operands_at(s: &[u8], at: usize, count: usize, widths: [u8; 11]) -> [u64; 11]

@@ -1,15 +1,15 @@
 // Encoding: a command into lent bytes.
-use crate::number::put_number;
-use crate::operand::byte_of;
-use crate::operand::operands_of;
-use crate::table::row_of;
-use rules::entries::Command;
+use commands::entries::Command;
+use format::number::put_number;
+use format::table::row_of;
+use operands::operand::byte_of;
+use operands::operand::operands_of;
 ghost use mathlib.Core.Path.{_≡_};
 ghost use Prim.Native.Nat.{_+_, _≤_};
 ghost use lib.Dec.{leb};
 ghost use lib.ListN.{length, take};
 ghost use Rattle.rules.specs.File.{total, write, writeOperands};
-ghost use Rattle.unitfile.specs.Operands.{Narrow};
+ghost use Rattle.format.specs.Operands.{Narrow};
 ghost use Rattle.unitfile.specs.Write.{putAt, writeAt};
 
 // What writing answers: the position after the command, or a refusal.

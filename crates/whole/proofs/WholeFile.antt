@@ -5,7 +5,7 @@ use mathlib.Core.List.{List, _∷_}
 use Prim.Native.Nat.{ℕ}
 use lib.IntN.{ℤ}
 use Rattle.rules.specs.Ledger.{Ledger}
-use Rattle.rules.specs.Refusal.{Condition, _when_, lowest}
+use Rattle.commands.specs.Input.{Condition, _when_, lowest}
 use Rattle.rules.specs.Statement.{settleRefusal, settleConditions}
 use Rattle.rules.specs.declared.statement.Line.{Line}
 use Rattle.rules.specs.declared.answer.Answer.{Answer}

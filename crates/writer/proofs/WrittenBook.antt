@@ -11,18 +11,19 @@ use lib.IntN.{ℤ}
 use lib.ListN.{length, getD, length-map}
 use Rattle.energy.specs.Lists.{concatMap, run, between}
 use Rattle.rules.specs.Ledger.{contractOf, spanOf}
-use Rattle.rules.specs.Refusal.{lowest}
+use Rattle.commands.specs.Input.{lowest}
 use Rattle.rules.specs.File.{readingAt, written, fileOf}
-use Rattle.rules.specs.declared.contract.Contract.{Contract}
+use Rattle.commands.specs.declared.contract.Contract.{Contract}
 use Rattle.rules.specs.declared.answer.Answer.the-variants.{Taken, Refused}
-use Rattle.rules.specs.declared.entries.Command.the-variants.{Contract as contractᶜ, Window as windowᶜ, Instruction as instructionᶜ, Default as defaultᶜ}
-use Rattle.rules.proofs.Terms.{ranges}
+use Rattle.commands.specs.declared.entries.Command.the-variants.{Contract as contractᶜ, Window as windowᶜ, Instruction as instructionᶜ, Default as defaultᶜ}
+use Rattle.commands.proofs.Terms.{ranges}
 use Rattle.unitfile.specs.Write.{putAt}
-use Rattle.book.specs.Book.{ledgerIn, cell, missing}
+use Rattle.meter.specs.Meter.{cell, missing}
+use Rattle.book.specs.Book.{ledgerIn}
 use Rattle.book.specs.Sound.{sound, Shaped}
 use Rattle.book.specs.declared.Book.{Book}
 use Rattle.book.proofs.Tested.{sound-parts, sound-used, sound-empty}
-use Rattle.settlement.proofs.Sound.{span-sound}
+use Rattle.book.proofs.SoundBook.{span-sound}
 use Rattle.writer.specs.Laid.{fileBytes, Laid, readings, parts, Tabled, Kept}
 use Rattle.writer.specs.Write.{writeConditions, writeBook}
 use Rattle.writer.specs.declared.Written.{Written}

@@ -7,7 +7,7 @@ use native.Mathlib.Omega.{arith}
 use lib.ListN.{length, length-append}
 use Rattle.energy.specs.Lists.{concatMap}
 use Rattle.rules.specs.File.{write}
-use Rattle.rules.specs.declared.entries.Command.{Command}
+use Rattle.commands.specs.declared.entries.Command.{Command}
 use Rattle.rules.proofs.Taken.{concatMap-append}
 use Rattle.unitfile.specs.Write.{putAt, writeAt}
 use Rattle.unitfile.specs.declared.encode.Written.{Written as Wr}

@@ -13,15 +13,15 @@ use lib.Seq.{take-suc, length-take-le}
 use Rattle.energy.specs.Lists.{concatMap, run, between}
 use Rattle.energy.proofs.Sums.{between-snoc}
 use Rattle.rules.specs.Ledger.{spanOf}
-use Rattle.rules.specs.Refusal.{isReading}
+use Rattle.commands.specs.Input.{isReading}
 use Rattle.rules.specs.File.{table, widthsOf, bytesOf, writeOperands, write, readingAt}
-use Rattle.rules.specs.declared.entries.Reading.{Reading}
-use Rattle.rules.specs.declared.entries.Command.{Command}
-use Rattle.rules.specs.declared.entries.Command.the-variants.{Contract as contractᶜ, Window as windowᶜ, Instruction as instructionᶜ, Default as defaultᶜ, Reading as readingᶜ, Close as closeᶜ}
+use Rattle.commands.specs.declared.entries.Reading.{Reading}
+use Rattle.commands.specs.declared.entries.Command.{Command}
+use Rattle.commands.specs.declared.entries.Command.the-variants.{Contract as contractᶜ, Window as windowᶜ, Instruction as instructionᶜ, Default as defaultᶜ, Reading as readingᶜ, Close as closeᶜ}
 use Rattle.rules.proofs.Taken.{concatMap-append}
-use Rattle.book.specs.Book.{cell, missing}
+use Rattle.meter.specs.Meter.{cell, missing}
 use Rattle.book.specs.declared.Book.{Book}
-use Rattle.tables.proofs.Tables.{getD-within}
+use Rattle.rules.proofs.Lists.{getD-within}
 use Rattle.writer.specs.Laid.{fileBytes, Room, Laid, placesIn, usedIn, entries, readings, parts, Tabled}
 use Rattle.writer.specs.declared.entries.Table.{Table}
 use Rattle.writer.specs.declared.entries.Table.the-variants.{Windows, Instructions, Defaults}

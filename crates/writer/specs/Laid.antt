@@ -8,10 +8,10 @@ use lib.ListN.{length, getD, take}
 use Rattle.energy.specs.Lists.{concatMap, between}
 use Rattle.rules.specs.File.{write, readingAt}
 use Rattle.rules.specs.Ledger.{spanOf}
-use Rattle.rules.specs.declared.entries.Command.{Command}
-use Rattle.rules.specs.declared.entries.Command.the-variants.{Contract as contractᶜ, Window as windowᶜ, Instruction as instructionᶜ, Default as defaultᶜ, Close as closeᶜ}
+use Rattle.commands.specs.declared.entries.Command.{Command}
+use Rattle.commands.specs.declared.entries.Command.the-variants.{Contract as contractᶜ, Window as windowᶜ, Instruction as instructionᶜ, Default as defaultᶜ, Close as closeᶜ}
 use Rattle.unitfile.specs.Write.{putAt}
-use Rattle.book.specs.Book.{cell, missing}
+use Rattle.meter.specs.Meter.{cell, missing}
 use Rattle.book.specs.declared.Book.{Book}
 use Rattle.writer.specs.declared.entries.Table.{Table}
 use Rattle.writer.specs.declared.entries.Table.the-variants.{Windows, Instructions, Defaults}

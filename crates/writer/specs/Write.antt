@@ -6,8 +6,9 @@ use Prim.Native.Nat.{ℕ}
 use lib.IntN.{ℤ}
 use lib.Dec.{ltb}
 use lib.ListN.{length, drop}
+use Rattle.commands.specs.Input.{Condition, _when_, lowest}
 use Rattle.rules.specs.Ledger.{Ledger, contractOf, spanOf}
-use Rattle.rules.specs.Refusal.{Condition, _when_, lowest, answerOf}
+use Rattle.rules.specs.Refusal.{answerOf}
 use Rattle.rules.specs.File.{fileOf}
 use Rattle.book.specs.Book.{ledgerIn}
 use Rattle.book.specs.Sound.{sound}

@@ -3,14 +3,14 @@ ghost use mathlib.Core.Path.{_≡_};
 ghost use Prim.Native.Nat.{_<_};
 ghost use lib.ListN.{length, getD};
 ghost use Rattle.rules.specs.Ledger.{spanOf};
-ghost use Rattle.rules.specs.Refusal.{isReading};
-ghost use Rattle.book.specs.Book.{missing};
+ghost use Rattle.commands.specs.Input.{isReading};
+ghost use Rattle.meter.specs.Meter.{missing};
 ghost use Rattle.writer.specs.Laid.{placesIn, usedIn};
 use book::Book;
+use commands::checks::kw_from_to;
+use commands::contract::Contract;
+use commands::entries::Command;
 use energy::units::Kw;
-use rules::checks::kw_from_to;
-use rules::contract::Contract;
-use rules::entries::Command;
 
 // The minutes of a contract's month.
 pub(crate) fn span_of(k: Contract) -> usize

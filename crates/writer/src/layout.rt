@@ -4,7 +4,7 @@ ghost use mathlib.Core.List.{[], _∷_};
 ghost use Prim.Native.Nat.{_≤_};
 ghost use lib.ListN.{length};
 ghost use Rattle.rules.specs.File.{readingAt};
-ghost use Rattle.book.specs.Book.{cell};
+ghost use Rattle.meter.specs.Meter.{cell};
 ghost use Rattle.writer.specs.Laid.{Room, Laid, entries, Tabled, readings, parts, Kept};
 use crate::entries::Table;
 use crate::entries::entry;
@@ -13,10 +13,10 @@ use crate::entries::kw_at;
 use crate::entries::span_of;
 use crate::entries::used;
 use book::Book;
+use commands::entries::Command;
+use commands::entries::Reading;
 use energy::units::Kw;
 use energy::units::Minutes;
-use rules::entries::Command;
-use rules::entries::Reading;
 use unitfile::encode::write_at;
 
 // A command where there is room for it; the position after it.

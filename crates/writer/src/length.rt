@@ -12,10 +12,10 @@ use crate::entries::kw_at;
 use crate::entries::span_of;
 use crate::entries::used;
 use book::Book;
+use commands::entries::Command;
+use commands::entries::Reading;
 use energy::units::Kw;
 use energy::units::Minutes;
-use rules::entries::Command;
-use rules::entries::Reading;
 use unitfile::encode::length_of;
 
 // One command, or none.

@@ -10,7 +10,7 @@ use lib.ListN.{length}
 use borrow.Author.Tests.{le-ltb, lt-ltb, not-true, not-false}
 use Rattle.book.specs.declared.Book.{Book}
 use Rattle.host.specs.Calls.{SettledBook, settleInto, settleTables}
-use Rattle.host.specs.Tables.{bookOf, entire}
+use Rattle.given.specs.Tables.{bookOf, entire}
 use borrow.Author.Needs.{needs}
 use Rattle.host.proofs.stor_settle_tables.Statement.{statement}
 use Rattle.host.proofs.stor_settle_tables.Tie as tie

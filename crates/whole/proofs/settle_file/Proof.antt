@@ -75,10 +75,10 @@ use Rattle.whole.proofs.to_settle as to-settle
 use Rattle.whole.proofs.to_settle.Symbol as to-settle-def
 use Rattle.whole.proofs.to_settle.Symbol.{name as #to-settle}
 use Rattle.whole.proofs.to_settle.Met as to-settle-thm
-use Rattle.settlement.proofs.settle.settle as settle
-use Rattle.settlement.proofs.settle.settle.Symbol as settle-def
-use Rattle.settlement.proofs.settle.settle.Symbol.{name as #settle}
-use Rattle.settlement.proofs.settle.settle.Met as settle-thm
+use Rattle.records.proofs.settle.settle as settle
+use Rattle.records.proofs.settle.settle.Symbol as settle-def
+use Rattle.records.proofs.settle.settle.Symbol.{name as #settle}
+use Rattle.records.proofs.settle.settle.Met as settle-thm
 use Rattle.whole.proofs.answer_of as answer-of
 use Rattle.whole.proofs.answer_of.Symbol as answer-of-def
 use Rattle.whole.proofs.answer_of.Symbol.{name as #answer-of}
@@ -229,7 +229,7 @@ module _ {M : Type 1} (𝓤 : URA M) (H : Heap 𝓤) (A : Atoms 𝓤) (W : Given
       walk : Is (ShrSlice (named 0) κ u8) fs (file ∷ []) → ent 𝓤 (onEntry 𝓤 H A this.signature (κ, (κ₁, (κ₂, tt))) (q, (q₁, (q₂, tt))) a vals) (WpFn 𝓤 H C Λ code.function (file ∷ meter ∷ recs ∷ []) Post)
       walk is-file =
           qed W ((‵ (flft κ q) ⊛ (‵ (flft κ₁ q₁) ⊛ (‵ (flft κ₂ q₂) ⊛ ‵ ftrue))) ∷ ‵ (owns (ShrSlice (named 0) κ u8 ∷ MutSlice (named 1) κ₁ i32 ∷ MutSlice (named 2) κ₂ R ∷ []) a vals) ∷ []) ∵ enter ! C Λ code.function (file ∷ meter ∷ recs ∷ []) _ $
-          alloc1 ! (λ l₀. alloc1 ! (λ l₁. alloc1 ! (λ l₂. alloc1 ! (λ l₃. alloc1 ! (λ l₄. alloc1 ! (λ l₅. alloc1 ! (λ l₆. alloc1 ! (λ l₇. alloc1 ! (λ l₈. alloc1 ! (λ l₉. alloc1 ! (λ l₁₀. alloc1 ! (λ l₁₁. alloc1 ! (λ l₁₂. alloc0 ! $ params1 ! $
+          alloc1 ! {τ = F′.mir} (λ l₀. alloc1 ! (λ l₁. alloc1 ! (λ l₂. alloc1 ! (λ l₃. alloc1 ! {τ = L′.mir} (λ l₄. alloc1 ! {τ = B′.mir} (λ l₅. alloc1 ! {τ = O′.mir} (λ l₆. alloc1 ! (λ l₇. alloc1 ! (λ l₈. alloc1 ! (λ l₉. alloc1 ! (λ l₁₀. alloc1 ! (λ l₁₁. alloc1 ! (λ l₁₂. alloc0 ! $ params1 ! $
           pass1 ! (init ! 22 refl (tt, (tt, (record { fits = is-file .0 .1 .0 }, tt)))) $ pass1 ! (init ! 20 refl (tt, (tt, (record { fits = room-m .0 }, tt)))) $ pass1 ! (init ! 18 refl (tt, (tt, (record { fits = room .0 }, tt)))) $ pass0 ! $
           assigns ! (addr ! (from ! (fld ! refl (hop ! (look-in ! 20 (sub ! 0 refl (whole !))) (stop !))))) (from ! (stop !)) (init ! 10 refl (tt, tt)) $
           assigns ! (agg ! (and-then ! (load ! (from ! (stop !)) (look ! 10 refl)) (and-then ! (load ! (from ! (fld ! refl (stop !))) (look-in ! 20 (sub ! 1 refl (whole !)))) (no-more !)))) (from ! (stop !)) (init ! 8 refl (tt, (tt, (record { fits = room-m .0 }, tt)))) $
@@ -323,5 +323,5 @@ settle-file-spec 𝓤 H 𝓜 𝓖 𝓡 =
     (file-meets 𝓤 H (𝓖 .A) (givenOf 𝓤 H 𝓜 𝓖) (𝓜 .mem) (𝓡 .run) (tablesOf 𝓤 H 𝓜 (tables 𝓤 H 𝓜 𝓡 code.env))
     (cited 𝓤 H (LoadC 𝓤 H (𝓖 .A) (𝓜 .mem) (𝓡 .run)) 𝓜 𝓡 code.env #load-file load-file-def.routine code.calls-stor·file·load-file (load-file-thm.met 𝓤 H 𝓜 𝓖 𝓡))
     (cited 𝓤 H (BookC 𝓤 H (𝓖 .A) (𝓜 .mem) (𝓡 .run)) 𝓜 𝓡 code.env #to-settle to-settle-def.routine code.calls-whole·to-settle (to-settle-thm.met 𝓤 H 𝓜 𝓖 𝓡))
-    (cited 𝓤 H (SettleC 𝓤 H (𝓖 .A) (𝓜 .mem) (𝓡 .run)) 𝓜 𝓡 code.env #settle settle-def.routine code.calls-settlement·settle·settle (settle-thm.met 𝓤 H 𝓜 𝓖 𝓡))
+    (cited 𝓤 H (SettleC 𝓤 H (𝓖 .A) (𝓜 .mem) (𝓡 .run)) 𝓜 𝓡 code.env #settle settle-def.routine code.calls-records·settle·settle (settle-thm.met 𝓤 H 𝓜 𝓖 𝓡))
     (cited 𝓤 H (AnswerC 𝓤 H (𝓖 .A) (𝓜 .mem) (𝓡 .run)) 𝓜 𝓡 code.env #answer-of answer-of-def.routine code.calls-whole·answer-of (answer-of-thm.met 𝓤 H 𝓜 𝓖 𝓡)))

@@ -1,4 +1,4 @@
--- `settlement::paid::availability` meets its contract: the tables that the defaults mark, read as tests, are the definitions'. Assumes nothing.
+-- `availability::paid::availability` meets its contract: the tables that the defaults mark, read as tests, are the definitions'. Assumes nothing.
 use mathlib.Core.Path.{_≡_, sym, _∙_, ap, ap₂, subst}
 use mathlib.Core.Bool.{Bool, cond}
 use Prim.Native.Nat.{ℕ}
@@ -13,7 +13,7 @@ use Rattle.energy.specs.Energy.{periodParts, penceOfParts}
 use Rattle.energy.specs.Number.{up}
 use Rattle.energy.proofs.Integers.{fits-parts, abs-parts, nonNeg-parts}
 use Rattle.tables.specs.Unused.{noDefault}
-use Rattle.availability.specs.Live.{Dark}
+use Rattle.live.specs.Live.{Dark}
 use Rattle.availability.specs.Paid.{Placed, marked, lostTo, struckTo, penaltyBy, entriesBy, eachBy, availabilityBy}
 use Rattle.availability.proofs.Struck.{dark-zeros, lost-table, struck-table}
 use Rattle.availability.proofs.paid.availability.Statement.{statement}

@@ -1,4 +1,4 @@
--- `settlement::paid::counted` meets its contract. The invariant: the count is that of the places before p. Assumes nothing.
+-- `availability::paid::counted` meets its contract. The invariant: the count is that of the places before p. Assumes nothing.
 use mathlib.Core.Path.{_≡_, sym, _∙_, ap}
 use mathlib.Core.Bool.{Bool, true, false, not}
 use mathlib.Core.Logic.{⊎-elim}

@@ -1,4 +1,4 @@
--- `settlement::paid::entries_of` meets its contract. The invariant: the entries and the periods are those of the first i windows. Assumes nothing.
+-- `availability::paid::entries_of` meets its contract. The invariant: the entries and the periods are those of the first i windows. Assumes nothing.
 use mathlib.Core.Path.{_≡_, refl, sym, _∙_, ap, ap₂}
 use mathlib.Core.Bool.{cond}
 use mathlib.Core.List.{List}
@@ -12,7 +12,7 @@ use lib.ListN.{getD, set}
 use borrow.Author.Needs.{needs}
 use mir.Syntax.{w64}
 use mir.ValLaws.{toZ-pos}
-use Rattle.rules.specs.declared.entries.Window.{Window}
+use Rattle.commands.specs.declared.entries.Window.{Window}
 use Rattle.rules.specs.declared.statement.Available.{Available}
 use Rattle.tables.specs.Unused.{noWindow}
 use Rattle.availability.specs.Paid.{marked, paidIn, paidBy, entryOf, entriesTo, periodsTo, entriesBy}

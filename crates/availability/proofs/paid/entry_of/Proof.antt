@@ -1,4 +1,4 @@
--- `settlement::paid::entry_of` meets its contract. Assumes nothing.
+-- `availability::paid::entry_of` meets its contract. Assumes nothing.
 use mathlib.Core.Path.{ap}
 use Prim.Native.Nat.{_*_}
 use native.Mathlib.Nat.{mul-le-mul}

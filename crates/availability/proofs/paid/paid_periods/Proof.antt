@@ -1,4 +1,4 @@
--- `settlement::paid::paid_periods` meets its contract. Assumes nothing.
+-- `availability::paid::paid_periods` meets its contract. Assumes nothing.
 use mathlib.Core.Path.{refl, sym, ap}
 use mathlib.Core.Bool.{not}
 use Prim.Native.Nat.{_-_}

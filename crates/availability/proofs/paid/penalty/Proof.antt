@@ -1,4 +1,4 @@
--- `settlement::paid::penalty` meets its contract. The invariant: the count is that of the first i windows. Assumes nothing.
+-- `availability::paid::penalty` meets its contract. The invariant: the count is that of the first i windows. Assumes nothing.
 use mathlib.Core.Path.{_≡_, sym, _∙_, ap}
 use mathlib.Core.Bool.{true, false}
 use mathlib.Core.Logic.{⊎-elim}

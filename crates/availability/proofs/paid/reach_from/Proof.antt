@@ -1,4 +1,4 @@
--- `settlement::paid::reach_from` meets its contract. Assumes nothing.
+-- `availability::paid::reach_from` meets its contract. Assumes nothing.
 use borrow.Author.Needs.{needs}
 use borrow.Author.Tests.{eq-eqb, ne-eqb}
 use Rattle.availability.proofs.paid.reach_from.Statement.{statement}

@@ -1,4 +1,4 @@
--- `settlement::paid::reach_to` meets its contract. Assumes nothing.
+-- `availability::paid::reach_to` meets its contract. Assumes nothing.
 use mathlib.Core.Path.{ap}
 use Prim.Native.Nat.{_+_}
 use borrow.Author.Needs.{needs}

@@ -1,12 +1,12 @@
--- `settlement::paid::strike` meets its contract. Assumes nothing.
+-- `availability::paid::strike` meets its contract. Assumes nothing.
 use mathlib.Core.Path.{_≡_, sym, _∙_, ap, subst}
 use Prim.Native.Nat.{_-_, _<_}
 use native.Mathlib.Omega.{arith}
 use lib.ListN.{getD, set}
 use borrow.Author.Needs.{needs}
 use Rattle.tables.specs.Unused.{noWindow}
-use Rattle.rules.specs.declared.entries.Window.{Window}
-use Rattle.availability.specs.Live.{Marked}
+use Rattle.commands.specs.declared.entries.Window.{Window}
+use Rattle.live.specs.Live.{Marked}
 use Rattle.availability.specs.Paid.{numberOf, windowOf, reachFrom, reachTo, Marks}
 use Rattle.availability.proofs.Struck.{marks-none, marks-struck, marks-lost}
 use Rattle.availability.proofs.paid.strike.Statement.{statement}

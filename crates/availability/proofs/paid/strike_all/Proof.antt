@@ -1,4 +1,4 @@
--- `settlement::paid::strike_all` meets its contract. The invariant: the tables are those of the first i defaults. Assumes nothing.
+-- `availability::paid::strike_all` meets its contract. The invariant: the tables are those of the first i defaults. Assumes nothing.
 use mathlib.Core.Path.{_≡_, refl, sym, _∙_, subst}
 use Prim.Native.Nat.{_-_, _≤_}
 use native.Mathlib.Omega.{arith}

@@ -7,9 +7,8 @@ use borrow.Author.Tests.{eq-eqb, eqb-true, not-true, not-false}
 use Rattle.energy.proofs.Tests.{to-T, of-T, and-T, on-and}
 use Rattle.energy.specs.Lists.{all, pass}
 use Rattle.rules.specs.Reached.{defaultSound, agreedTests}
-use Rattle.rules.specs.Refusal.{inRange, rampTooLong}
-use Rattle.rules.specs.Input.{inputRefusal}
-use Rattle.rules.specs.declared.entries.Command.the-variants.{Contract as contractᶜ}
+use Rattle.commands.specs.Input.{inRange, rampTooLong, inputRefusal}
+use Rattle.commands.specs.declared.entries.Command.the-variants.{Contract as contractᶜ}
 use Rattle.rules.proofs.Reached.{parts, tested}
 use Rattle.tables.proofs.Tables.{refuted, same-test}
 use Rattle.tables.proofs.Walks.{contract-input}

@@ -1,7 +1,7 @@
 use borrow.Author.Needs.{needs}
 use mathlib.Core.Path.{_≡_, _∙_}
-use Rattle.rules.specs.declared.entries.Command.the-variants.{Close as closeᶜ}
-use Rattle.rules.proofs.Input.{input-cond}
+use Rattle.commands.specs.declared.entries.Command.the-variants.{Close as closeᶜ}
+use Rattle.commands.proofs.Input.{input-cond}
 use Rattle.book.proofs.Numbers.{firstOf, met-early, close-later}
 use Rattle.book.proofs.Book.close_refusal.Statement.{statement}
 use Rattle.book.proofs.Book.close_refusal.Tie as tie

@@ -1,6 +1,6 @@
 use borrow.Author.Needs.{needs}
 use mathlib.Core.Path.{_≡_, _∙_}
-use Rattle.rules.specs.declared.entries.Command.the-variants.{Contract as contractᶜ}
+use Rattle.commands.specs.declared.entries.Command.the-variants.{Contract as contractᶜ}
 use Rattle.book.proofs.Numbers.{firstOf, met-early, contract-later}
 use Rattle.book.proofs.Book.contract_refusal.Statement.{statement}
 use Rattle.book.proofs.Book.contract_refusal.Tie as tie

@@ -1,5 +1,5 @@
 use borrow.Author.Needs.{needs}
-use Rattle.rules.specs.declared.entries.Command.the-variants.{Close as closeᶜ}
+use Rattle.commands.specs.declared.entries.Command.the-variants.{Close as closeᶜ}
 use Rattle.book.proofs.Entered.{refused-entry, taken-entry}
 use Rattle.book.proofs.Book.enter_close.Statement.{statement}
 use Rattle.book.proofs.Book.enter_close.Tie as tie

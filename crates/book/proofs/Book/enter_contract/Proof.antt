@@ -1,5 +1,5 @@
 use borrow.Author.Needs.{needs}
-use Rattle.rules.specs.declared.entries.Command.the-variants.{Contract as contractᶜ}
+use Rattle.commands.specs.declared.entries.Command.the-variants.{Contract as contractᶜ}
 use Rattle.book.proofs.Entered.{refused-entry, taken-entry, contract-fits}
 use Rattle.book.proofs.Book.enter_contract.Statement.{statement}
 use Rattle.book.proofs.Book.enter_contract.Tie as tie

@@ -3,7 +3,7 @@ use mathlib.Core.Path.{_≡_}
 use Prim.Native.Nat.{_<_}
 use native.Mathlib.Omega.{arith}
 use lib.ListN.{length}
-use Rattle.rules.specs.declared.entries.Command.the-variants.{Instruction as instructionᶜ}
+use Rattle.commands.specs.declared.entries.Command.the-variants.{Instruction as instructionᶜ}
 use Rattle.tables.proofs.Tables.{length-mapped}
 use Rattle.book.proofs.Entered.{refused-entry, taken-entry, instruction-room}
 use Rattle.book.proofs.Book.enter_instruction.Statement.{statement}

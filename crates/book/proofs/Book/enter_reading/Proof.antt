@@ -1,5 +1,5 @@
 use borrow.Author.Needs.{needs}
-use Rattle.rules.specs.declared.entries.Command.the-variants.{Reading as readingᶜ}
+use Rattle.commands.specs.declared.entries.Command.the-variants.{Reading as readingᶜ}
 use Rattle.book.proofs.Entered.{refused-entry, taken-entry, reading-fits}
 use Rattle.book.proofs.Book.enter_reading.Statement.{statement}
 use Rattle.book.proofs.Book.enter_reading.Tie as tie

@@ -3,7 +3,7 @@ use mathlib.Core.Path.{_≡_}
 use Prim.Native.Nat.{_<_}
 use native.Mathlib.Omega.{arith}
 use lib.ListN.{length}
-use Rattle.rules.specs.declared.entries.Command.the-variants.{Window as windowᶜ}
+use Rattle.commands.specs.declared.entries.Command.the-variants.{Window as windowᶜ}
 use Rattle.tables.proofs.Tables.{length-mapped}
 use Rattle.book.proofs.Entered.{refused-entry, taken-entry, window-room}
 use Rattle.book.proofs.Book.enter_window.Statement.{statement}

@@ -3,8 +3,8 @@ use mathlib.Core.Path.{_≡_, sym, _∙_}
 use Prim.Native.Nat.{_≤_}
 use lib.ListN.{length}
 use Rattle.energy.proofs.Tests.{of-T}
-use Rattle.rules.specs.Refusal.{inRange}
-use Rattle.rules.specs.declared.entries.Command.the-variants.{Contract as contractᶜ, Instruction as instructionᶜ}
+use Rattle.commands.specs.Input.{inRange}
+use Rattle.commands.specs.declared.entries.Command.the-variants.{Contract as contractᶜ, Instruction as instructionᶜ}
 use Rattle.tables.proofs.Tables.{length-mapped}
 use Rattle.book.proofs.Tested.{sound-parts, sound-used}
 use Rattle.book.proofs.Numbers.{firstOf, Late, met-first, met-late, instruction-later}

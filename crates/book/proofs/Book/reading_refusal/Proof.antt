@@ -1,6 +1,6 @@
 use borrow.Author.Needs.{needs}
 use mathlib.Core.Path.{_≡_, sym, _∙_}
-use Rattle.rules.specs.declared.entries.Command.the-variants.{Reading as readingᶜ}
+use Rattle.commands.specs.declared.entries.Command.the-variants.{Reading as readingᶜ}
 use Rattle.book.proofs.Numbers.{firstOf, Late, met-first, met-late, reading-later}
 use Rattle.book.proofs.Book.reading_refusal.Statement.{statement}
 use Rattle.book.proofs.Book.reading_refusal.Tie as tie

@@ -2,7 +2,7 @@ use borrow.Author.Needs.{needs}
 use mathlib.Core.Path.{_≡_, sym, _∙_}
 use Prim.Native.Nat.{_≤_}
 use lib.ListN.{length}
-use Rattle.rules.specs.declared.entries.Command.the-variants.{Window as windowᶜ}
+use Rattle.commands.specs.declared.entries.Command.the-variants.{Window as windowᶜ}
 use Rattle.tables.proofs.Tables.{length-mapped}
 use Rattle.book.proofs.Tested.{sound-parts}
 use Rattle.book.proofs.Numbers.{firstOf, Late, met-first, met-late, window-later}

@@ -1,7 +1,7 @@
 -- `host::settling::settle_book` meets its contract: the answer decides whether sums are written, and the lines fit the memory lent for them.
 use mathlib.Core.Path.{_≡_, ap}
 use native.Mathlib.Omega.{arith}
-use Rattle.settlement.specs.Numbers.{numberBook}
+use Rattle.numbers.specs.Numbers.{numberBook}
 use Rattle.settlement.specs.declared.Settlement.{Settlement}
 use Rattle.host.proofs.Settled.{few-lines, settled-taken, settled-refused}
 use borrow.Author.Needs.{needs}

@@ -1,4 +1,4 @@
--- `settlement::cursor::call_at` meets its contract. Assumes nothing.
+-- `lines::cursor::call_at` meets its contract. Assumes nothing.
 use Prim.Native.Nat.{_-_}
 use native.Mathlib.Omega.{arith}
 use mir.Syntax.{w32}

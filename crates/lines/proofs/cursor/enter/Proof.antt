@@ -1,4 +1,4 @@
--- `settlement::cursor::enter` meets its contract. Assumes nothing.
+-- `lines::cursor::enter` meets its contract. Assumes nothing.
 use mathlib.Core.Path.{refl, ap}
 use Prim.Native.Nat.{ℕ, _-_}
 use native.Mathlib.Omega.{arith}

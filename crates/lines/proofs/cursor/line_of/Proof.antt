@@ -1,4 +1,4 @@
--- `settlement::cursor::line_of` meets its contract: the parts of the line are its callees' promises. Assumes nothing.
+-- `lines::cursor::line_of` meets its contract: the parts of the line are its callees' promises. Assumes nothing.
 use mathlib.Core.Path.{_∙_, ap}
 use Prim.Native.Nat.{_-_}
 use native.Mathlib.Omega.{arith}

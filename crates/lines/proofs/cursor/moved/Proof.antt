@@ -1,4 +1,4 @@
--- `settlement::cursor::moved` meets its contract. Assumes nothing.
+-- `lines::cursor::moved` meets its contract. Assumes nothing.
 use mathlib.Core.Path.{refl}
 use native.Mathlib.Omega.{arith}
 use lib.IntN.{ℤ, _+ℤ_}

@@ -1,4 +1,4 @@
--- `settlement::cursor::rate_of` meets its contract. Assumes nothing.
+-- `lines::cursor::rate_of` meets its contract. Assumes nothing.
 use mathlib.Core.Path.{refl}
 use Rattle.lines.specs.Cursor.{rateBy}
 use borrow.Author.Needs.{needs}

@@ -1,4 +1,4 @@
--- `settlement::cursor::segment_end` meets its contract. Assumes nothing.
+-- `lines::cursor::segment_end` meets its contract. Assumes nothing.
 use Rattle.rules.proofs.Cuts.{cutOf}
 use native.Mathlib.Omega.{arith}
 use borrow.Author.Needs.{needs}

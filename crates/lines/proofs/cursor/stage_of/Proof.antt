@@ -1,4 +1,4 @@
--- `settlement::cursor::stage_of` meets its contract. Assumes nothing.
+-- `lines::cursor::stage_of` meets its contract. Assumes nothing.
 use mathlib.Core.Path.{refl}
 use borrow.Author.Tests.{lt-ltb, le-ltb}
 use Rattle.lines.proofs.cursor.stage_of.Statement.{statement}

@@ -1,4 +1,4 @@
--- `settlement::cursor::step` meets its contract. Assumes nothing.
+-- `lines::cursor::step` meets its contract. Assumes nothing.
 use mathlib.Core.Path.{sym, _∙_, ap, subst}
 use Prim.Native.Nat.{_-_}
 use native.Mathlib.Omega.{arith}

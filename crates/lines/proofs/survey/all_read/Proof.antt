@@ -1,4 +1,4 @@
--- `settlement::survey::all_read` meets its contract. The test so far is that of the minutes passed. Assumes nothing.
+-- `lines::survey::all_read` meets its contract. The test so far is that of the minutes passed. Assumes nothing.
 use mathlib.Core.Path.{_≡_, refl, sym, _∙_, ap}
 use mathlib.Core.Bool.{_&&_}
 use Prim.Native.Nat.{_-_, _≤_}

@@ -1,4 +1,4 @@
--- `settlement::survey::survey_all` meets its contract. Assumes nothing.
+-- `lines::survey::survey_all` meets its contract. Assumes nothing.
 use mathlib.Core.Path.{_≡_, refl, sym, _∙_, ap}
 use Prim.Native.Nat.{_-_, _*_, _≤_}
 use native.Mathlib.Numerals.{add-one}

@@ -1,4 +1,4 @@
--- `settlement::survey::surveyed` meets its contract. Assumes nothing.
+-- `lines::survey::surveyed` meets its contract. Assumes nothing.
 use native.Mathlib.Omega.{arith}
 use Rattle.lines.specs.Survey.{LaidAt}
 use Rattle.lines.proofs.Step.{survey-made}

@@ -1,4 +1,4 @@
--- `settlement::survey::touched` meets its contract. Assumes nothing.
+-- `lines::survey::touched` meets its contract. Assumes nothing.
 use mathlib.Core.Path.{refl}
 use native.Mathlib.Omega.{arith}
 use borrow.Author.Tests.{lt-ltb, le-ltb}

@@ -1,4 +1,4 @@
--- `settlement::terms::terms_of` meets its contract. Assumes nothing.
+-- `lines::terms::terms_of` meets its contract. Assumes nothing.
 use mathlib.Core.Path.{_≡_}
 use Prim.Native.Nat.{ℕ, _≤_}
 use native.Mathlib.Omega.{arith}
@@ -10,7 +10,7 @@ use mir.Syntax.{w32, w64}
 use mir.Val.{SFits, Fits, toZ, ofZ}
 use mir.Facts.{toZ-ofZ}
 use Rattle.energy.proofs.Integers.{fits-parts}
-use Rattle.rules.specs.Ledger.{upMinutes, downMinutes}
+use Rattle.commands.specs.Input.{upMinutes, downMinutes}
 use Rattle.lines.specs.Terms.{termsOf}
 use Rattle.lines.proofs.terms.terms_of.Statement.{statement}
 use Rattle.lines.proofs.terms.terms_of.Tie as tie

@@ -1,4 +1,4 @@
--- `settlement::terms::times_of` meets its contract. The invariant: the times of the first i instructions are in their places. Assumes nothing.
+-- `lines::terms::times_of` meets its contract. The invariant: the times of the first i instructions are in their places. Assumes nothing.
 use mathlib.Core.Path.{_≡_, refl, subst}
 use Prim.Native.Nat.{ℕ, _-_, _≤_}
 use native.Mathlib.Omega.{arith}

@@ -20,7 +20,7 @@ use Rattle.lines.specs.Terms.{Timed, termsOf}
 use Rattle.lines.specs.Survey.{Laid, surveyTo}
 use Rattle.settlement.specs.Prepared.{Prepares, refusalOf, LaidOut}
 use Rattle.lines.proofs.Folds.{length-mapped}
-use Rattle.settlement.proofs.Sound.{SoundBook, sound-book, closed-agreed}
+use Rattle.book.proofs.SoundBook.{SoundBook, sound-book, closed-agreed}
 use Rattle.settlement.proofs.Surveyed.{Surveyed, survey-complete, survey-count}
 use Rattle.settlement.proofs.Ground.{Grounds, surveyed}
 use Rattle.settlement.proofs.Refused.{refused, is-25, is-26, is-taken}

@@ -7,17 +7,18 @@ use lib.IntN.{ℤ, pos}
 use lib.ListN.{replicate, length-replicate}
 use borrow.Author.Needs.{needs}
 use Rattle.energy.specs.Number.{Within}
-use Rattle.rules.specs.Ledger.{spanOf, kwOf, downMinutes}
-use Rattle.rules.specs.declared.contract.Contract.{Contract}
+use Rattle.commands.specs.Input.{kwOf, downMinutes}
+use Rattle.rules.specs.Ledger.{spanOf}
+use Rattle.commands.specs.declared.contract.Contract.{Contract}
 use Rattle.rules.specs.declared.statement.Statement.{Statement}
 use Rattle.rules.specs.declared.answer.Answer.the-variants.{Taken}
 use Rattle.book.specs.Sound.{Shaped}
 use Rattle.lines.specs.declared.terms.Terms.{Terms}
 use Rattle.lines.specs.Terms.{termsOf}
-use Rattle.availability.specs.Live.{isLive, Lit}
+use Rattle.live.specs.Live.{isLive, Lit}
 use Rattle.settlement.specs.Prepared.{unsummed}
 use Rattle.lines.proofs.Folds.{length-mapped}
-use Rattle.settlement.proofs.Sound.{sound-book}
+use Rattle.book.proofs.SoundBook.{sound-book}
 use Rattle.availability.proofs.Struck.{dark-zeros}
 use Rattle.settlement.proofs.Ground.{Grounds, cleared, windows-fit, spans, placed}
 use Rattle.settlement.proofs.prepare.lay_out.Statement.{statement}

@@ -11,8 +11,8 @@ use lib.Seq.{slice, getD-take, length-take-le}
 use Rattle.energy.specs.Lists.{all}
 use Rattle.energy.proofs.Tests.{to-T}
 use Rattle.rules.specs.Reached.{defaultSound}
-use Rattle.rules.specs.declared.contract.Contract.{Contract}
-use Rattle.rules.specs.declared.entries.Window.{Window}
+use Rattle.commands.specs.declared.contract.Contract.{Contract}
+use Rattle.commands.specs.declared.entries.Window.{Window}
 use Rattle.tables.specs.Unused.{noDefault}
 use Rattle.tables.proofs.Tables.{length-mapped, all-fails, all-on, all-passes}
 use Rattle.tables.proofs.Search.{ordered}

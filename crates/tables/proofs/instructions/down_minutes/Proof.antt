@@ -4,8 +4,8 @@ use mir.Syntax.{w64}
 use mir.Val.{SFits}
 use mir.Facts.{toZ-ofZ}
 use Rattle.energy.proofs.Tests.{to-T}
-use Rattle.rules.specs.Ledger.{downMinutes}
-use Rattle.rules.proofs.Terms.{ranges, kw-unsigned}
+use Rattle.commands.specs.Input.{downMinutes}
+use Rattle.commands.proofs.Terms.{ranges, kw-unsigned}
 use Rattle.tables.proofs.instructions.down_minutes.Statement.{statement}
 use Rattle.tables.proofs.instructions.down_minutes.Tie as tie
 

@@ -1,10 +1,10 @@
--- `decode::operands_at` meets its contract: the operands passed so far are read, and the next one stands after their widths.
+-- `unitfile::decode::operands_at` meets its contract: the operands passed so far are read, and the next one stands after their widths.
 use mathlib.Core.Path.{_≡_}
 use Prim.Native.Nat.{_+_, _-_, _≤_, _<_}
 use native.Mathlib.Omega.{arith}
 use borrow.Author.Needs.{needs}
 use lib.ListN.{length, getD, length-take}
-use Rattle.unitfile.proofs.Operands.{Passed, passed-none, passed-more, next-ends}
+use Rattle.format.proofs.Operands.{Passed, passed-none, passed-more, next-ends}
 use Rattle.unitfile.proofs.decode.operands_at.Statement.{statement}
 use Rattle.unitfile.proofs.decode.operands_at.Tie as tie
 

@@ -1,4 +1,4 @@
--- `decode::read_at` meets its contract: each of its answers is one of the four things that can be found at a position.
+-- `unitfile::decode::read_at` meets its contract: each of its answers is one of the four things that can be found at a position.
 use mathlib.Core.Path.{_≡_, sym}
 use mathlib.Core.List.{List}
 use mathlib.Core.Option.{some}
@@ -8,15 +8,15 @@ use borrow.Author.Needs.{needs}
 use lib.ListN.{length, getD, take, drop}
 use lib.Seq.{getD-drop}
 use Rattle.rules.specs.File.{table, widthsOf, total, operands, commandOf, readAt}
-use Rattle.rules.specs.declared.entries.Command.{Command}
+use Rattle.commands.specs.declared.entries.Command.{Command}
 use Rattle.rules.specs.declared.file.Read.the-variants.{Got, Refused}
-use Rattle.unitfile.specs.Table.{padded, rowFor, byteWidths}
-use Rattle.unitfile.specs.Operands.{Narrow, Sized}
-use Rattle.unitfile.specs.declared.table.Row.{Row}
+use Rattle.format.specs.Table.{padded, rowFor, byteWidths}
+use Rattle.format.specs.Operands.{Narrow, Sized}
+use Rattle.format.specs.declared.table.Row.{Row}
 use Rattle.unitfile.proofs.Found.{ended, unknown, short, entire, found-reads}
-use Rattle.unitfile.proofs.Operands.{getD-padded, command-padded, operand-below}
-use Rattle.unitfile.proofs.Rows.{row-widths, row-none, row-some, row-length, row-narrow}
-use Rattle.unitfile.proofs.Words.{Bytes}
+use Rattle.format.proofs.Operands.{getD-padded, command-padded, operand-below}
+use Rattle.format.proofs.Rows.{row-widths, row-none, row-some, row-length, row-narrow}
+use Rattle.format.proofs.Words.{Bytes}
 use Rattle.unitfile.proofs.decode.read_at.Statement.{statement}
 use Rattle.unitfile.proofs.decode.read_at.Tie as tie
 

@@ -1,4 +1,4 @@
--- `decode::reading_at` meets its contract: by the widths that the table has for a reading's byte.
+-- `unitfile::decode::reading_at` meets its contract: by the widths that the table has for a reading's byte.
 use mathlib.Core.Path.{_≡_, refl, sym}
 use mathlib.Core.List.{List, [], _∷_}
 use mathlib.Core.Option.{some}
@@ -9,14 +9,14 @@ use lib.ListN.{length, getD, drop}
 use lib.Seq.{getD-drop}
 use Rattle.energy.specs.Lists.{else}
 use Rattle.rules.specs.File.{table, widthsOf, total, operands, commandOf, readAt}
-use Rattle.rules.specs.declared.entries.Reading.{Reading}
-use Rattle.rules.specs.declared.entries.Command.the-variants.{Reading as readingᶜ}
+use Rattle.commands.specs.declared.entries.Reading.{Reading}
+use Rattle.commands.specs.declared.entries.Command.the-variants.{Reading as readingᶜ}
 use Rattle.rules.specs.declared.file.Read.the-variants.{Got, Refused}
-use Rattle.unitfile.specs.Table.{padded, byteWidths}
-use Rattle.unitfile.specs.Operands.{Sized}
+use Rattle.format.specs.Table.{padded, byteWidths}
+use Rattle.format.specs.Operands.{Sized}
 use Rattle.unitfile.proofs.Found.{short, entire, found-reads}
-use Rattle.unitfile.proofs.Operands.{getD-padded, command-padded, operand-below}
-use Rattle.unitfile.proofs.Words.{Bytes}
+use Rattle.format.proofs.Operands.{getD-padded, command-padded, operand-below}
+use Rattle.format.proofs.Words.{Bytes}
 use Rattle.unitfile.proofs.decode.reading_at.Statement.{statement}
 use Rattle.unitfile.proofs.decode.reading_at.Tie as tie
 

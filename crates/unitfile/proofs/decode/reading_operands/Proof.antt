@@ -1,4 +1,4 @@
--- `decode::reading_operands` meets its contract: each operand stands after those before it.
+-- `unitfile::decode::reading_operands` meets its contract: each operand stands after those before it.
 use mathlib.Core.Path.{_≡_}
 use Prim.Native.Nat.{_+_, _-_}
 use native.Mathlib.Omega.{arith}
@@ -6,7 +6,7 @@ use borrow.Author.Needs.{needs}
 use lib.ListN.{take, drop}
 use lib.Seq.{drop-drop}
 use Rattle.rules.specs.File.{wordFrom, operands}
-use Rattle.unitfile.specs.Table.{padded}
+use Rattle.format.specs.Table.{padded}
 use Rattle.unitfile.proofs.decode.reading_operands.Statement.{statement}
 use Rattle.unitfile.proofs.decode.reading_operands.Tie as tie
 

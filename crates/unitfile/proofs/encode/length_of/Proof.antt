@@ -1,4 +1,4 @@
--- `encode::length_of` meets its contract: the row of the command's byte has its length.
+-- `unitfile::encode::length_of` meets its contract: the row of the command's byte has its length.
 use borrow.Author.Needs.{needs}
 use Rattle.unitfile.proofs.Encoding.{encoded}
 use Rattle.unitfile.proofs.encode.length_of.Statement.{statement}

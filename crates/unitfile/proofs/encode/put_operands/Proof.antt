@@ -1,11 +1,11 @@
--- `encode::put_operands` meets its contract: the operands passed so far are put, and the next one goes after their widths.
+-- `unitfile::encode::put_operands` meets its contract: the operands passed so far are put, and the next one goes after their widths.
 use mathlib.Core.Path.{_≡_}
 use Prim.Native.Nat.{_+_, _-_, _≤_, _<_}
 use native.Mathlib.Nat.{le-of-lt}
 use native.Mathlib.Omega.{arith}
 use borrow.Author.Needs.{needs}
 use lib.ListN.{length, getD}
-use Rattle.unitfile.proofs.Operands.{total-within, next-ends}
+use Rattle.format.proofs.Operands.{total-within, next-ends}
 use Rattle.unitfile.proofs.Encoding.{Put, put-nothing, put-long, put-more}
 use Rattle.unitfile.proofs.encode.put_operands.Statement.{statement}
 use Rattle.unitfile.proofs.encode.put_operands.Tie as tie

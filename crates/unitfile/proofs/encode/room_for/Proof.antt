@@ -1,4 +1,4 @@
--- `encode::room_for` meets its contract.
+-- `unitfile::encode::room_for` meets its contract.
 use mathlib.Core.Path.{_≡_, refl, sym}
 use mathlib.Core.Bool.{Bool, true, false}
 use Prim.Native.Nat.{ℕ, _+_, _-_, _≤_}

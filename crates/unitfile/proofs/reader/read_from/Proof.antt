@@ -1,4 +1,4 @@
--- `reader::read_from` meets its contract: a walk of its MIR, by hand. A reader is made in a local and passed to `read`, of which the proof knows only that it meets its contract; the answer's parts are put together anew.
+-- `unitfile::reader::read_from` meets its contract: a walk of its MIR, by hand. A reader is made in a local and passed to `read`, of which the proof knows only that it meets its contract; the answer's parts are put together anew.
 -- Assumes nothing.
 use mathlib.Core.Path.{_≡_, refl, ap, subst}
 use Prim.Native.Nat.{ℕ, _<_, _^_}

@@ -1,4 +1,4 @@
--- `reader::step_at` meets its contract.
+-- `unitfile::reader::step_at` meets its contract.
 use borrow.Author.Needs.{needs}
 use Rattle.unitfile.specs.Reader.{stepAt}
 use Rattle.unitfile.proofs.reader.step_at.Statement.{statement}

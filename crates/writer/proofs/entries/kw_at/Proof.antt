@@ -5,8 +5,8 @@ use lib.ListN.{getD}
 use mir.Syntax.{w32, w64}
 use mir.Val.{SFits}
 use mir.Facts.{toZ-ofZ, sfits-widen}
-use Rattle.book.specs.Book.{missing}
-use Rattle.tables.proofs.Tables.{getD-within}
+use Rattle.meter.specs.Meter.{missing}
+use Rattle.rules.proofs.Lists.{getD-within}
 use Rattle.writer.proofs.entries.kw_at.Statement.{statement}
 use Rattle.writer.proofs.entries.kw_at.Tie as tie
 

@@ -5,7 +5,7 @@ use Prim.Native.Nat.{_-_, _≤_}
 use native.Mathlib.Omega.{arith}
 use borrow.Author.Needs.{needs}
 use lib.ListN.{getD, take}
-use Rattle.rules.specs.declared.entries.Command.the-variants.{Close as closeᶜ}
+use Rattle.commands.specs.declared.entries.Command.the-variants.{Close as closeᶜ}
 use Rattle.writer.specs.Laid.{Room, Laid, placesIn, usedIn, entries}
 use Rattle.writer.proofs.WrittenLaid.{Turns, laid-none, laid-long, room-so, room-turn, laid-turn}
 use Rattle.writer.proofs.WrittenParts.{entries-turns}

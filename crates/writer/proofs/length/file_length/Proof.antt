@@ -5,7 +5,7 @@ use native.Mathlib.Omega.{arith}
 use borrow.Author.Needs.{needs}
 use lib.ListN.{length}
 use Rattle.rules.specs.Ledger.{spanOf}
-use Rattle.rules.specs.declared.entries.Command.the-variants.{Contract as contractᶜ, Close as closeᶜ}
+use Rattle.commands.specs.declared.entries.Command.the-variants.{Contract as contractᶜ, Close as closeᶜ}
 use Rattle.book.specs.Sound.{Shaped}
 use Rattle.tables.proofs.Tables.{length-mapped}
 use Rattle.writer.specs.Laid.{fileBytes, parts, Tabled}

@@ -1,4 +1,4 @@
--- `reader::Reader::read` meets its contract: a walk of its MIR, by hand. The struct is taken apart, `step_at` is called on the slice and the position, and the reader after the command is made, beside the answer, in a second struct.
+-- `unitfile::reader::Reader::read` meets its contract: a walk of its MIR, by hand. The struct is taken apart, `step_at` is called on the slice and the position, and the reader after the command is made, beside the answer, in a second struct.
 -- All that the proof knows of `step_at` is that it meets its contract. The struct is Copy: what it owns is had twice more, for the callee and for the result, and one copy is kept whole for the exit.
 -- Assumes nothing.
 use mathlib.Core.Path.{_≡_, refl, ap, subst}

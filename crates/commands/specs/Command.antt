@@ -1,0 +1,67 @@
+-- Definitions that go by the command: one says what holds for a kind of command and leaves the other kinds to the next.
+use Rattle.commands.specs.declared.contract.Contract.{Contract}
+use Rattle.commands.specs.declared.entries.Window.{Window}
+use Rattle.commands.specs.declared.entries.Instruction.{Instruction}
+use Rattle.commands.specs.declared.entries.Default.{Default}
+use Rattle.commands.specs.declared.entries.Reading.{Reading}
+use Rattle.commands.specs.declared.entries.Command.{Command}
+use Rattle.commands.specs.declared.entries.Command.the-variants.{Contract as contractᶜ, Window as windowᶜ, Instruction as instructionᶜ, Default as defaultᶜ, Reading as readingᶜ, Close as closeᶜ}
+
+module _ {A : Type 0} where
+  -- f of a contract; any other command is g's
+  abbrev pub onContract : (Contract → A) → (Command → A) → Command → A
+  onContract f g (contractᶜ k) = f k
+  onContract f g (windowᶜ w) = g (windowᶜ w)
+  onContract f g (instructionᶜ i) = g (instructionᶜ i)
+  onContract f g (defaultᶜ d) = g (defaultᶜ d)
+  onContract f g (readingᶜ r) = g (readingᶜ r)
+  onContract f g closeᶜ = g closeᶜ
+
+  -- f of a window; any other command is g's
+  abbrev pub onWindow : (Window → A) → (Command → A) → Command → A
+  onWindow f g (contractᶜ k) = g (contractᶜ k)
+  onWindow f g (windowᶜ w) = f w
+  onWindow f g (instructionᶜ i) = g (instructionᶜ i)
+  onWindow f g (defaultᶜ d) = g (defaultᶜ d)
+  onWindow f g (readingᶜ r) = g (readingᶜ r)
+  onWindow f g closeᶜ = g closeᶜ
+
+  -- f of an instruction; any other command is g's
+  abbrev pub onInstruction : (Instruction → A) → (Command → A) → Command → A
+  onInstruction f g (contractᶜ k) = g (contractᶜ k)
+  onInstruction f g (windowᶜ w) = g (windowᶜ w)
+  onInstruction f g (instructionᶜ i) = f i
+  onInstruction f g (defaultᶜ d) = g (defaultᶜ d)
+  onInstruction f g (readingᶜ r) = g (readingᶜ r)
+  onInstruction f g closeᶜ = g closeᶜ
+
+  -- f of a default; any other command is g's
+  abbrev pub onDefault : (Default → A) → (Command → A) → Command → A
+  onDefault f g (contractᶜ k) = g (contractᶜ k)
+  onDefault f g (windowᶜ w) = g (windowᶜ w)
+  onDefault f g (instructionᶜ i) = g (instructionᶜ i)
+  onDefault f g (defaultᶜ d) = f d
+  onDefault f g (readingᶜ r) = g (readingᶜ r)
+  onDefault f g closeᶜ = g closeᶜ
+
+  -- f of a reading; any other command is g's
+  abbrev pub onReading : (Reading → A) → (Command → A) → Command → A
+  onReading f g (contractᶜ k) = g (contractᶜ k)
+  onReading f g (windowᶜ w) = g (windowᶜ w)
+  onReading f g (instructionᶜ i) = g (instructionᶜ i)
+  onReading f g (defaultᶜ d) = g (defaultᶜ d)
+  onReading f g (readingᶜ r) = f r
+  onReading f g closeᶜ = g closeᶜ
+
+  -- a of a close; any other command is g's
+  abbrev pub onClose : A → (Command → A) → Command → A
+  onClose a g (contractᶜ k) = g (contractᶜ k)
+  onClose a g (windowᶜ w) = g (windowᶜ w)
+  onClose a g (instructionᶜ i) = g (instructionᶜ i)
+  onClose a g (defaultᶜ d) = g (defaultᶜ d)
+  onClose a g (readingᶜ r) = g (readingᶜ r)
+  onClose a g closeᶜ = a
+
+  -- a of every command
+  abbrev pub always : A → Command → A
+  always a c = a

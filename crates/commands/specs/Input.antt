@@ -1,0 +1,114 @@
+-- "From the input": what a command's own operands are turned down for, whatever the book, and what comes of a contract's operands.
+use mathlib.Core.Bool.{Bool, true, false, not, _&&_, _||_}
+use mathlib.Core.List.{List, [], _∷_}
+use mathlib.Core.Option.{Option, none, some}
+use Prim.Native.Nat.{ℕ, _%_}
+use lib.IntN.{ℤ, pos, negsuc, natAbs}
+use lib.Signed.{leZ}
+use lib.Dec.{eqb, leb, ltb}
+use Rattle.energy.specs.Number.{ceiling}
+use Rattle.commands.specs.Command.{onContract, onWindow, onInstruction, onDefault, onReading, always}
+use Rattle.commands.specs.declared.contract.Contract.{Contract}
+use Rattle.commands.specs.declared.contract.Offer.{Offer}
+use Rattle.commands.specs.declared.contract.Offer.the-variants.{Agreed, Refused}
+use Rattle.commands.specs.declared.entries.Command.{Command}
+use Rattle.commands.specs.declared.entries.Command.the-variants.{Contract as contractᶜ}
+
+-- ---- a contract's ramps
+
+-- contracted kW
+abbrev pub kwOf : Contract → ℕ
+kwOf k = natAbs (k .contracted .0)
+
+-- ramp up minutes U
+unfoldable pub upMinutes : Contract → ℕ
+upMinutes k = ceiling (kwOf k) (k .rampup)
+
+-- ramp down minutes V
+unfoldable pub downMinutes : Contract → ℕ
+downMinutes k = ceiling (kwOf k) (k .rampdown)
+
+-- ---- the conditions
+
+-- n is from a to b
+abbrev pub from-to : ℕ → ℕ → ℕ → Bool
+from-to a b n = leb a n && leb n b
+
+-- the same of a signed number
+abbrev pub from-toℤ : ℤ → ℤ → ℤ → Bool
+from-toℤ a b n = leZ a n && leZ n b
+
+-- a reading: from −500,000 to 500,000 kW. A cell of meter memory that is none counts as no reading
+abbrev pub isReading : ℤ → Bool
+isReading z = from-toℤ (negsuc 499999) (pos 500000) z
+
+-- 3: every operand is in its range or one of its values
+abbrev pub inRange : Command → Bool
+inRange c =
+    onContract
+    (λ k. from-to 1 31 (k .days) && from-to 0 1 (k .kind) && from-to 0 1 (k .service) && from-toℤ (pos 3000) (pos 500000) (k .contracted .0)
+    && from-to 1 500000 (k .rampup)
+    && from-to 1 500000 (k .rampdown)
+    && from-to 1 240 (k .response .0)
+    && from-to 0 1200 (k .recovery .0)
+    && from-to 0 1000000 (k .availability)
+    && from-to 0 1000000 (k .utilisation)
+    && from-to 0 1000000 (k .optional))
+    (onWindow (λ w. from-to 0 44640 (w .start .0) && from-to 0 44640 (w .end .0) && from-to 0 1 (w .verdict))
+    (onInstruction (λ i. from-to 3 44640 (i .issue .0) && from-to 0 44640 (i .cease .0))
+    (onDefault (λ d. from-to 0 44640 (d .minute .0) && from-to 1 4 (d .kind) && from-to 1 3 (d .reach))
+    (onReading (λ r. from-to 0 44640 (r .minute .0) && isReading (r .kw .0))
+    (always true)))))
+    c
+
+-- 4: ramp up minutes above the response, or ramp down minutes above 240
+abbrev pub rampTooLong : Command → Bool
+rampTooLong c = onContract (λ k. ltb (k .response .0) (upMinutes k) || ltb 240 (downMinutes k)) (always false) c
+
+-- 5: window start not below its end, or either not a multiple of 30
+abbrev pub badWindow : Command → Bool
+badWindow c =
+    onWindow (λ w. leb (w .end .0) (w .start .0) || not (eqb (w .start .0 % 30) 0) || not (eqb (w .end .0 % 30) 0)) (always false) c
+
+-- ---- the lowest number that applies
+
+-- a refusal's number, and whether its condition holds
+pub record Condition : Type 0 where
+  pub number : ℕ
+  pub holds : Bool
+
+-- n is the number where b holds
+abbrev pub _when_ : ℕ → Bool → Condition
+n when b = record { number = n; holds = b }
+
+infix 20 _when_
+-- what a command meets whatever the book
+abbrev pub inputConditions : Command → List Condition
+inputConditions c =
+    (3 when not (inRange c))
+    ∷ (4 when rampTooLong c)
+    ∷ (5 when badWindow c)
+    ∷ []
+
+-- the lowest number whose condition holds
+unfoldable pub lowest : List Condition → Option ℕ
+lowest [] = none
+lowest (c ∷ cs) = elim (c .holds) [ true ↦ some (c .number) | false ↦ lowest cs ]
+
+-- a number, 0 where there is none
+abbrev pub orZero : Option ℕ → ℕ
+orZero none = 0
+orZero (some n) = n
+
+-- the lowest of 3, 4 and 5 whose condition holds, 0 for none
+unfoldable pub inputRefusal : Command → ℕ
+inputRefusal c = orZero (lowest (inputConditions c))
+
+-- the offer for a number: the contract where there is none
+abbrev pub offerFor : Contract → Option ℕ → Offer
+offerFor k none = Agreed k
+offerFor k (some n) = Refused n
+
+-- what comes of a contract's operands
+unfoldable pub offerOf : Contract → Offer
+offerOf k = offerFor k (lowest (inputConditions (contractᶜ k)))

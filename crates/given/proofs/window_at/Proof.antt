@@ -1,0 +1,69 @@
+-- `given::window_at` meets its contract: its numbers are read in order.
+use mathlib.Core.Path.{_≡_, refl}
+use mathlib.Core.List.{List}
+use Prim.Native.Nat.{ℕ, _+_, _*_, min}
+use lib.ListN.{getD}
+use Rattle.commands.specs.declared.entries.Window.{Window}
+use Rattle.given.specs.Tables.{windowAt}
+use borrow.Author.Needs.{needs}
+use Rattle.given.proofs.window_at.Statement.{statement}
+use Rattle.given.proofs.window_at.Tie as tie
+
+-- a window of these numbers
+window-of :
+    (s : List ℕ) (i a b v y : ℕ) → a ≡ getD s (3 * i) 0 → b ≡ getD s (3 * i + 1) 0 → v ≡ getD s (3 * i + 2) 0 → y ≡ min v 255
+    → _≡_ {A = Window} (record { start = record { 0 = a }; end = record { 0 = b }; verdict = y }) (windowAt s i)
+unfolding windowAt
+window-of s i a b v y ea eb ev ey = rw (ea, eb, ey, ev) refl
+
+mul-number-at : tie.Need-mul-number-at
+mul-number-at c = search needs
+
+number-at-requires : tie.Need-number-at-requires
+number-at-requires c κs = search needs
+
+mul-number-at-2 : tie.Need-mul-number-at-2
+mul-number-at-2 c = search needs
+
+add-number-at : tie.Need-add-number-at
+add-number-at c = search needs
+
+number-at-requires-2 : tie.Need-number-at-requires-2
+number-at-requires-2 c κs = search needs
+
+mul-number-at-3 : tie.Need-mul-number-at-3
+mul-number-at-3 c = search needs
+
+add-number-at-2 : tie.Need-add-number-at-2
+add-number-at-2 c = search needs
+
+number-at-requires-3 : tie.Need-number-at-requires-3
+number-at-requires-3 c κs = search needs
+
+cast-byte-of : tie.Need-cast-byte-of
+cast-byte-of c = search needs
+
+byte-of-requires : tie.Need-byte-of-requires
+byte-of-requires c κs = search needs
+
+returns : tie.Need-returns
+returns c =
+    let a = c .before .before .before .before .before .args in
+    window-of (a .s .now) (a .i) _ _ _ _ (c .before .before .before .number-at .ensures) (c .before .before .number-at2 .ensures)
+    (c .before .number-at3 .ensures) (c .byte-of .ensures)
+
+pub window-at-spec : {M : Type 1} → statement M
+window-at-spec =
+    tie.close
+    (tie.spec
+    mul-number-at
+    number-at-requires
+    mul-number-at-2
+    add-number-at
+    number-at-requires-2
+    mul-number-at-3
+    add-number-at-2
+    number-at-requires-3
+    cast-byte-of
+    byte-of-requires
+    returns)

@@ -1,0 +1,50 @@
+-- `numbers::settle_numbers` meets its contract: `prepare` decides before a number is written, `fill_numbers` stores the lines, and `sum_up` adds their sums to the answer. Assumes nothing.
+use mathlib.Core.Path.{sym, _∙_, ap, subst}
+use borrow.Author.Needs.{needs}
+use Rattle.energy.specs.Number.{Within}
+use Rattle.lines.specs.declared.cursor.Cursor.{Cursor}
+use Rattle.settlement.specs.Prepared.{summed}
+use Rattle.numbers.proofs.Numbered.{numbered-answer, numbered-memory}
+use Rattle.numbers.proofs.settle_numbers.Statement.{statement}
+use Rattle.numbers.proofs.settle_numbers.Tie as tie
+
+prepare-requires : tie.Need-prepare-requires
+prepare-requires c κs = search needs
+
+slice-aggregate-fill-numbers : tie.Need-slice-aggregate-fill-numbers
+slice-aggregate-fill-numbers c = search needs
+
+slice-aggregate-fill-numbers-2 : tie.Need-slice-aggregate-fill-numbers-2
+slice-aggregate-fill-numbers-2 c = search needs
+
+fill-numbers-requires : tie.Need-fill-numbers-requires
+fill-numbers-requires c κs = search needs
+
+sum-up-requires : tie.Need-sum-up-requires
+sum-up-requires c κs =
+    let p = c .before .before .before .before .before .before .before .prepare in
+    (subst (λ (z : Cursor). Within 100000000000000 (z .pence)) (sym (c .before .fill-numbers .ensures .0)) (p .ensures .sums .0), p .ensures .sums .1)
+
+same-length : tie.Need-same-length
+same-length c = search needs
+
+returns : tie.Need-returns
+returns c =
+    let a = c .before .before .before .before .before .before .before .before .before .args in
+    let p = c .before .before .before .before .before .before .before .before .prepare in
+    let f = c .before .before .fill-numbers in (
+      c .sum-up .ensures ∙ ap (summed (p .result .settlement)) (f .ensures .0) ∙ numbered-answer (a .b) (a .meter .now) (a .numbers .now) (p .result) (p .ensures),
+      f .ensures .1 ∙ numbered-memory (a .b) (a .meter .now) (a .numbers .now) (p .result) (p .ensures),
+    )
+
+pub settle-numbers-spec : {M : Type 1} → statement M
+settle-numbers-spec =
+    tie.close
+    (tie.spec
+    prepare-requires
+    slice-aggregate-fill-numbers
+    slice-aggregate-fill-numbers-2
+    fill-numbers-requires
+    sum-up-requires
+    same-length
+    returns)

@@ -1,0 +1,38 @@
+-- `operands::command::default_of` meets its contract: each operand fits its field, by its width in the table.
+use mathlib.Core.Path.{refl}
+use borrow.Author.Needs.{needs}
+use Rattle.energy.specs.Lists.{else}
+use Rattle.rules.specs.File.{table, widthsOf, commandOf}
+use Rattle.format.specs.Table.{byteWidths}
+use Rattle.operands.proofs.command.default_of.Statement.{statement}
+use Rattle.operands.proofs.command.default_of.Tie as tie
+
+array-read-t6 : tie.Need-array-read-t6
+array-read-t6 c = search needs
+
+cast-t7 : tie.Need-cast-t7
+unfolding else table widthsOf byteWidths
+cast-t7 c = record { fits = c .pre .sized 0 }
+
+array-read-t6-2 : tie.Need-array-read-t6-2
+array-read-t6-2 c = search needs
+
+cast-t10 : tie.Need-cast-t10
+unfolding else table widthsOf byteWidths
+cast-t10 c = record { fits = c .pre .sized 1 }
+
+array-read-t13 : tie.Need-array-read-t13
+array-read-t13 c = search needs
+
+cast-t14 : tie.Need-cast-t14
+unfolding else table widthsOf byteWidths
+cast-t14 c = record { fits = c .pre .sized 2 }
+
+returns : tie.Need-returns
+unfolding commandOf
+returns c = refl
+
+pub default-of-spec : {M : Type 1} → statement M
+default-of-spec =
+    tie.close
+    (tie.spec array-read-t6 cast-t7 array-read-t6-2 cast-t10 array-read-t13 cast-t14 returns)

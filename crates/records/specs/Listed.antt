@@ -1,0 +1,30 @@
+-- Settling into records of its own: what a caller gets that lends none.
+use mathlib.Core.List.{List}
+use lib.IntN.{ℤ, pos}
+use lib.ListN.{replicate}
+use Rattle.rules.specs.declared.statement.Line.{Line}
+use Rattle.rules.specs.declared.statement.Stage.the-variants.{Up}
+use Rattle.rules.specs.declared.statement.Rate.the-variants.{Utilisation}
+use Rattle.book.specs.declared.Book.{Book}
+use Rattle.settlement.specs.Settle.{Settled, settleBook}
+use Rattle.records.specs.declared.Listing.{Listing}
+
+-- a record before it holds a line
+abbrev pub noLine : Line
+noLine =
+    record {
+      instruction = 0;
+      period = 0;
+      stage = Up;
+      rate = Utilisation;
+      expected = record { 0 = pos 0 };
+      delivered = record { 0 = pos 0 };
+      capped = record { 0 = pos 0 };
+      pence = record { 0 = pos 0 };
+    }
+
+-- settling a book into 719 records of its own: what `listed` promises
+unfoldable pub listBook : Book → List ℤ → Listing
+listBook b meter =
+    let s : Settled = settleBook b meter (replicate 719 noLine) in
+    record { settlement = s .settlement; lines = s .memory }
