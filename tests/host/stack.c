@@ -1,0 +1,100 @@
+/* stack FILE..: how much stack the library's calls take, held to what stor.h says. Each call runs on a stack of its own, filled with a mark before;
+   the lowest byte that lost its mark tells how deep the call went. */
+#include <pthread.h>
+#include <stdint.h>
+#include <stdio.h>
+#include <stdlib.h>
+#include <string.h>
+
+#include "stor.h"
+
+enum { SIZE = 1 << 20, MARK = 0xA5, LINES_LENGTH = STOR_LINE_NUMBERS * STOR_LINES_MOST };
+
+static unsigned char stack[SIZE] __attribute__((aligned(4096)));
+static uint8_t file[1 << 20];
+static size_t length;
+static int32_t meter[STOR_MINUTES_MOST];
+static int64_t lines[LINES_LENGTH];
+static int64_t sums[STOR_SUM_NUMBERS];
+static uint64_t answer;
+
+static void *nothing(void *p) { return p; }
+
+static void *enters(void *p)
+{
+    answer = stor_enter_file(file, length, meter, STOR_MINUTES_MOST);
+    return p;
+}
+
+static void *settles(void *p)
+{
+    answer = stor_settle_file(file, length, meter, STOR_MINUTES_MOST, lines, LINES_LENGTH, sums, STOR_SUM_NUMBERS);
+    return p;
+}
+
+/* A day with one window, one instruction and one default, and 0 kW in every minute. */
+static void *settles_tables(void *p)
+{
+    static const uint32_t contract[11] = {1, 0, 0, 3000, 3000, 3000, 1, 0, 100, 100, 100};
+    static const uint16_t windows[3] = {0, 60, 0}, instructions[2] = {10, 40}, defaults[3] = {5, 1, 1};
+    answer = stor_settle_tables(contract, 11, windows, 3, instructions, 2, defaults, 3, meter, STOR_MINUTES_MOST, lines, LINES_LENGTH, sums,
+                                STOR_SUM_NUMBERS);
+    return p;
+}
+
+/* How far down a thread's stack was written. */
+static size_t depth(void *(*run)(void *))
+{
+    pthread_attr_t attributes;
+    pthread_t thread;
+    size_t at = 0;
+    memset(stack, MARK, SIZE);
+    if (pthread_attr_init(&attributes) != 0 || pthread_attr_setstack(&attributes, stack, SIZE) != 0 ||
+        pthread_create(&thread, &attributes, run, NULL) != 0 || pthread_join(thread, NULL) != 0) {
+        fprintf(stderr, "stack: no thread\n");
+        exit(1);
+    }
+    while (at < SIZE && stack[at] == MARK)
+        at++;
+    return SIZE - at;
+}
+
+static size_t most;
+
+static void hold(const char *what, void *(*run)(void *), size_t own)
+{
+    size_t took = depth(run) - own;
+    if (took > most)
+        most = took;
+    /* a call hands on a book of 2.5 KB, so less than that was not measured */
+    if (took < 2048 || took > STOR_STACK) {
+        fprintf(stderr, "stack: %s took %zu bytes, stor.h says at most %d\n", what, took, STOR_STACK);
+        exit(1);
+    }
+}
+
+int main(int count, char **words)
+{
+    size_t own = depth(nothing);
+    int settled = 0;
+    for (int i = 1; i < count; i++) {
+        FILE *from = fopen(words[i], "rb");
+        if (from == NULL) {
+            fprintf(stderr, "stack: %s cannot be read\n", words[i]);
+            return 1;
+        }
+        length = fread(file, 1, sizeof file, from);
+        fclose(from);
+        hold(words[i], enters, own);
+        hold(words[i], settles, own);
+        settled += answer % 256 == 0;
+    }
+    memset(meter, 0, sizeof meter);
+    hold("tables", settles_tables, own);
+    if (settled == 0 || answer != 0) {
+        fprintf(stderr, "stack: nothing was settled\n");
+        return 1;
+    }
+    printf("stack: %zu bytes at most, stor.h says %d\n", most, STOR_STACK);
+    return 0;
+}
