@@ -11,7 +11,7 @@
  * - Nothing else writes lent memory, and nothing reads what a call may write, until the call returns. Calls on different memory may run at once.
  * - All memory stays the caller's. A call holds it only until it returns.
  * - Input elements hold values: meter memory, line memory and sum memory have been written once, if only with zeros.
- * - A call needs some 20 KiB of stack.
+ * - A call has STOR_STACK bytes of stack left.
  */
 #ifndef STOR_H
 #define STOR_H
@@ -22,6 +22,9 @@
 #ifdef __cplusplus
 extern "C" {
 #endif
+
+/* More stack than any call takes, in bytes; what calls took when it was written is in docs/HOSTS.md. */
+#define STOR_STACK 32768
 
 /* The number and the offset of a file's answer. Number 0: taken, and the offset is the file's length. Any other number is a refusal, and the offset
  * is that of the refused command, or the file's length where settling was refused. (An offset of 2^56 or more would stand as 2^56 - 1.) */

@@ -13,7 +13,7 @@ use borrow.Author.Tests.{le-leb, lt-leb}
 use Rattle.energy.proofs.Tests.{eq-true, eq-false}
 use Rattle.commands.specs.declared.entries.Default.{Default}
 use Rattle.commands.specs.declared.entries.Window.{Window}
-use Rattle.tables.specs.Unused.{noDefault}
+use Rattle.rules.specs.Ledger.{noDefault}
 use Rattle.live.specs.Live.{Marked, Dark}
 use Rattle.availability.specs.Paid.{numberOf, windowOf, reachFrom, reachTo, loses, strikes, lostTo, struckTo, Marks, Struck, marked}
 

@@ -14,7 +14,7 @@ use Rattle.rules.specs.Statement.{nothing}
 use Rattle.commands.specs.declared.entries.Default.{Default}
 use Rattle.commands.specs.declared.entries.Window.{Window}
 use Rattle.rules.specs.declared.statement.Available.{Available}
-use Rattle.tables.specs.Unused.{noDefault, noWindow}
+use Rattle.rules.specs.Ledger.{noDefault, noWindow}
 use Rattle.availability.specs.declared.paid.Entries.{Entries}
 
 -- ---- defaults

@@ -4,17 +4,17 @@ ghost use mathlib.Core.Bool.{cond};
 ghost use Prim.Native.Nat.{ℕ, _≤_, _<_};
 ghost use lib.ListN.{length, getD};
 ghost use Rattle.energy.specs.Number.{Within};
-ghost use Rattle.tables.specs.Unused.{noDefault};
+ghost use Rattle.rules.specs.Ledger.{noDefault};
 ghost use Rattle.live.specs.Live.{Dark};
 ghost use Rattle.availability.specs.Paid.{Marks, Placed, Spans, Struck, availabilityBy, entriesBy, entryOf, marked, paidIn, penaltyBy, reachFrom, reachTo};
 use commands::entries::Default;
 use commands::entries::Window;
 use energy::money::period_pence;
 use energy::units::Pence;
-use lines::terms::wide;
-use lines::terms::wide_byte;
 use live::mark;
 use rules::statement::Available;
+use terms::wide;
+use terms::wide_byte;
 
 // The entries of the windows, and their pence.
 pub struct Entries {

@@ -13,7 +13,7 @@ use lib.Seq.{length-take-le}
 use borrow.Author.Tests.{ne-eqb}
 use Rattle.energy.specs.Lists.{any, first, isEmpty, isSome, last}
 use Rattle.commands.specs.Command.{onContract, always}
-use Rattle.rules.specs.Ledger.{isContract, spanOf, expiry, endOf, within}
+use Rattle.rules.specs.Ledger.{isContract, spanOf, expiry, endOf, within, noWindow}
 use Rattle.rules.specs.Refusal.{spanFor, recovered, conditions, refusal}
 use Rattle.commands.specs.Input.{isReading, inRange, rampTooLong, badWindow, Condition, lowest, inputRefusal, orZero}
 use Rattle.commands.specs.declared.contract.Contract.{Contract}
@@ -24,7 +24,6 @@ use Rattle.commands.specs.declared.entries.Reading.{Reading}
 use Rattle.commands.specs.declared.entries.Command.{Command}
 use Rattle.commands.specs.declared.entries.Command.the-variants.{Contract as contractᶜ, Window as windowᶜ, Instruction as instructionᶜ, Default as defaultᶜ, Reading as readingᶜ, Close as closeᶜ}
 use Rattle.commands.proofs.Input.{input-cond}
-use Rattle.tables.specs.Unused.{noWindow}
 use Rattle.meter.specs.Meter.{missing}
 use Rattle.book.specs.Book.{ledgerIn}
 use Rattle.tables.specs.Numbers.{firstNumber}

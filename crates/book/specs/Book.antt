@@ -9,7 +9,7 @@ use lib.ListN.{getD, take, set, replicate}
 use Rattle.rules.specs.Ledger.{Ledger, noContract, spanOf}
 use Rattle.commands.specs.declared.entries.Command.{Command}
 use Rattle.commands.specs.declared.entries.Command.the-variants.{Contract as contractᶜ, Window as windowᶜ, Instruction as instructionᶜ, Default as defaultᶜ, Reading as readingᶜ, Close as closeᶜ}
-pub use Rattle.tables.specs.Unused.{noWindow, noInstruction, noDefault}
+pub use Rattle.rules.specs.Ledger.{noWindow, noInstruction, noDefault}
 use Rattle.meter.specs.Meter.{missing, cell}
 use Rattle.book.specs.declared.Book.{Book}
 

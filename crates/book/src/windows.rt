@@ -3,7 +3,7 @@ ghost use mathlib.Core.Path.{_≡_};
 ghost use Prim.Native.Nat.{_≤_};
 ghost use lib.ListN.{take};
 ghost use Rattle.energy.specs.Lists.{last};
-ghost use Rattle.tables.specs.Unused.{noWindow};
+ghost use Rattle.rules.specs.Ledger.{noWindow};
 ghost use Rattle.book.specs.Enter.{Enters};
 ghost use Rattle.book.specs.Numbers.{refusalOf};
 ghost use Rattle.book.specs.Sound.{sound};

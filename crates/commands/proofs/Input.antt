@@ -26,6 +26,10 @@ input-cond c = go (not (inRange c)) (rampTooLong c) (badWindow c)
     go false false true = refl
     go false false false = refl
 
+-- the number from the test of the range, and that of the conditions after it
+pub input-picked : (c : Command) {b : Bool} {r n : ℕ} → r ≡ cond (not b) 3 n → b ≡ inRange c → n ≡ cond (rampTooLong c) 4 (cond (badWindow c) 5 0) → r ≡ inputRefusal c
+input-picked c e f g = e ∙ (λ i. cond (not (f i)) 3 (g i)) ∙ sym (input-cond c)
+
 -- an operand outside its range comes first
 pub input-out : (c : Command) → inRange c ≡ false → 3 ≡ inputRefusal c
 input-out c e = sym (input-cond c ∙ ap (λ b. cond (not b) 3 (cond (rampTooLong c) 4 (cond (badWindow c) 5 0))) e)

@@ -22,7 +22,7 @@ use Rattle.numbers.specs.Numbers.{numberBook, numberedBy}
 use Rattle.settlement.specs.declared.Settlement.{Settlement}
 use Rattle.host.specs.Answers.{numberOf}
 use Rattle.host.specs.Calls.{settleInto, sumsBy}
-use Rattle.host.specs.Sums.{sumsOf}
+use Rattle.sums.specs.Sums.{sumsOf}
 
 -- a statement's lines fit the memory lent for them: else it gets 26
 few-by : (u m c k : Bool) (g : Ledger) (memory : List ℤ) (room : ℕ) (r : Bool) → ltb room (length (segments g)) ≡ r

@@ -13,7 +13,7 @@ use Rattle.book.specs.declared.Book.{Book}
 use Rattle.numbers.specs.Numbers.{Numbered, numberBook}
 use Rattle.stor.specs.Files.{LoadedFile, load}
 use Rattle.host.specs.Answers.{numberOf, packed}
-use Rattle.host.specs.Sums.{sumCount, sumsOf}
+use Rattle.sums.specs.Sums.{sumCount, sumsOf}
 use Rattle.given.specs.Tables.{bookOf, entire}
 
 -- ---- a file entered

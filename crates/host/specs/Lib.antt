@@ -1,3 +1,2 @@
 pub mod Answers
-pub mod Sums
 pub mod Calls

@@ -2,7 +2,6 @@
 // for every length and every contents of what is lent.
 mod answers;
 mod settling;
-mod sums;
 
 ghost use mathlib.Core.Path.{_≡_};
 ghost use Rattle.host.specs.Calls.{enterFile, settleFile, settleTables};

@@ -3,11 +3,11 @@ ghost use mathlib.Core.Path.{_≡_};
 ghost use Prim.Native.Nat.{_≤_, _<_, _^_};
 ghost use lib.ListN.{length};
 ghost use Rattle.host.specs.Calls.{settleInto};
-ghost use Rattle.host.specs.Sums.{sumCount};
-use crate::sums::put_sums;
+ghost use Rattle.sums.specs.Sums.{sumCount};
 use book::Book;
 use numbers::settle_numbers;
 use rules::answer::Answer;
+use sums::put_sums;
 
 // The number under which settling a book is refused, or 0. Line and sum memory are written only where it is 0.
 pub(crate) fn settle_book(b: Book, meter: &[i32], lines: &mut [i64], sums: &mut [i64]) -> u8

@@ -1,6 +1,6 @@
--- The parts of a call, a line, a step and a survey put together, and what follows for the segment at the cursor.
+-- The parts of a call, a line and a step put together, and what follows for the segment at the cursor.
 use mathlib.Core.Path.{_≡_, refl, sym, _∙_, ap, ap₂, subst}
-use mathlib.Core.Bool.{Bool, true, false, _&&_}
+use mathlib.Core.Bool.{true, false}
 use mathlib.Core.List.{List, [], _∷_, _++_, map, append-assoc}
 use Prim.Native.Nat.{ℕ, zero, suc, _+_, _-_, _*_, _/_, _≤_, _<_}
 use native.Mathlib.Numerals.{add-one}
@@ -11,24 +11,21 @@ use lib.ListN.{length, getD, drop, set, length-set}
 use lib.Seq.{drop-cons, set-at}
 use borrow.Author.Tests.{lt-ltb, le-ltb}
 use Rattle.energy.specs.Energy.{cell, Readable, kwh, capped, payment, expectedIn, deliveredIn}
-use Rattle.energy.specs.Lists.{all, sum, between, run}
+use Rattle.energy.specs.Lists.{sum, between, run}
 use Rattle.energy.specs.Number.{Within}
 use Rattle.energy.proofs.Sums.{sum-within}
 use Rattle.rules.specs.Segment.{periodOf}
 use Rattle.rules.specs.declared.statement.Line.{Line}
 use Rattle.rules.specs.declared.statement.Stage.{Stage}
 use Rattle.rules.specs.declared.statement.Rate.{Rate}
-use Rattle.rules.proofs.Count.{touched}
 use Rattle.rules.proofs.Cuts.{stageAt, cutOf, rises}
-use Rattle.lines.specs.declared.terms.Terms.{Terms}
+use Rattle.terms.specs.declared.Terms.{Terms}
 use Rattle.lines.specs.declared.cursor.Call.{Call}
 use Rattle.lines.specs.declared.cursor.Cursor.{Cursor}
 use Rattle.lines.specs.declared.cursor.Stepped.{Stepped}
-use Rattle.lines.specs.Terms.{issueOf, ceaseOf}
-use Rattle.lines.specs.declared.survey.Survey.{Survey}
-use Rattle.lines.specs.Survey.{has, surveyOf}
+use Rattle.terms.specs.Terms.{issueOf, ceaseOf}
 use Rattle.lines.specs.Cursor.{lit, callOf, rateBy, priceBy, steadyAt, lineBy, enterOf, moved, cutBy, stepOf, stored, Plan, Ready}
-use Rattle.lines.proofs.Folds.{length-first, first-snoc}
+use Rattle.rules.proofs.Folds.{length-first, first-snoc}
 
 -- an instruction from its two times and its base load
 pub call-made : (t : Terms) (times live : List ℕ) (meter : List ℤ) (j i c : ℕ) (b : ℤ)
@@ -108,11 +105,3 @@ next t times live meter c p r =
       base = subst (λ z. Within 2000000 z) (sym eb) (omega (arith, sum-within (cell meter) 500000 (issueOf times (c .at) - 3) (issueOf times (c .at) + 1) (q .base)));
       readable = record { order = omega arith; short = omega arith; inside = omega arith; read = λ m x y. q .read m (omega arith) (omega arith) };
     }
-
--- a survey from its parts
-pub survey-made : (t : Terms) (times : List ℕ) (meter : List ℤ) (j : ℕ) (s : Survey) (i c : ℕ) (b a : Bool) (x y z : ℕ)
-    → i ≡ issueOf times j → c ≡ ceaseOf times j → b ≡ all (has meter) (between (i - 3) (i + 1)) → a ≡ all (has meter) (between (i + t .response - t .rise) (c + t .fall))
-    → x ≡ touched (i + t .response - t .rise) (i + t .response) → y ≡ touched (i + t .response) c → z ≡ touched c (c + t .fall)
-    → _≡_ {A = Survey} (record { complete = s .complete && (b && a); count = s .count + (x + y + z) }) (surveyOf t times meter j s)
-unfolding surveyOf
-survey-made t times meter j s i c b a x y z e₁ e₂ e₃ e₄ e₅ e₆ e₇ = cc

@@ -14,11 +14,11 @@ use Rattle.rules.specs.declared.statement.Line.{Line}
 use Rattle.rules.specs.declared.statement.Rate.{Rate}
 use Rattle.rules.specs.declared.statement.Rate.the-variants.{Utilisation, Optional}
 use Rattle.rules.proofs.Cuts.{stageAt, cutOf}
-use Rattle.lines.specs.declared.terms.Terms.{Terms}
+use Rattle.terms.specs.declared.Terms.{Terms}
 use Rattle.lines.specs.declared.cursor.Call.{Call}
 use Rattle.lines.specs.declared.cursor.Cursor.{Cursor}
 use Rattle.lines.specs.declared.cursor.Stepped.{Stepped}
-use Rattle.lines.specs.Terms.{issueOf, ceaseOf}
+use Rattle.terms.specs.Terms.{issueOf, ceaseOf}
 
 -- ---- a line
 

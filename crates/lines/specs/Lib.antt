@@ -1,3 +1,1 @@
-pub mod Terms
-pub mod Survey
 pub mod Cursor

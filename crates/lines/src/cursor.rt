@@ -6,8 +6,6 @@ ghost use Rattle.energy.specs.Energy.{Readable};
 ghost use Rattle.energy.specs.Number.{Within};
 ghost use Rattle.rules.proofs.Cuts.{cutOf, stageAt, stageEnd};
 ghost use Rattle.lines.specs.Cursor.{Plan, Ready, callOf, cursorAt, enterOf, lineBy, moved as movedTo, priceBy, rateBy, stepOf};
-use crate::terms::Terms;
-use crate::terms::wide;
 use energy::money::capped_kwh;
 use energy::money::delivered_kwh;
 use energy::money::expected_kwh;
@@ -18,6 +16,8 @@ use energy::quarters::total;
 use rules::statement::Line;
 use rules::statement::Rate;
 use rules::statement::Stage;
+use terms::Terms;
+use terms::wide;
 
 // The times of an instruction and its base load, and whether a live window pays for its ramps.
 pub struct Call {

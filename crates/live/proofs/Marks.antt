@@ -11,7 +11,7 @@ use lib.ListN.{length, getD, set, length-set}
 use lib.Seq.{getD-set-same, getD-set-other}
 use borrow.Author.Tests.{lt-ltb, le-ltb, le-leb, lt-leb}
 use Rattle.commands.specs.declared.entries.Window.{Window}
-use Rattle.tables.specs.Unused.{noWindow}
+use Rattle.rules.specs.Ledger.{noWindow}
 use Rattle.live.specs.Live.{Marked, covers, Showed, Dark, numberTo, Lit}
 
 pub mark-none : (xs : List ℕ) (a v : ℕ) → Marked xs a a v xs

@@ -6,8 +6,8 @@ use Prim.Native.Nat.{ℕ, zero, suc, _+_, _/_, _≤_, _<_}
 use lib.Dec.{eqb, leb, ltb}
 use lib.ListN.{length, getD}
 use Rattle.commands.specs.declared.entries.Window.{Window}
-use Rattle.tables.specs.Unused.{noWindow}
-use Rattle.lines.specs.Terms.{ceaseOf}
+use Rattle.rules.specs.Ledger.{noWindow}
+use Rattle.terms.specs.Terms.{ceaseOf}
 
 -- the first n instructions end in the month, and reach is at most recovery and response at their largest
 pub record Cleared (times : List ℕ) (n fall reach : ℕ) : Type 0 where

@@ -5,7 +5,7 @@ ghost use Prim.Native.Nat.{_+_, _/_, _≤_};
 ghost use lib.ListN.{length};
 ghost use Rattle.live.specs.Live.{Cleared, Dark, Lit, Marked, Showed, Windows, excludedTo, isLive};
 use commands::entries::Window;
-use lines::terms::wide;
+use terms::wide;
 
 // Whether one of the first n instructions excludes a window that starts at `start`: reach is recovery and response.
 fn excluded(times: &[u16], n: usize, fall: u16, reach: u16, start: u16) -> bool

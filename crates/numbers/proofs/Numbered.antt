@@ -22,7 +22,7 @@ use Rattle.lines.specs.Cursor.{steppedLine}
 use Rattle.settlement.specs.Settle.{Settled, settledBy, settleBook}
 use Rattle.numbers.specs.Numbers.{stageNumber, rateNumber, numbersOf, Numbered, numberedBy, numberBook}
 use Rattle.settlement.specs.Prepared.{summed, lastCursor, settledWith, Prepares}
-use Rattle.lines.proofs.Folds.{concatMap-snoc, length-first, first-snoc}
+use Rattle.rules.proofs.Folds.{concatMap-snoc, length-first, first-snoc}
 use Rattle.lines.proofs.Step.{stored-first}
 
 -- the eight stores of a line

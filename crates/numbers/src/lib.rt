@@ -10,13 +10,13 @@ use book::Book;
 use lines::cursor::Cursor;
 use lines::cursor::first;
 use lines::cursor::step;
-use lines::terms::Terms;
 use rules::statement::Line;
 use rules::statement::Rate;
 use rules::statement::Stage;
 use settlement::Settlement;
 use settlement::prepare::prepare;
 use settlement::prepare::sum_up;
+use terms::Terms;
 
 // A stage as a number.
 fn stage_number(s: Stage) -> i64

@@ -8,11 +8,11 @@ use book::Book;
 use lines::cursor::Cursor;
 use lines::cursor::first;
 use lines::cursor::step;
-use lines::terms::Terms;
 use rules::statement::Line;
 use settlement::Settlement;
 use settlement::prepare::prepare;
 use settlement::prepare::sum_up;
+use terms::Terms;
 
 // The lines, in order, into the first n records; and the cursor after them, with their sums.
 fn fill<'a, 'b, 'c>(

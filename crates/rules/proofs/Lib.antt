@@ -19,3 +19,4 @@ pub mod Operands
 pub mod Reread
 pub mod FileLength
 pub mod Rewritten
+pub mod Folds

@@ -71,7 +71,7 @@ ledgerOf t =
       reading = readingOf t;
     }
 
--- ---- the contract and its month
+-- ---- the contract and its month, and zeros for what is not there
 
 -- in place of a contract that is not there: zeros, so that the span is 0
 abbrev pub noContract : Contract
@@ -97,6 +97,18 @@ contractOf g = first noContract (g .contracts)
 -- the minutes of the month
 abbrev pub spanOf : Contract → ℕ
 spanOf k = 1440 * k .days
+
+-- in place of a window that is not there, and in an unused entry of a table: zeros; so for the two below
+abbrev pub noWindow : Window
+noWindow = record { start = record { 0 = 0 }; end = record { 0 = 0 }; verdict = 0 }
+
+-- no instruction
+abbrev pub noInstruction : Instruction
+noInstruction = record { issue = record { 0 = 0 }; cease = record { 0 = 0 } }
+
+-- no default
+abbrev pub noDefault : Default
+noDefault = record { minute = record { 0 = 0 }; kind = 0; reach = 0 }
 
 -- ---- the times of an instruction, and a window's minutes
 

@@ -8,7 +8,7 @@ use lib.ListN.{length}
 use Rattle.energy.specs.Lists.{any, last, isEmpty, isSome}
 use Rattle.commands.specs.Command.{onContract, onWindow, onInstruction, onDefault, onReading, always}
 use Rattle.commands.specs.Input.{Condition, _when_, inputConditions, lowest}
-use Rattle.rules.specs.Ledger.{Ledger, ledgerOf, contractOf, isContract, spanOf, expiry, endOf, within}
+use Rattle.rules.specs.Ledger.{Ledger, ledgerOf, contractOf, isContract, spanOf, expiry, endOf, within, noWindow}
 use Rattle.commands.specs.declared.contract.Contract.{Contract}
 use Rattle.commands.specs.declared.entries.Instruction.{Instruction}
 use Rattle.commands.specs.declared.entries.Command.{Command}
@@ -37,7 +37,7 @@ rejectedCommitted g c = onWindow (λ w. eqb (contractOf g .service) 0 && eqb (w 
 
 -- the last window's end; 0 where there is none, which no start is before
 abbrev pub windowsEnd : Ledger → ℕ
-windowsEnd g = last (record { start = record { 0 = 0 }; end = record { 0 = 0 }; verdict = 0 }) (g .windows) .end .0
+windowsEnd g = last noWindow (g .windows) .end .0
 
 -- 18: window starting before the last one's end
 abbrev pub windowOverlaps : Ledger → Command → Bool

@@ -23,7 +23,7 @@ use Rattle.rules.specs.declared.statement.Available.{Available}
 use Rattle.book.specs.Book.{noDefault, noWindow}
 use Rattle.live.specs.Live.{covers}
 use Rattle.availability.specs.Paid.{numberOf, windowOf, reachFrom, reachTo, loses, strikes, lostTo, struckTo, penaltyBy, paidBy, entryOf, entryBy, entriesTo, periodsTo}
-use Rattle.lines.proofs.Folds.{any-all, count-snoc, sum-snoc, count-filter, map-snoc, count-none, count-shift}
+use Rattle.rules.proofs.Folds.{any-all, count-snoc, sum-snoc, count-filter, map-snoc, count-none, count-shift}
 use Rattle.settlement.proofs.Lights.{covers-is}
 
 -- the tables are a ledger's: n windows, d defaults, and the number of the live window at each place

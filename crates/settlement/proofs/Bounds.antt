@@ -16,7 +16,7 @@ use Rattle.energy.proofs.Sums.{sum-within}
 use Rattle.rules.specs.declared.statement.Line.{Line}
 use Rattle.rules.specs.declared.statement.Rate.{Rate}
 use Rattle.rules.specs.declared.statement.Rate.the-variants.{Utilisation, Optional}
-use Rattle.lines.specs.declared.terms.Terms.{Terms}
+use Rattle.terms.specs.declared.Terms.{Terms}
 use Rattle.lines.specs.declared.cursor.Cursor.{Cursor}
 use Rattle.lines.specs.Cursor.{rateBy, priceBy, steadyAt, lineBy, cutBy, Plan, Ready}
 use Rattle.lines.proofs.Step.{next}

@@ -28,9 +28,9 @@ use Rattle.meter.specs.Meter.{missing, cell as reading}
 use Rattle.book.specs.Book.{noWindow, noInstruction, noDefault, ledgerIn}
 use Rattle.book.specs.Sound.{Shaped}
 use Rattle.book.specs.declared.Book.{Book}
-use Rattle.lines.specs.declared.terms.Terms.{Terms}
-use Rattle.lines.specs.Terms.{termsOf, issueOf, ceaseOf, Timed}
-use Rattle.lines.specs.Survey.{LaidAt, Laid, has, surveyOf, surveyTo}
+use Rattle.terms.specs.declared.Terms.{Terms}
+use Rattle.terms.specs.Terms.{termsOf, issueOf, ceaseOf, Timed}
+use Rattle.survey.specs.Survey.{LaidAt, Laid, has, surveyOf, surveyTo}
 use Rattle.live.specs.Live.{Cleared, Windows, isLive, Lit}
 use Rattle.availability.specs.Paid.{numberOf, windowOf, Placed, Spans}
 use Rattle.lines.specs.Cursor.{Planned}

@@ -18,10 +18,10 @@ use Rattle.commands.specs.declared.contract.Contract.{Contract}
 use Rattle.commands.specs.declared.entries.Instruction.{Instruction}
 use Rattle.commands.specs.declared.entries.Window.{Window}
 use Rattle.book.specs.Book.{noInstruction, noWindow}
-use Rattle.lines.specs.Terms.{ceaseOf}
+use Rattle.terms.specs.Terms.{ceaseOf}
 use Rattle.live.specs.Live.{excludesAt, excludedTo, isLive, covers, numberTo, Lit}
 use Rattle.lines.specs.Cursor.{lit}
-use Rattle.lines.proofs.Folds.{any-all, any-and}
+use Rattle.rules.proofs.Folds.{any-all, any-and}
 use Rattle.settlement.proofs.Tied.{instructionAt}
 
 -- ---- the number at a place

@@ -19,7 +19,7 @@ use Rattle.book.specs.Book.{ledgerIn}
 use Rattle.book.specs.Sound.{sound}
 use Rattle.book.specs.declared.Book.{Book}
 use Rattle.lines.specs.declared.cursor.Cursor.{Cursor}
-use Rattle.lines.specs.Terms.{noTerms}
+use Rattle.terms.specs.Terms.{noTerms}
 use Rattle.lines.specs.Cursor.{startOf, enterOf}
 use Rattle.settlement.specs.Settle.{noStatement, settledBy, settleBook}
 use Rattle.settlement.specs.Prepared.{summed, refusalOf, lastCursor, settledWith, Prepares}

@@ -24,12 +24,12 @@ use Rattle.commands.specs.declared.entries.Instruction.{Instruction}
 use Rattle.rules.specs.declared.statement.Line.{Line}
 use Rattle.rules.proofs.Cuts.{cut, cutsFrom, segmentAt, segments-cuts, Timed}
 use Rattle.book.specs.Book.{noInstruction}
-use Rattle.lines.specs.declared.terms.Terms.{Terms}
+use Rattle.terms.specs.declared.Terms.{Terms}
 use Rattle.lines.specs.declared.cursor.Cursor.{Cursor}
-use Rattle.lines.specs.Terms.{issueOf}
+use Rattle.terms.specs.Terms.{issueOf}
 use Rattle.lines.specs.Cursor.{callOf, lineBy, startOf, cursorAt, steppedLine, stored, enterOf, moved, cutBy, stepOf, either, Ready}
 use Rattle.lines.proofs.Step.{Next, next, stored-first}
-use Rattle.lines.proofs.Folds.{first-snoc}
+use Rattle.rules.proofs.Folds.{first-snoc}
 use Rattle.settlement.proofs.Bounds.{Bounded, bounded}
 use Rattle.settlement.proofs.Tied.{Tied, instructionAt, end-is, cut-is, line-tied}
 

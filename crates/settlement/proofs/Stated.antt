@@ -28,8 +28,8 @@ use Rattle.settlement.specs.declared.Settlement.{Settlement}
 use Rattle.lines.specs.declared.cursor.Cursor.{Cursor}
 use Rattle.availability.specs.declared.paid.Entries.{Entries}
 use Rattle.settlement.specs.declared.prepare.Prepared.{Prepared}
-use Rattle.lines.specs.declared.terms.Terms.{Terms}
-use Rattle.lines.specs.Terms.{termsOf}
+use Rattle.terms.specs.declared.Terms.{Terms}
+use Rattle.terms.specs.Terms.{termsOf}
 use Rattle.live.specs.Live.{isLive, Lit}
 use Rattle.availability.specs.Paid.{struckTo, penaltyBy, entriesBy, eachBy, availabilityBy}
 use Rattle.lines.specs.Cursor.{startOf, enterOf, stepOf, cursorAt, steppedLine, stored, either}

@@ -18,10 +18,10 @@ use Rattle.commands.specs.declared.entries.Instruction.{Instruction}
 use Rattle.rules.proofs.Cuts.{Timed}
 use Rattle.rules.proofs.Count.{touched, count-segments}
 use Rattle.book.specs.Book.{noInstruction}
-use Rattle.lines.specs.declared.terms.Terms.{Terms}
-use Rattle.lines.specs.Terms.{issueOf, ceaseOf}
-use Rattle.lines.specs.Survey.{Laid, has, surveyOf, surveyTo}
-use Rattle.lines.proofs.Folds.{concatMap-snoc}
+use Rattle.terms.specs.declared.Terms.{Terms}
+use Rattle.terms.specs.Terms.{issueOf, ceaseOf}
+use Rattle.survey.specs.Survey.{Laid, has, surveyOf, surveyTo}
+use Rattle.rules.proofs.Folds.{concatMap-snoc}
 use Rattle.settlement.proofs.Tied.{instructionAt}
 
 -- the table of instructions is a ledger's, and so are the cells

@@ -24,10 +24,10 @@ use Rattle.rules.specs.declared.statement.Rate.{Rate}
 use Rattle.rules.specs.declared.statement.Rate.the-variants.{Utilisation, Optional}
 use Rattle.rules.proofs.Cuts.{stageAt, split, cut, segmentAt, stage-flat}
 use Rattle.book.specs.Book.{noInstruction}
-use Rattle.lines.specs.declared.terms.Terms.{Terms}
+use Rattle.terms.specs.declared.Terms.{Terms}
 use Rattle.lines.specs.declared.cursor.Call.{Call}
 use Rattle.lines.specs.declared.cursor.Cursor.{Cursor}
-use Rattle.lines.specs.Terms.{issueOf, ceaseOf}
+use Rattle.terms.specs.Terms.{issueOf, ceaseOf}
 use Rattle.lines.specs.Cursor.{lit}
 use Rattle.lines.specs.Cursor.{callOf, rateBy, priceBy, steadyAt, lineBy, cutBy, Planned, Plan, Ready}
 use Rattle.lines.proofs.Step.{Next, next}

@@ -14,12 +14,12 @@ use Rattle.settlement.specs.declared.Settlement.{Settlement}
 use Rattle.lines.specs.declared.cursor.Cursor.{Cursor}
 use Rattle.availability.specs.declared.paid.Entries.{Entries}
 use Rattle.settlement.specs.declared.prepare.Prepared.{Prepared}
-use Rattle.lines.specs.declared.terms.Terms.{Terms}
+use Rattle.terms.specs.declared.Terms.{Terms}
 use Rattle.lines.specs.Cursor.{Plan, Ready, cursorAt, steppedLine, stored}
 use Rattle.live.specs.Live.{isLive, Lit}
 use Rattle.availability.specs.Paid.{availabilityBy}
 use Rattle.settlement.specs.Settle.{Settled, noStatement, settleBook}
-use Rattle.lines.specs.Terms.{noTerms}
+use Rattle.terms.specs.Terms.{noTerms}
 
 -- a statement of n lines with the windows' entries, without the lines' sums
 abbrev pub unsummed : ℕ → Entries → Statement

@@ -7,7 +7,7 @@ ghost use Rattle.energy.specs.Number.{Within};
 ghost use Rattle.rules.specs.Ledger.{spanOf};
 ghost use Rattle.book.specs.Sound.{sound};
 ghost use Rattle.settlement.specs.Prepared.{LaidOut, Prepares, refusalOf, summed, unsummed};
-ghost use Rattle.lines.specs.Terms.{Timed, termsOf};
+ghost use Rattle.terms.specs.Terms.{Timed, termsOf};
 use crate::Settlement;
 use availability::paid::Entries;
 use availability::paid::availability;
@@ -15,15 +15,15 @@ use book::Book;
 use energy::units::Kwh;
 use energy::units::Pence;
 use lines::cursor::Cursor;
-use lines::survey::survey_all;
-use lines::terms::Terms;
-use lines::terms::no_terms;
-use lines::terms::terms_of;
-use lines::terms::times_of;
 use live::show_live;
 use rules::answer::Answer;
 use rules::statement::Available;
 use rules::statement::Statement;
+use survey::survey_all;
+use terms::Terms;
+use terms::no_terms;
+use terms::terms_of;
+use terms::times_of;
 
 // What settling has before the first record is written: the answer without the lines' sums, the number of lines, and what they are calculated from.
 pub struct Prepared {

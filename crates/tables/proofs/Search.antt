@@ -12,12 +12,11 @@ use lib.ListN.{length, getD, take, List·getD-map}
 use lib.Seq.{getD-take, length-take-le}
 use Rattle.energy.specs.Lists.{any}
 use Rattle.energy.proofs.Tests.{T-and, and-T, to-T}
-use Rattle.rules.specs.Ledger.{within}
+use Rattle.rules.specs.Ledger.{within, noWindow}
 use Rattle.rules.specs.Reached.{windowsSound}
 use Rattle.commands.specs.declared.contract.Contract.{Contract}
 use Rattle.commands.specs.declared.entries.Window.{Window}
 use Rattle.rules.proofs.Tables.{WindowFits, windows-cons}
-use Rattle.tables.specs.Unused.{noWindow}
 use Rattle.tables.proofs.Tables.{same-test}
 use Rattle.tables.specs.Numbers.{Rising, Ordered, Held, Started}
 

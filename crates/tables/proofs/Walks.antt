@@ -9,7 +9,7 @@ use lib.Dec.{T, eqb, ltb}
 use lib.ListN.{length, getD, take}
 use lib.Seq.{slice}
 use Rattle.energy.specs.Lists.{last}
-use Rattle.rules.specs.Ledger.{spanOf, endOf}
+use Rattle.rules.specs.Ledger.{spanOf, endOf, noWindow, noInstruction}
 use Rattle.rules.specs.Refusal.{recovered}
 use Rattle.commands.specs.Input.{inRange, rampTooLong, badWindow, inputRefusal}
 use Rattle.rules.specs.Reached.{windowsSound, instructionsSound, defaultSound}
@@ -20,7 +20,6 @@ use Rattle.commands.specs.declared.entries.Default.{Default}
 use Rattle.commands.specs.declared.entries.Command.{Command}
 use Rattle.commands.specs.declared.entries.Command.the-variants.{Contract as contractᶜ, Window as windowᶜ, Instruction as instructionᶜ, Default as defaultᶜ}
 use Rattle.commands.proofs.Input.{input-none}
-use Rattle.tables.specs.Unused.{noWindow, noInstruction}
 use Rattle.tables.specs.Numbers.{Held}
 use Rattle.tables.proofs.Tables.{slice-turn}
 use Rattle.tables.proofs.Search.{startOf, endsAt, in-table}

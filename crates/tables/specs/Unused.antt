@@ -1,4 +1,4 @@
--- Zeros: the unused entries of the tables, no contract, and the tests for them.
+-- The tests for zeros: unused entries of the tables, and no contract.
 use mathlib.Core.Bool.{Bool, false, _&&_}
 use mathlib.Core.List.{List, [], _∷_}
 use lib.IntN.{ℤ, pos, negsuc}
@@ -7,20 +7,6 @@ use Rattle.commands.specs.declared.contract.Contract.{Contract}
 use Rattle.commands.specs.declared.entries.Window.{Window}
 use Rattle.commands.specs.declared.entries.Instruction.{Instruction}
 use Rattle.commands.specs.declared.entries.Default.{Default}
-
--- an unused entry of the table of windows
-abbrev pub noWindow : Window
-noWindow = record { start = record { 0 = 0 }; end = record { 0 = 0 }; verdict = 0 }
-
--- an unused entry of the table of instructions
-abbrev pub noInstruction : Instruction
-noInstruction = record { issue = record { 0 = 0 }; cease = record { 0 = 0 } }
-
--- an unused entry of the table of defaults
-abbrev pub noDefault : Default
-noDefault = record { minute = record { 0 = 0 }; kind = 0; reach = 0 }
-
--- ---- the tests
 
 -- an unused entry of windows
 abbrev pub isNoWindow : Window → Bool

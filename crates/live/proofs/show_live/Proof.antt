@@ -4,7 +4,7 @@ use Prim.Native.Nat.{_+_, _-_, _≤_, _<_}
 use native.Mathlib.Omega.{arith}
 use lib.ListN.{length, getD}
 use borrow.Author.Needs.{needs}
-use Rattle.tables.specs.Unused.{noWindow}
+use Rattle.rules.specs.Ledger.{noWindow}
 use Rattle.live.specs.Live.{isLive, Lit, Showed}
 use Rattle.live.proofs.Marks.{lit-none, lit-next}
 use Rattle.live.proofs.show_live.Statement.{statement}

@@ -12,7 +12,7 @@ use mir.Facts.{toZ-ofZ}
 use Rattle.energy.specs.Energy.{periodParts, penceOfParts}
 use Rattle.energy.specs.Number.{up}
 use Rattle.energy.proofs.Integers.{fits-parts, abs-parts, nonNeg-parts}
-use Rattle.tables.specs.Unused.{noDefault}
+use Rattle.rules.specs.Ledger.{noDefault}
 use Rattle.live.specs.Live.{Dark}
 use Rattle.availability.specs.Paid.{Placed, marked, lostTo, struckTo, penaltyBy, entriesBy, eachBy, availabilityBy}
 use Rattle.availability.proofs.Struck.{dark-zeros, lost-table, struck-table}

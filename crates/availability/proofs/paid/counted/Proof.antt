@@ -8,7 +8,7 @@ use lib.ListN.{getD}
 use borrow.Author.Needs.{needs}
 use borrow.Author.Tests.{eq-eqb, ne-eqb}
 use Rattle.availability.specs.Paid.{marked, paidIn}
-use Rattle.lines.proofs.Folds.{count-none, count-step}
+use Rattle.rules.proofs.Folds.{count-none, count-step}
 use Rattle.availability.proofs.paid.counted.Statement.{statement}
 use Rattle.availability.proofs.paid.counted.Tie as tie
 

@@ -14,7 +14,7 @@ use mir.Syntax.{w64}
 use mir.ValLaws.{toZ-pos}
 use Rattle.commands.specs.declared.entries.Window.{Window}
 use Rattle.rules.specs.declared.statement.Available.{Available}
-use Rattle.tables.specs.Unused.{noWindow}
+use Rattle.rules.specs.Ledger.{noWindow}
 use Rattle.availability.specs.Paid.{marked, paidIn, paidBy, entryOf, entriesTo, periodsTo, entriesBy}
 use Rattle.availability.proofs.paid.entries_of.Statement.{statement}
 use Rattle.availability.proofs.paid.entries_of.Tie as tie

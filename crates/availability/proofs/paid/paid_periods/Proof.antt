@@ -7,7 +7,7 @@ use lib.ListN.{getD}
 use borrow.Author.Needs.{needs}
 use borrow.Author.Tests.{ne-eqb, not-true, not-false}
 use Rattle.availability.specs.Paid.{marked}
-use Rattle.lines.proofs.Folds.{count-all}
+use Rattle.rules.proofs.Folds.{count-all}
 use Rattle.availability.proofs.paid.paid_periods.Statement.{statement}
 use Rattle.availability.proofs.paid.paid_periods.Tie as tie
 

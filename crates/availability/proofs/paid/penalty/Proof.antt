@@ -9,7 +9,7 @@ use borrow.Author.Needs.{needs}
 use borrow.Author.Tests.{eq-eqb, ne-eqb}
 use Rattle.energy.specs.Lists.{count as countOf, between}
 use Rattle.availability.specs.Paid.{marked}
-use Rattle.lines.proofs.Folds.{count-none, count-step}
+use Rattle.rules.proofs.Folds.{count-none, count-step}
 use Rattle.availability.proofs.paid.penalty.Statement.{statement}
 use Rattle.availability.proofs.paid.penalty.Tie as tie
 

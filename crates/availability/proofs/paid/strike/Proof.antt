@@ -4,7 +4,7 @@ use Prim.Native.Nat.{_-_, _<_}
 use native.Mathlib.Omega.{arith}
 use lib.ListN.{getD, set}
 use borrow.Author.Needs.{needs}
-use Rattle.tables.specs.Unused.{noWindow}
+use Rattle.rules.specs.Ledger.{noWindow}
 use Rattle.commands.specs.declared.entries.Window.{Window}
 use Rattle.live.specs.Live.{Marked}
 use Rattle.availability.specs.Paid.{numberOf, windowOf, reachFrom, reachTo, Marks}

@@ -4,7 +4,7 @@ use Prim.Native.Nat.{_-_, _≤_}
 use native.Mathlib.Omega.{arith}
 use lib.ListN.{length, getD}
 use borrow.Author.Needs.{needs}
-use Rattle.tables.specs.Unused.{noDefault}
+use Rattle.rules.specs.Ledger.{noDefault}
 use Rattle.availability.specs.Paid.{Placed, Struck}
 use Rattle.availability.proofs.Struck.{struck-none, struck-next}
 use Rattle.availability.proofs.paid.strike_all.Statement.{statement}

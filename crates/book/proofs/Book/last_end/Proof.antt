@@ -3,7 +3,7 @@ use mathlib.Core.Path.{_≡_, sym, ap}
 use native.Mathlib.Omega.{arith}
 use lib.ListN.{length}
 use Rattle.energy.specs.Lists.{last}
-use Rattle.tables.specs.Unused.{noWindow}
+use Rattle.rules.specs.Ledger.{noWindow}
 use Rattle.tables.proofs.Tables.{length-mapped, last-used}
 use Rattle.tables.proofs.Search.{endsAt}
 use Rattle.book.proofs.Book.last_end.Statement.{statement}

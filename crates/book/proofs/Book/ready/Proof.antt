@@ -4,9 +4,8 @@ use mathlib.Core.Path.{_≡_, sym, ap, _∙_}
 use native.Mathlib.Omega.{arith}
 use lib.ListN.{length, take}
 use lib.Seq.{length-take-le}
-use Rattle.rules.specs.Ledger.{endOf}
+use Rattle.rules.specs.Ledger.{endOf, noInstruction}
 use Rattle.commands.specs.declared.entries.Instruction.{Instruction}
-use Rattle.tables.specs.Unused.{noInstruction}
 use Rattle.tables.proofs.Tables.{length-mapped, last-used}
 use Rattle.tables.proofs.Walks.{recovered-last}
 use Rattle.book.proofs.Book.ready.Statement.{statement}

@@ -52,14 +52,14 @@ use denote.Exit.{yes}
 use Rattle.lines.specs.Cursor.{Plan, Ready, stepOf, cursorAt, steppedLine, stored}
 use Rattle.lines.proofs.Step.{length-stored}
 use Rattle.rules.specs.declared.statement.Line.{Line}
-use Rattle.lines.specs.declared.terms.Terms.{Terms}
+use Rattle.terms.specs.declared.Terms.{Terms}
 use Rattle.lines.specs.declared.cursor.Cursor.{Cursor}
 use Rattle.lines.specs.declared.cursor.Stepped.{Stepped}
 use Rattle.records.proofs.Walk.{test}
 use Rattle.rules.proofs.statement.Line as T
 use Rattle.rules.proofs.statement.Line.Laws as T′
-use Rattle.lines.proofs.terms.Terms as B
-use Rattle.lines.proofs.terms.Terms.Laws as B′
+use Rattle.terms.proofs.Terms as B
+use Rattle.terms.proofs.Terms.Laws as B′
 use Rattle.lines.proofs.cursor.Cursor as K
 use Rattle.lines.proofs.cursor.Cursor.Laws as K′
 use Rattle.lines.proofs.cursor.Stepped as S

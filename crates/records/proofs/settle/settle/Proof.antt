@@ -62,8 +62,8 @@ use Rattle.settlement.proofs.Settlement as O
 use Rattle.settlement.proofs.Settlement.Laws as O′
 use Rattle.lines.proofs.cursor.Cursor as K
 use Rattle.lines.proofs.cursor.Cursor.Laws as K′
-use Rattle.lines.proofs.terms.Terms as E
-use Rattle.lines.proofs.terms.Terms.Laws as E′
+use Rattle.terms.proofs.Terms as E
+use Rattle.terms.proofs.Terms.Laws as E′
 use Rattle.settlement.proofs.prepare.Prepared as N
 use Rattle.settlement.proofs.prepare.Prepared.Laws as N′
 use Rattle.settlement.proofs.prepare.prepare as prepare

@@ -13,13 +13,13 @@ use Rattle.rules.specs.Segment.{complete, segments}
 use Rattle.book.specs.Book.{ledgerIn}
 use Rattle.book.specs.Sound.{Shaped}
 use Rattle.book.specs.declared.Book.{Book}
-use Rattle.lines.specs.declared.survey.Survey.{Survey}
+use Rattle.survey.specs.declared.Survey.{Survey}
 use Rattle.settlement.specs.declared.prepare.Prepared.{Prepared}
-use Rattle.lines.specs.declared.terms.Terms.{Terms}
-use Rattle.lines.specs.Terms.{Timed, termsOf}
-use Rattle.lines.specs.Survey.{Laid, surveyTo}
+use Rattle.terms.specs.declared.Terms.{Terms}
+use Rattle.terms.specs.Terms.{Timed, termsOf}
+use Rattle.survey.specs.Survey.{Laid, surveyTo}
 use Rattle.settlement.specs.Prepared.{Prepares, refusalOf, LaidOut}
-use Rattle.lines.proofs.Folds.{length-mapped}
+use Rattle.rules.proofs.Folds.{length-mapped}
 use Rattle.book.proofs.SoundBook.{SoundBook, sound-book, closed-agreed}
 use Rattle.settlement.proofs.Surveyed.{Surveyed, survey-complete, survey-count}
 use Rattle.settlement.proofs.Ground.{Grounds, surveyed}

@@ -13,11 +13,11 @@ use Rattle.commands.specs.declared.contract.Contract.{Contract}
 use Rattle.rules.specs.declared.statement.Statement.{Statement}
 use Rattle.rules.specs.declared.answer.Answer.the-variants.{Taken}
 use Rattle.book.specs.Sound.{Shaped}
-use Rattle.lines.specs.declared.terms.Terms.{Terms}
-use Rattle.lines.specs.Terms.{termsOf}
+use Rattle.terms.specs.declared.Terms.{Terms}
+use Rattle.terms.specs.Terms.{termsOf}
 use Rattle.live.specs.Live.{isLive, Lit}
 use Rattle.settlement.specs.Prepared.{unsummed}
-use Rattle.lines.proofs.Folds.{length-mapped}
+use Rattle.rules.proofs.Folds.{length-mapped}
 use Rattle.book.proofs.SoundBook.{sound-book}
 use Rattle.availability.proofs.Struck.{dark-zeros}
 use Rattle.settlement.proofs.Ground.{Grounds, cleared, windows-fit, spans, placed}

@@ -5,7 +5,7 @@ use lib.ListN.{length, take, length-set}
 use native.Mathlib.Omega.{arith}
 use borrow.Author.Needs.{needs}
 use Rattle.commands.specs.declared.entries.Window.{Window}
-use Rattle.tables.specs.Unused.{noWindow}
+use Rattle.rules.specs.Ledger.{noWindow}
 use Rattle.tables.proofs.Tables.{length-mapped, column-turn, column-whole}
 use Rattle.tables.proofs.columns.ends_of.Statement.{statement}
 use Rattle.tables.proofs.columns.ends_of.Tie as tie

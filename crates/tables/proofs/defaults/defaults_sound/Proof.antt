@@ -13,7 +13,7 @@ use Rattle.energy.proofs.Tests.{to-T}
 use Rattle.rules.specs.Reached.{defaultSound}
 use Rattle.commands.specs.declared.contract.Contract.{Contract}
 use Rattle.commands.specs.declared.entries.Window.{Window}
-use Rattle.tables.specs.Unused.{noDefault}
+use Rattle.rules.specs.Ledger.{noDefault}
 use Rattle.tables.proofs.Tables.{length-mapped, all-fails, all-on, all-passes}
 use Rattle.tables.proofs.Search.{ordered}
 use Rattle.tables.proofs.Walks.{Columns, default-fits}

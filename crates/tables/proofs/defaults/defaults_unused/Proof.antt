@@ -4,7 +4,8 @@ use borrow.Author.Needs.{needs}
 use borrow.Author.Tests.{not-true, not-false}
 use lib.ListN.{length, drop}
 use Rattle.energy.specs.Lists.{all}
-use Rattle.tables.specs.Unused.{noDefault, isNoDefault}
+use Rattle.rules.specs.Ledger.{noDefault}
+use Rattle.tables.specs.Unused.{isNoDefault}
 use Rattle.tables.proofs.Tables.{length-mapped, all-fails, all-on, all-passes}
 use Rattle.tables.proofs.defaults.defaults_unused.Statement.{statement}
 use Rattle.tables.proofs.defaults.defaults_unused.Tie as tie

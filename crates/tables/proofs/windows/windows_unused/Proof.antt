@@ -4,7 +4,8 @@ use borrow.Author.Needs.{needs}
 use borrow.Author.Tests.{not-true, not-false}
 use lib.ListN.{length, drop}
 use Rattle.energy.specs.Lists.{all}
-use Rattle.tables.specs.Unused.{noWindow, isNoWindow}
+use Rattle.rules.specs.Ledger.{noWindow}
+use Rattle.tables.specs.Unused.{isNoWindow}
 use Rattle.tables.proofs.Tables.{length-mapped, all-fails, all-on, all-passes}
 use Rattle.tables.proofs.windows.windows_unused.Statement.{statement}
 use Rattle.tables.proofs.windows.windows_unused.Tie as tie

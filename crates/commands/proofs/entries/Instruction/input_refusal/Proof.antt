@@ -1,6 +1,8 @@
 -- `commands::entries::Instruction::input_refusal` meets its contract.
+use mathlib.Core.Path.{refl}
+use mathlib.Core.Bool.{_&&_}
 use borrow.Author.Needs.{needs}
-use Rattle.commands.proofs.Input.{input-cond}
+use Rattle.commands.proofs.Input.{input-picked}
 use Rattle.commands.proofs.entries.Instruction.input_refusal.Statement.{statement}
 use Rattle.commands.proofs.entries.Instruction.input_refusal.Tie as tie
 
@@ -14,7 +16,7 @@ pick-requires : tie.Need-pick-requires
 pick-requires c κs = search needs
 
 returns : tie.Need-returns
-returns c = rw input-cond (cc)
+returns c = input-picked _ (c .pick .ensures) (λ i. c .before .before .minutes-from-to .ensures i && c .before .minutes-from-to2 .ensures i) refl
 
 pub input-refusal-spec : {M : Type 1} → statement M
 input-refusal-spec =
