@@ -11,7 +11,7 @@ use lib.Dec.{ltb}
 use lib.ListN.{length}
 use Rattle.energy.specs.Lists.{isEmpty}
 use Rattle.rules.specs.Ledger.{Ledger, ledgerOf, contractOf, spanOf}
-use Rattle.rules.specs.Refusal.{refusal, spanFor}
+use Rattle.rules.specs.Refusal.{refusal}
 use Rattle.rules.specs.Reached.{Reached}
 use Rattle.rules.specs.File.{written}
 use Rattle.commands.specs.declared.entries.Command.{Command}

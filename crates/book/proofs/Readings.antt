@@ -1,21 +1,20 @@
 -- A reading that is taken by its book's open span: what is known of it, and that entering it does the same.
-use mathlib.Core.Path.{_≡_, refl, sym, ap, _∙_}
+use mathlib.Core.Path.{_≡_, refl, sym, _∙_}
 use mathlib.Core.Bool.{Bool, true, false, not, _&&_, cond, false≢true}
 use mathlib.Core.List.{List}
 use Prim.Native.Nat.{ℕ, _≤_, _<_}
 use native.Mathlib.Omega.{arith}
 use lib.IntN.{ℤ}
-use lib.Dec.{T, eqb, leb, ltb}
-use lib.ListN.{length, getD}
-use borrow.Author.Tests.{ltb-true, leb-true, lt-ltb, le-ltb, lt-leb, not-true}
-use Rattle.energy.proofs.Tests.{to-T, on-and}
+use lib.Dec.{eqb, leb, ltb}
+use lib.ListN.{length}
+use borrow.Author.Tests.{leb-true, lt-ltb, le-ltb, lt-leb}
 use Rattle.rules.specs.Ledger.{spanOf}
-use Rattle.commands.specs.Input.{from-to, isReading, inRange, rampTooLong, badWindow, inputRefusal}
+use Rattle.commands.specs.Input.{inputRefusal}
 use Rattle.rules.specs.declared.answer.Answer.the-variants.{Taken}
 use Rattle.commands.specs.declared.entries.Reading.{Reading}
 use Rattle.commands.specs.declared.entries.Command.{Command}
 use Rattle.commands.specs.declared.entries.Command.the-variants.{Contract as contractᶜ, Window as windowᶜ, Instruction as instructionᶜ, Default as defaultᶜ, Reading as readingᶜ, Close as closeᶜ}
-use Rattle.meter.specs.Meter.{missing, putMeter, takesReading}
+use Rattle.meter.specs.Meter.{putMeter, takesReading}
 use Rattle.book.specs.Enter.{Entered, enterBook}
 use Rattle.tables.specs.Numbers.{firstNumber}
 use Rattle.book.specs.Numbers.{refusalOf}

@@ -4,7 +4,6 @@ ghost use lib.ListN.{length};
 use book::Book;
 use libc::STDIN_FILENO;
 use rules::answer::Answer;
-use stor::file::Loaded;
 use stor::file::load;
 
 // How a file's entering ended, and the offset of the byte where it did.

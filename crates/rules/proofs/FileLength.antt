@@ -1,22 +1,21 @@
 -- What a command that is taken costs in bytes it takes off the room that the ledger has left: for a contract, in its tables, in its minutes, and for a close.
 use mathlib.Core.Path.{_≡_, refl, sym, ap, _∙_, subst, subst⁻¹}
-use mathlib.Core.Bool.{Bool, true, false, not, _&&_, _||_, or-false, false≢true}
+use mathlib.Core.Bool.{Bool, true, false, not, _&&_, or-false, false≢true}
 use mathlib.Core.List.{List, [], _∷_, _++_, append-nil}
 use mathlib.Core.Option.{Option, none, some}
 use Prim.Native.Nat.{ℕ, zero, suc, _+_, _-_, _*_, _≤_, _<_}
 use native.Mathlib.Nat.{le-refl}
-use native.Mathlib.Decide.{ℕ-discrete}
 use native.Mathlib.Omega.{arith}
-use borrow.Author.Tests.{eq-eqb, leb-false, ltb-false}
+use borrow.Author.Tests.{eq-eqb, leb-false}
 use lib.Dec.{T, eqb, leb, leb→le}
 use lib.IntN.{ℤ}
 use lib.ListN.{length, length-append}
 use Rattle.energy.specs.Lists.{concatMap, count, first, isEmpty, isSome, later, run, between, any}
-use Rattle.energy.proofs.Tests.{of-T, to-T}
+use Rattle.energy.proofs.Tests.{to-T}
 use Rattle.rules.specs.Ledger.{Ledger, ledgerOf, noContract, contractOf, spanOf, readingIn, readingOf}
 use Rattle.rules.specs.Refusal.{refusal, joined, takenAfter, taken}
 use Rattle.rules.specs.File.{total, table, widthsOf, widthsFor, write}
-use Rattle.rules.specs.Reached.{Reached, untouched, agreed, Untouched, Agreed}
+use Rattle.rules.specs.Reached.{Reached, untouched, agreed}
 use Rattle.rules.specs.FileLength.{FileLength·theorem}
 use Rattle.commands.specs.declared.entries.Reading.{Reading}
 use Rattle.commands.specs.declared.entries.Command.{Command}

@@ -1,32 +1,26 @@
 -- Appendix 2 by demand 3: its bytes are its commands, its commands are all taken, and the statement of the rules pays 416,400 pence.
 use mathlib.Core.Path.{_≡_, refl, sym, ap, _∙_, subst}
 use mathlib.Core.Bool.{false}
-use mathlib.Core.List.{List, [], _∷_, _++_}
+use mathlib.Core.List.{List, []}
 use mathlib.Core.Option.{some}
-use Prim.Native.Nat.{ℕ, _≤_}
-use lib.IntN.{ℤ, pos}
+use Prim.Native.Nat.{_≤_}
 use lib.Dec.{T}
 use lib.ListN.{length, replicate, length-replicate, getElem?}
 use Rattle.energy.specs.Lists.{all}
 use Rattle.energy.proofs.Tests.{off-not}
-use Rattle.commands.specs.Input.{Condition}
 use Rattle.rules.specs.Ledger.{Ledger, ledgerOf}
 use Rattle.rules.specs.Refusal.{taken}
 use Rattle.rules.specs.Segment.{complete}
-use Rattle.rules.specs.Statement.{lines, statementOf, settleConditions, settleRefusal}
-use Rattle.rules.specs.File.{commandsIn}
+use Rattle.rules.specs.Statement.{lines, settleConditions, settleRefusal}
 use Rattle.rules.specs.Reread.{sayable, fit}
 use Rattle.rules.specs.Examples.{appendix2, ledger}
-use Rattle.commands.specs.declared.entries.Command.{Command}
-use Rattle.rules.specs.declared.statement.Line.{Line}
 use Rattle.rules.proofs.Taken.{Clear, clear}
 use Rattle.rules.proofs.Opened.{opened}
 use Rattle.rules.proofs.Figures.{figures}
 use Rattle.rules.proofs.Reread.{reread}
-use Rattle.settlement.specs.Settle.{Settled}
-use Rattle.stor.specs.Steps.{Step, read, settle, settled, start, outcomes, entries}
+use Rattle.stor.specs.Steps.{Step, read, settled, start, outcomes, entries}
 use Rattle.stor.specs.Demand3.{SettlementRight, Demand3·theorem}
-use Rattle.stor.specs.Appendix2.{bytes, steps, Paid, Appendix2·theorem}
+use Rattle.stor.specs.Appendix2.{bytes, steps, Appendix2·theorem}
 use Rattle.stor.proofs.Demand3.{demand3, complete-given}
 
 -- its bytes are its commands

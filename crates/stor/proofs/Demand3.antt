@@ -1,43 +1,36 @@
 -- Demand 3: along a list the book follows the commands taken, and a settlement's statement is right.
-use mathlib.Core.Path.{_≡_, refl, sym, ap, ap₂, _∙_, subst, subst⁻¹}
+use mathlib.Core.Path.{_≡_, refl, sym, ap, _∙_, subst, subst⁻¹}
 use mathlib.Core.Logic.{_↔_, ⊎-elim}
-use mathlib.Core.Bool.{Bool, true, false, cond, not, _&&_, true≢false}
+use mathlib.Core.Bool.{Bool, true, false, not, _&&_, true≢false}
 use mathlib.Core.List.{List, [], _∷_, _++_, map, List·Memᴰ, List·Memᴰ·head, List·Memᴰ·tail, List·Memᴰ·not-nil, List·Memᴰ·cases-cons}
 use mathlib.Core.Option.{Option, none, some, Option·none-ne-some}
-use Prim.Native.Nat.{ℕ, zero, suc, _+_, _-_, _*_, _≤_, _<_}
-use lib.IntN.{ℤ, pos, natAbs, _-ℤ_, _*ℤ_}
-use lib.Dec.{T, leb, ltb, leb·suc-zero, nltb→le}
-use native.Mathlib.Nat.{not-suc-le-zero}
+use Prim.Native.Nat.{ℕ, zero, suc, _+_, _-_, _≤_}
+use lib.IntN.{ℤ}
+use lib.Dec.{T, ltb, nltb→le}
 use native.Mathlib.Omega.{arith}
 use lib.Arith.{le→nltb}
-use lib.ListN.{length, take, drop, getD, getElem?, length-map, replicate}
+use lib.ListN.{length, take, drop, getElem?, length-map, replicate}
 use lib.Seq.{take-append-seam, drop-append-seam}
-use Rattle.energy.specs.Lists.{all, any, pass, sum, concatMap, first, isSome}
+use Rattle.energy.specs.Lists.{all, isSome}
 use Rattle.commands.specs.Input.{Condition, lowest}
-use Rattle.rules.specs.Ledger.{Ledger, ledgerOf, contractOf, spanOf, readingOf}
+use Rattle.rules.specs.Ledger.{Ledger, ledgerOf, contractOf, spanOf}
 use Rattle.rules.specs.Refusal.{refusal, taken, takenAfter, joined}
 use Rattle.rules.specs.Segment.{needed, complete, segments}
 use Rattle.rules.specs.Statement.{lines, lineOf, statementOf, settleRefusal, settleConditions}
 use Rattle.rules.specs.File.{readAt, readOn, commandsFrom, commandsIn}
-use Rattle.meter.specs.Meter.{putMeter, cell, missing}
-use Rattle.book.specs.Book.{ledgerIn, emptyBook, putBook}
-use Rattle.book.specs.Enter.{enterBook, Entered, enteredBy}
-use Rattle.settlement.specs.Settle.{settleBook, Settled, settledBy}
-use Rattle.book.specs.Sound.{sound, noContractTests, emptyTests, tableTests}
-use Rattle.rules.specs.Reached.{agreedTests, windowsSound, instructionsSound}
-use Rattle.stor.specs.Steps.{Step, enter, read, settle, State, Outcome, settled, after, says, outcomes, start, afterAll, entries, readsOn, reading, entering, readingSays, onwards, position, entered}
-use Rattle.stor.specs.Demand3.{Needed, Given, SettlementRight, StatementRight, Demand3, Demand3·theorem, readAnswer}
-use Rattle.rules.specs.Statement.{exactEnergy}
-use Rattle.rules.specs.Refusal.{answerOf}
+use Rattle.book.specs.Book.{ledgerIn}
+use Rattle.book.specs.Enter.{enterBook, enteredBy}
+use Rattle.settlement.specs.Settle.{settleBook, settledBy}
+use Rattle.book.specs.Sound.{sound}
+use Rattle.stor.specs.Steps.{Step, enter, read, settle, State, after, says, outcomes, start, afterAll, entries, readsOn, reading, entering, readingSays, onwards, position, entered}
+use Rattle.stor.specs.Demand3.{Needed, Given, SettlementRight, StatementRight, Demand3·theorem, readAnswer}
 use Rattle.commands.specs.declared.entries.Command.{Command}
 use Rattle.book.specs.declared.Book.{Book}
 use Rattle.rules.specs.declared.file.Read.{Read}
 use Rattle.rules.specs.declared.file.Read.the-variants.{Got, End}
 use Rattle.rules.specs.declared.file.Read.the-variants.{Refused as refusedʳ}
 use Rattle.rules.specs.declared.statement.Line.{Line}
-use Rattle.rules.specs.declared.answer.Answer.{Answer}
 use Rattle.rules.specs.declared.answer.Answer.the-variants.{Taken, Refused}
-use Rattle.settlement.specs.declared.Settlement.{Settlement}
 use Rattle.rules.proofs.Taken.{Clear, clear}
 use Rattle.rules.proofs.FileLength.{span-fits}
 use Rattle.book.proofs.Follow.{Follows, follow, answers, starts}

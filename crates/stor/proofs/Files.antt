@@ -1,9 +1,9 @@
 -- The call over a whole file: every command before the first refusal is taken, and what it settles is right.
 use mathlib.Core.Path.{_≡_, refl, sym, ap, _∙_, subst, subst⁻¹}
-use mathlib.Core.Bool.{Bool, true, false, not}
+use mathlib.Core.Bool.{false}
 use mathlib.Core.List.{List, [], _∷_, _++_, append-assoc, append-nil}
 use mathlib.Core.Option.{Option, none, some}
-use Prim.Native.Nat.{ℕ, zero, suc, _+_, _≤_, _<_}
+use Prim.Native.Nat.{ℕ, zero, suc, _+_, _≤_}
 use native.Mathlib.Omega.{arith}
 use lib.IntN.{ℤ}
 use lib.ListN.{length, replicate}
@@ -11,7 +11,6 @@ use Rattle.rules.specs.Ledger.{ledgerOf}
 use Rattle.rules.specs.Refusal.{refusal, taken, takenAfter, joined, answerOf}
 use Rattle.rules.specs.File.{readAt, readOn, commandsFrom, commandsIn}
 use Rattle.commands.specs.declared.entries.Command.{Command}
-use Rattle.rules.specs.declared.statement.Line.{Line}
 use Rattle.rules.specs.declared.answer.Answer.{Answer}
 use Rattle.rules.specs.declared.answer.Answer.the-variants.{Taken, Refused}
 use Rattle.rules.specs.declared.file.Read.{Read}
@@ -22,11 +21,10 @@ use Rattle.book.specs.Enter.{enterBook, Entered}
 use Rattle.book.specs.declared.Book.{Book}
 use Rattle.book.proofs.Follow.{Follows, follow, answers, starts}
 use Rattle.unitfile.proofs.Steps.{got-within}
-use Rattle.settlement.specs.Settle.{settleBook, Settled}
-use Rattle.stor.specs.Steps.{Step, read, entries, readsOn, position, onwards}
+use Rattle.settlement.specs.Settle.{settleBook}
+use Rattle.stor.specs.Steps.{read, entries, readsOn, position, onwards}
 use Rattle.stor.specs.Demand3.{SettlementRight}
-use Rattle.stor.specs.Files.{LoadedFile, carriesOn, loadsOn, loadFrom, load, settlesFile, settleFile, readRefusal, FileRight, File·theorem}
-use Rattle.stor.specs.declared.file.Loaded.{Loaded}
+use Rattle.stor.specs.Files.{LoadedFile, carriesOn, loadsOn, loadFrom, load, settlesFile, settleFile, readRefusal, File·theorem}
 use Rattle.stor.proofs.Demand3.{settlement-right}
 use Rattle.stor.proofs.Pieces.{past-end}
 

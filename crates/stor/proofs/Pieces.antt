@@ -28,8 +28,7 @@ use Rattle.book.specs.Enter.{enterBook, enteredBy, Entered}
 use Rattle.book.specs.declared.Book.{Book}
 use Rattle.unitfile.proofs.Steps.{got-within, refused-number}
 use Rattle.unitfile.proofs.Pieces.{piece-got, piece-unknown, shift, read-drop}
-use Rattle.stor.specs.Files.{LoadedFile, endedAt, carriesOn, loadsOn, loadFrom, load, unfinished, later, Pieces, Pieces·theorem}
-use Rattle.stor.specs.declared.file.Loaded.{Loaded}
+use Rattle.stor.specs.Files.{LoadedFile, carriesOn, loadsOn, loadFrom, load, unfinished, later, Pieces, Pieces·theorem}
 
 -- ---- enough turns
 

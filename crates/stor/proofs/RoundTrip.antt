@@ -2,7 +2,7 @@
 -- they are all taken, and they leave its ledger.
 use mathlib.Core.Path.{_≡_, refl, sym, ap, _∙_, subst, subst⁻¹}
 use mathlib.Core.Bool.{Bool, true, false, not}
-use mathlib.Core.List.{List, [], _∷_, _++_}
+use mathlib.Core.List.{List, [], _∷_}
 use mathlib.Core.Option.{Option, none, some}
 use Prim.Native.Nat.{ℕ, _≤_}
 use native.Mathlib.Omega.{arith}
@@ -13,7 +13,7 @@ use lib.ListN.{length, take, drop}
 use lib.Seq.{take-append-seam}
 use Rattle.energy.proofs.Tests.{of-T, off-not}
 use Rattle.commands.specs.Input.{lowest}
-use Rattle.rules.specs.Ledger.{Ledger, ledgerOf, contractOf, spanOf}
+use Rattle.rules.specs.Ledger.{Ledger, contractOf, spanOf}
 use Rattle.rules.specs.Refusal.{takenAfter, taken}
 use Rattle.rules.specs.File.{written, fileOf, commandsIn}
 use Rattle.rules.specs.Reached.{Reached}
@@ -24,12 +24,11 @@ use Rattle.rules.proofs.Rewritten.{rewritten, file-commands}
 use Rattle.rules.proofs.Taken.{Clear, clear}
 use Rattle.book.specs.Book.{emptyBook, ledgerIn}
 use Rattle.book.specs.Sound.{sound, Shaped}
-use Rattle.book.specs.Enter.{enterBook}
 use Rattle.book.specs.declared.Book.{Book}
 use Rattle.book.proofs.Follow.{Follows, follow, starts, contract-is}
 use Rattle.book.proofs.Determined.{empty-contract}
 use Rattle.book.proofs.Left.{book-reached, same-book}
-use Rattle.writer.specs.Write.{writeConditions, writtenBy, writeBook, WrittenBytes}
+use Rattle.writer.specs.Write.{writeConditions, writtenBy, writeBook}
 use Rattle.stor.specs.RoundTrip.{enterAll, bytesIn, SameAgain, RoundTrip·theorem}
 
 -- ---- what was written

@@ -1,7 +1,7 @@
 -- Whole unit files: each command read where the last one stopped and entered, up to the file's end or the first refusal; then settled.
 use mathlib.Core.Path.{_≡_}
 use mathlib.Core.Bool.{Bool, true, false}
-use mathlib.Core.List.{List, [], _∷_, _++_}
+use mathlib.Core.List.{List, _++_}
 use mathlib.Core.Option.{Option, none, some}
 use Prim.Native.Nat.{ℕ, zero, suc, _+_}
 use lib.IntN.{ℤ}
@@ -20,7 +20,7 @@ use Rattle.rules.specs.declared.file.Read.the-variants.{Refused as refusedʳ}
 use Rattle.book.specs.Book.{emptyBook}
 use Rattle.book.specs.Enter.{enterBook, Entered}
 use Rattle.book.specs.declared.Book.{Book}
-use Rattle.settlement.specs.Settle.{settleBook, noStatement, Settled}
+use Rattle.settlement.specs.Settle.{settleBook, noStatement}
 use Rattle.stor.specs.Steps.{read, entries, position}
 use Rattle.stor.specs.Demand3.{SettlementRight}
 use Rattle.stor.specs.declared.file.Loaded.{Loaded}

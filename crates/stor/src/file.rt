@@ -9,7 +9,6 @@ ghost use Rattle.stor.specs.Files.{load as loadOf};
 ghost use Rattle.stor.specs.Turn.{stopsAt, goesBy, turnAt, standAt};
 use book::Book;
 use book::Entry;
-use commands::entries::Command;
 use meter::take_reading;
 use rules::answer::Answer;
 use rules::file::Read;

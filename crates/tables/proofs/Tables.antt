@@ -7,7 +7,7 @@ use native.Mathlib.Numerals.{add-one, sub-one}
 use native.Mathlib.Omega.{arith}
 use lib.IntN.{ℤ, pos, negsuc}
 use lib.Dec.{T, eqb, leb}
-use lib.ListN.{length, length-map, getD, take, drop, set, replicate, drop-of-length-le}
+use lib.ListN.{length, length-map, getD, take, drop, set, drop-of-length-le}
 use lib.Seq.{drop-cons, slice, slice-cons, take-suc, take-suc-set, take-all, length-take-le}
 use borrow.Author.Tests.{ne-eqb, leb-false}
 use mir.Syntax.{w64}

@@ -2,7 +2,6 @@
 use mathlib.Core.Path.{_≡_}
 use borrow.Author.Needs.{needs}
 use Prim.Native.Nat.{_≤_, _-_}
-use native.Mathlib.Omega.{arith}
 use lib.ListN.{length}
 use Rattle.lister.proofs.input.keep.Statement.{statement}
 use Rattle.lister.proofs.input.keep.Tie as tie

@@ -1,7 +1,6 @@
 -- `lister::output::print_windows` is safe and ends.
 use borrow.Author.Needs.{needs}
 use Prim.Native.Nat.{_≤_, _-_}
-use native.Mathlib.Omega.{arith}
 use Rattle.lister.proofs.output.print_windows.Statement.{statement}
 use Rattle.lister.proofs.output.print_windows.Tie as tie
 

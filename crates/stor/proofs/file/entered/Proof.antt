@@ -1,5 +1,5 @@
 -- `stor::file::entered` meets its contract: the answer decides.
-use mathlib.Core.Path.{refl, sym}
+use mathlib.Core.Path.{refl}
 use borrow.Author.Needs.{needs}
 use Rattle.stor.proofs.file.entered.Statement.{statement}
 use Rattle.stor.proofs.file.entered.Tie as tie

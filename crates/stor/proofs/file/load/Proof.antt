@@ -1,7 +1,7 @@
 -- `stor::file::load` meets its contract. The loop's invariant: what is left of the file is what it was, the book is sound, and the span is its open
 -- one. The measure is what is left of the bytes, and one more while the loop goes on.
 use mathlib.Core.Path.{_≡_, refl, sym, ap, _∙_}
-use Prim.Native.Nat.{ℕ, _+_, _-_, _≤_, _<_}
+use Prim.Native.Nat.{_+_, _-_, _≤_}
 use native.Mathlib.Omega.{arith}
 use borrow.Author.Needs.{needs}
 use lib.ListN.{length}
