@@ -15,6 +15,7 @@ use Rattle.stor.specs.Files.{LoadedFile, load}
 use Rattle.host.specs.Answers.{numberOf, packed}
 use Rattle.sums.specs.Sums.{sumCount, sumsOf}
 use Rattle.given.specs.Tables.{bookOf, entire}
+use Rattle.writer.specs.Write.{WrittenBytes, writeBook}
 
 -- ---- a file entered
 
@@ -82,3 +83,18 @@ unfoldable pub settleFile : List ℕ → List ℤ → List ℤ → List ℤ → 
 settleFile file meter lines sums =
     cond (ltb (length sums) sumCount) (record { answer = packed 26 0; meter = meter; lines = lines; sums = sums })
     (let l : LoadedFile = load file emptyBook meter in settlesBy (l .loaded .answer) l lines sums)
+
+-- ---- a book written
+
+-- the answer, and file memory after it
+pub record WrittenFile : Type 0 where
+  pub answer : ℕ
+  pub file : List ℕ
+
+-- the book that tables say, written as a unit file: the offset is its length, 0 on a refusal. Tables with an entry cut short say no book: 11
+unfoldable pub writeTables : List ℕ → List ℕ → List ℕ → List ℕ → List ℤ → List ℕ → WrittenFile
+writeTables contract windows instructions defaults meter file =
+    cond (entire (length contract) (length windows) (length instructions) (length defaults))
+    (let w : WrittenBytes = writeBook (bookOf contract windows instructions defaults) meter file in
+    record { answer = packed (numberOf (w .written .answer)) (w .written .size); file = w .memory })
+    (record { answer = packed 11 0; file = file })

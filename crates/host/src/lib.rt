@@ -1,10 +1,10 @@
-// The package for hosts in C or Rust: whole unit files, and tables of numbers, entered and settled into numbers. Every call is total: it answers
-// for every length and every contents of what is lent.
+// The package for hosts in C or Rust: whole unit files, and tables of numbers, entered and settled into numbers, and tables written as a unit file.
+// Every call is total: it answers for every length and every contents of what is lent.
 mod answers;
 mod settling;
 
 ghost use mathlib.Core.Path.{_≡_};
-ghost use Rattle.host.specs.Calls.{enterFile, settleFile, settleTables};
+ghost use Rattle.host.specs.Calls.{enterFile, settleFile, settleTables, writeTables};
 use answers::number_of;
 use answers::pack;
 use given::book_of;
@@ -13,6 +13,7 @@ use rules::answer::Answer;
 use settling::settle_book;
 use stor::file::load_file;
 use sums::SUMS;
+use writer::write_book;
 
 // Enters a whole unit file. The answer is the refusal's number, or 0, and 256 times the offset of the refused command, or the file's length.
 #[no_mangle]
@@ -78,4 +79,32 @@ pub extern "C" fn stor_settle_tables(
     }
     let b = book_of(contract, windows, instructions, defaults);
     settle_book(b, meter, lines, sums)
+}
+
+// Writes the book that tables say as a unit file. The answer is the refusal's number, or 0, and 256 times the file's length, 0 on a refusal.
+#[no_mangle]
+pub extern "C" fn stor_write_tables(
+    contract: &[u32],
+    windows: &[u16],
+    instructions: &[u16],
+    defaults: &[u16],
+    meter: &[i32],
+    file: &mut [u8],
+) -> u64
+    ensures { λ r. ⌜ (r ≡ writeTables (now (contract .entry)) (now (windows .entry)) (now (instructions .entry)) (now (defaults .entry)) (now (meter .entry)) (now (file .entry)) .answer) × (now (file .exit) ≡ writeTables (now (contract .entry)) (now (windows .entry)) (now (instructions .entry)) (now (defaults .entry)) (now (meter .entry)) (now (file .entry)) .file) ⌝ }
+{
+    let entire = entire_tables(
+        contract.len(),
+        windows.len(),
+        instructions.len(),
+        defaults.len(),
+    );
+    if !entire {
+        return pack(11, 0);
+    }
+    let b = book_of(contract, windows, instructions, defaults);
+    let w = write_book(b, meter, file);
+    let answer = w.answer;
+    let number = number_of(answer);
+    pack(number, w.size)
 }
