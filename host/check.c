@@ -1,8 +1,10 @@
-/* check FILE: settles one unit file of up to 31 days through stor.h and prints its T row, or the R row of its refusal.
-   It shows that the header and the library fit together; `months` is the program to use. */
+/* check FILE: settles one unit file of up to 31 days through stor.h and prints its T row, or the R row of its refusal. Before that it writes a day in
+   tables as a unit file, which must settle as the tables do. It shows that the header and the library fit together; `months` is the program to
+   use. */
 #include <inttypes.h>
 #include <stdio.h>
 #include <stdlib.h>
+#include <string.h>
 
 #include "stor.h"
 
@@ -32,12 +34,33 @@ static uint8_t *contents(const char *name, size_t *length)
     return bytes;
 }
 
+/* Whether a day in tables, with 0 kW in every minute, gives the same sums by its tables and by the file that is written of them. */
+static int day_agrees(void)
+{
+    static const uint32_t contract[11] = {1, 0, 0, 3000, 3000, 3000, 1, 0, 100, 100, 100};
+    static const uint16_t windows[3] = {0, 60, 0}, instructions[2] = {10, 40}, defaults[3] = {5, 1, 1};
+    static uint8_t day[STOR_FILE_MOST];
+    static int64_t by_file[STOR_SUM_NUMBERS];
+    uint8_t number = stor_settle_tables(contract, 11, windows, 3, instructions, 2, defaults, 3, meter, STOR_MINUTES_MOST, lines, LINES_LENGTH, sums,
+                                        STOR_SUM_NUMBERS);
+    uint64_t answer =
+        stor_write_tables(contract, 11, windows, 3, instructions, 2, defaults, 3, meter, STOR_MINUTES_MOST, day, STOR_FILE_MOST);
+    if (number != 0 || STOR_NUMBER(answer) != 0)
+        return 0;
+    answer = stor_settle_file(day, (size_t)STOR_OFFSET(answer), meter, STOR_MINUTES_MOST, lines, LINES_LENGTH, by_file, STOR_SUM_NUMBERS);
+    return STOR_NUMBER(answer) == 0 && memcmp(sums, by_file, sizeof sums) == 0;
+}
+
 int main(int count, char **words)
 {
     size_t length = 0;
     if (count != 2) {
         fprintf(stderr, "usage: check FILE\n");
         return 2;
+    }
+    if (!day_agrees()) {
+        fprintf(stderr, "check: a day written as a file does not settle as its tables do\n");
+        return 1;
     }
     uint8_t *file = contents(words[1], &length);
     if (file == NULL) {

@@ -10,7 +10,7 @@
  * - Memory that a call may write does not overlap any other memory lent to that call.
  * - Nothing else writes lent memory, and nothing reads what a call may write, until the call returns. Calls on different memory may run at once.
  * - All memory stays the caller's. A call holds it only until it returns.
- * - Input elements hold values: meter memory, line memory and sum memory have been written once, if only with zeros.
+ * - Input elements hold values: meter, line, sum and file memory have been written once, if only with zeros.
  * - A call has STOR_STACK bytes of stack left.
  */
 #ifndef STOR_H
@@ -27,13 +27,17 @@ extern "C" {
 #define STOR_STACK 32768
 
 /* The number and the offset of a file's answer. Number 0: taken, and the offset is the file's length. Any other number is a refusal, and the offset
- * is that of the refused command, or the file's length where settling was refused. (An offset of 2^56 or more would stand as 2^56 - 1.) */
+ * is that of the refused command, the file's length where settling was refused, or 0 where writing was. (An offset of 2^56 or more would stand as
+ * 2^56 - 1.) */
 #define STOR_NUMBER(answer) ((unsigned)((answer) & 0xFF))
 #define STOR_OFFSET(answer) ((uint64_t)(answer) >> 8)
 
 /* Meter memory: the metered kW of each minute, from minute 0; 1,440 minutes a day. A cell outside -500,000 to 500,000 is no reading. */
 #define STOR_MINUTES_MOST 44640
 #define STOR_NO_READING INT32_MIN
+
+/* The longest unit file of which every command is taken, in bytes: contract, full tables, a reading in each minute, close. */
+#define STOR_FILE_MOST 314241
 
 /* Line memory: a statement's lines one after the other, each as eight numbers. A statement has at most STOR_LINES_MOST lines. */
 #define STOR_LINES_MOST 1680
@@ -83,6 +87,13 @@ uint64_t stor_settle_file(const uint8_t *file, size_t file_length, int32_t *mete
 uint8_t stor_settle_tables(const uint32_t *contract, size_t contract_length, const uint16_t *windows, size_t windows_length,
                            const uint16_t *instructions, size_t instructions_length, const uint16_t *defaults, size_t defaults_length,
                            const int32_t *meter, size_t meter_length, int64_t *lines, size_t lines_length, int64_t *sums, size_t sums_length);
+
+/* Writes the same book, with the readings in meter memory, as a unit file into the first bytes of file memory; those after it are as they were. The
+ * answer's offset is the file's length. On a refusal it is 0, and file memory is exactly as it was: tables as above that say no book (11), meter
+ * memory shorter than the contract's days (15), file memory shorter than the file (26; STOR_FILE_MOST bytes are room for every month). */
+uint64_t stor_write_tables(const uint32_t *contract, size_t contract_length, const uint16_t *windows, size_t windows_length,
+                           const uint16_t *instructions, size_t instructions_length, const uint16_t *defaults, size_t defaults_length,
+                           const int32_t *meter, size_t meter_length, uint8_t *file, size_t file_length);
 
 #ifdef __cplusplus
 }

@@ -15,8 +15,9 @@ use crate::second::rows::Room;
 use crate::second::rules::NO_READING;
 use crate::second::settle as second_settle;
 use crate::second::switches::Switch;
+use crate::second::write as second_write;
 use crate::sides::{library_rows, rows, tables, LINES};
-use crate::stor::{library, Refusal, Tables, LINE_NUMBERS, SUMS};
+use crate::stor::{library, Refusal, Tables, LINE_NUMBERS, MONTH_BYTES, SUMS};
 
 const ROOM: Room = Room {
     minutes: MINUTES,
@@ -24,6 +25,7 @@ const ROOM: Room = Room {
 };
 /// Marks lent memory, to see what a call leaves alone.
 const UNTOUCHED: i64 = 77;
+const UNTOUCHED_BYTE: u8 = 0xA5;
 /// Short files among long ones.
 const MONTHS: Target = Target {
     days: 31,
@@ -36,6 +38,8 @@ const TWO_DAYS: Target = Target {
 
 /// What settling gives: the statement's rows, or the refusal's number.
 type Settled = Result<String, u8>;
+/// What writing gives: the file, or the refusal's number.
+type Written = Result<Vec<u8>, u8>;
 
 pub fn check() -> Result<(), String> {
     for seed in [0, 1, 2, 3, 4, 5, 6, 7, 8, 110, 0x8000_0000, u32::MAX] {
@@ -103,7 +107,7 @@ enum Any {
 }
 
 /// Settles a book by all three, by the library where its tables can say the
-/// book; gives the refusal, if they refuse.
+/// book, and writes it then; gives the refusal, if they refuse.
 fn settled_alike(
     what: &str,
     book: &second_book::Book,
@@ -122,6 +126,10 @@ fn settled_alike(
     if let Some(tables) = tables(&plain) {
         let settled = library_settled(&tables, meter, records)?;
         alike(what, "library", &settled, &second)?;
+        let file = written_alike(what, book, &tables, meter, any)?;
+        if let Ok(file) = file {
+            settled_again(what, &file, meter.len(), records, settled)?;
+        }
     }
     Ok(second.err())
 }
@@ -195,6 +203,78 @@ fn library_settled(tables: &Tables, meter: &[i32], records: usize) -> Result<Set
         &mut lent.sums,
     );
     lent.settled(number)
+}
+
+/// Writes a book by the second one and by the library, with more room than
+/// any file needs, just enough of it, and a byte too little.
+fn written_alike(
+    what: &str,
+    book: &second_book::Book,
+    tables: &Tables,
+    meter: &[i32],
+    any: Any,
+) -> Result<Written, String> {
+    let second = second_written(book, meter, MONTH_BYTES, any);
+    let written = library_written(tables, meter, MONTH_BYTES + 7)?;
+    alike(what, "library", &written, &second)?;
+    if let Ok(file) = &second {
+        for room in [file.len(), file.len() - 1] {
+            let written = library_written(tables, meter, room)?;
+            let second = second_written(book, meter, room, any);
+            alike(what, "library", &written, &second)?;
+        }
+    }
+    Ok(second)
+}
+
+fn second_written(book: &second_book::Book, meter: &[i32], room: usize, any: Any) -> Written {
+    let write = match any {
+        Any::Yes => second_write::write_any,
+        Any::No => second_write::write,
+    };
+    write(book, meter, room, Switch::RIGHT)
+}
+
+/// The file, or the refusal; an error where more was written.
+fn library_written(tables: &Tables, meter: &[i32], room: usize) -> Result<Written, String> {
+    let mut file = vec![UNTOUCHED_BYTE; room];
+    let answer = library::write_tables(
+        &tables.contract,
+        &tables.windows,
+        &tables.instructions,
+        &tables.defaults,
+        meter,
+        &mut file,
+    );
+    let length = (answer / 256) as usize;
+    let behind = file.get(length..).ok_or("library: no file is that long")?;
+    if behind.iter().any(|&byte| byte != UNTOUCHED_BYTE) {
+        return Err("library: a byte behind the file was written".to_string());
+    }
+    file.truncate(length);
+    match (answer % 256) as u8 {
+        0 => Ok(Ok(file)),
+        number if length == 0 => Ok(Err(number)),
+        _ => Err("library: a refusal with a length".to_string()),
+    }
+}
+
+/// Holds what a written file gives to what the tables gave.
+fn settled_again(
+    what: &str,
+    file: &[u8],
+    minutes: usize,
+    lines: usize,
+    settled: Settled,
+) -> Result<(), String> {
+    let by_file = library_listed(file, Room { minutes, lines })?;
+    let by_tables = settled.unwrap_or_else(|number| {
+        refusal_row(Refusal {
+            number,
+            offset: file.len() as u64,
+        })
+    });
+    alike(what, "written and settled again", &by_file, &by_tables)
 }
 
 /// The library's answer for a whole file as the lister prints it.

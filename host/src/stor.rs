@@ -5,9 +5,10 @@
 // Every program that takes this in uses only its own part of it.
 #![allow(dead_code)]
 
-/// Minutes of metering and line records that every month fits.
+/// Minutes of metering, line records and file bytes that every month fits.
 pub const MONTH_MINUTES: usize = 44_640;
 pub const MONTH_LINES: usize = 1_680;
+pub const MONTH_BYTES: usize = 314_241;
 /// The window entries of a statement, used or not.
 pub const WINDOWS: usize = 128;
 /// The numbers of one line record.
@@ -63,6 +64,21 @@ pub mod library {
             sums: *mut i64,
             sums_len: usize,
         ) -> u8;
+
+        fn stor_write_tables(
+            contract: *const u32,
+            contract_len: usize,
+            windows: *const u16,
+            windows_len: usize,
+            instructions: *const u16,
+            instructions_len: usize,
+            defaults: *const u16,
+            defaults_len: usize,
+            meter: *const i32,
+            meter_len: usize,
+            file: *mut u8,
+            file_len: usize,
+        ) -> u64;
     }
 
     /// The refusal's number, 0 for none, and 256 times the offset.
@@ -115,6 +131,34 @@ pub mod library {
                 lines.len(),
                 sums.as_mut_ptr(),
                 sums.len(),
+            )
+        }
+    }
+
+    /// The refusal's number, 0 for none, and 256 times the file's length.
+    pub fn write_tables(
+        contract: &[u32],
+        windows: &[u16],
+        instructions: &[u16],
+        defaults: &[u16],
+        meter: &[i32],
+        file: &mut [u8],
+    ) -> u64 {
+        // SAFETY: as said above.
+        unsafe {
+            stor_write_tables(
+                contract.as_ptr(),
+                contract.len(),
+                windows.as_ptr(),
+                windows.len(),
+                instructions.as_ptr(),
+                instructions.len(),
+                defaults.as_ptr(),
+                defaults.len(),
+                meter.as_ptr(),
+                meter.len(),
+                file.as_mut_ptr(),
+                file.len(),
             )
         }
     }
@@ -320,6 +364,22 @@ impl Memory {
         );
         taken(u64::from(number)).map_err(Failure::Refused)?;
         self.statement()
+    }
+
+    /// A closed book and the readings in the meter memory as a unit file.
+    pub fn write_tables(&self, tables: &Tables) -> Result<Vec<u8>, Refusal> {
+        let mut file = vec![0; MONTH_BYTES];
+        let answer = library::write_tables(
+            &tables.contract,
+            &tables.windows,
+            &tables.instructions,
+            &tables.defaults,
+            &self.meter,
+            &mut file,
+        );
+        taken(answer)?;
+        file.truncate((answer / 256) as usize);
+        Ok(file)
     }
 
     fn statement(&self) -> Result<Statement, Failure> {

@@ -9,6 +9,7 @@ const APPENDIX_2_ROWS: &str = include_str!("../../examples/appendix2.rows");
 const APPENDIX_2_LINES: usize = 6;
 /// Marks lent memory, to see what a call leaves alone.
 const MARK: i64 = -77;
+const BYTE_MARK: u8 = 0xA5;
 
 fn appendix_2_tables() -> Tables {
     Tables {
@@ -270,17 +271,111 @@ fn contracts_of_other_lengths_are_refused() {
 
 #[test]
 fn full_tables_are_settled() {
+    let mut memory = Memory::of_month();
+    memory.meter().fill(0);
+    let statement = memory
+        .settle_tables(&full_tables())
+        .expect("nothing to turn down");
+    assert_eq!(statement.windows.len(), 128);
+    // No stage of these instructions crosses a period.
+    assert_eq!(statement.lines.len(), 3 * 64);
+}
+
+/// A month with every place of every table in use.
+fn full_tables() -> Tables {
     let mut tables = appendix_2_tables();
     tables.contract[0] = 31;
     tables.windows = windows(128);
     tables.instructions = instructions(64);
     tables.defaults = [0, 1, 1].repeat(128);
+    tables
+}
+
+#[test]
+fn tables_are_written_as_the_file() {
+    let written = appendix_2_read().write_tables(&appendix_2_tables());
+    assert_eq!(written.as_deref(), Ok(APPENDIX_2));
+}
+
+/// Appendix 2's tables with these contract numbers, written into so many
+/// marked bytes: the answer, and the bytes after it.
+fn written(contract: &[u32], meter: &[i32], room: usize) -> (u64, Vec<u8>) {
+    let tables = appendix_2_tables();
+    let mut file = vec![BYTE_MARK; room];
+    let answer = library::write_tables(
+        contract,
+        &tables.windows,
+        &tables.instructions,
+        &tables.defaults,
+        meter,
+        &mut file,
+    );
+    (answer, file)
+}
+
+#[test]
+fn a_file_is_written_into_the_first_bytes() {
+    let contract = appendix_2_tables().contract;
+    let mut memory = appendix_2_read();
+    let taken = 256 * APPENDIX_2.len() as u64;
+    for behind in [0, 1, 100] {
+        let bytes = [APPENDIX_2, &vec![BYTE_MARK; behind]].concat();
+        let written = written(&contract, memory.meter(), bytes.len());
+        assert_eq!(written, (taken, bytes));
+    }
+}
+
+#[test]
+fn a_refusal_keeps_every_byte() {
+    let contract = appendix_2_tables().contract;
+    let mut memory = appendix_2_read();
+    let meter = memory.meter();
+    let room = APPENDIX_2.len();
+    let too_long = [&contract[..], &[0]].concat();
+    for (number, contract, minutes, room) in [
+        (11, &contract[..10], 1_440, room),
+        (11, &too_long[..], 1_440, room),
+        (11, &[0; 11], 1_440, room),
+        (11, &contract[..10], 1_439, room - 1),
+        (15, &contract, 1_439, room - 1),
+        (26, &contract, 1_440, room - 1),
+        (26, &contract, 1_440, 0),
+    ] {
+        let written = written(contract, &meter[..minutes], room);
+        assert_eq!(written, (number, vec![BYTE_MARK; room]));
+    }
+}
+
+#[test]
+fn tables_that_no_commands_leave_are_not_written() {
+    let refused = |changed: fn(&mut Tables)| {
+        let mut tables = appendix_2_tables();
+        changed(&mut tables);
+        let written = appendix_2_read().write_tables(&tables);
+        let refusal = Refusal {
+            number: 11,
+            offset: 0,
+        };
+        written == Err(refusal)
+    };
+    assert!(refused(|t| t.windows.truncate(2)));
+    assert!(refused(|t| t.instructions.push(0)));
+    assert!(refused(|t| t.defaults = vec![0, 1]));
+    assert!(refused(|t| t.windows = vec![0, 180, 1]));
+    assert!(refused(|t| t.contract[0] = 0));
+    assert!(!refused(|_| ()));
+}
+
+#[test]
+fn a_full_month_is_written_and_settled_again() {
+    let tables = full_tables();
     let mut memory = Memory::of_month();
-    memory.meter().fill(0);
-    let statement = memory.settle_tables(&tables).expect("nothing to turn down");
-    assert_eq!(statement.windows.len(), 128);
-    // No stage of these instructions crosses a period.
-    assert_eq!(statement.lines.len(), 3 * 64);
+    memory.meter().fill(-1);
+    let file = memory.write_tables(&tables).expect("nothing to turn down");
+    assert_eq!(file.len(), MONTH_BYTES);
+    let by_tables = memory.settle_tables(&tables);
+    assert!(by_tables.is_ok());
+    assert_eq!(Memory::of_month().settle_file(&file), by_tables);
 }
 
 fn windows(count: u16) -> Vec<u16> {

@@ -33,12 +33,19 @@ static void *settles(void *p)
 }
 
 /* A day with one window, one instruction and one default, and 0 kW in every minute. */
+static const uint32_t contract[11] = {1, 0, 0, 3000, 3000, 3000, 1, 0, 100, 100, 100};
+static const uint16_t windows[3] = {0, 60, 0}, instructions[2] = {10, 40}, defaults[3] = {5, 1, 1};
+
 static void *settles_tables(void *p)
 {
-    static const uint32_t contract[11] = {1, 0, 0, 3000, 3000, 3000, 1, 0, 100, 100, 100};
-    static const uint16_t windows[3] = {0, 60, 0}, instructions[2] = {10, 40}, defaults[3] = {5, 1, 1};
     answer = stor_settle_tables(contract, 11, windows, 3, instructions, 2, defaults, 3, meter, STOR_MINUTES_MOST, lines, LINES_LENGTH, sums,
                                 STOR_SUM_NUMBERS);
+    return p;
+}
+
+static void *writes_tables(void *p)
+{
+    answer = stor_write_tables(contract, 11, windows, 3, instructions, 2, defaults, 3, meter, STOR_MINUTES_MOST, file, sizeof file);
     return p;
 }
 
@@ -93,6 +100,11 @@ int main(int count, char **words)
     hold("tables", settles_tables, own);
     if (settled == 0 || answer != 0) {
         fprintf(stderr, "stack: nothing was settled\n");
+        return 1;
+    }
+    hold("tables, written", writes_tables, own);
+    if (answer % 256 != 0) {
+        fprintf(stderr, "stack: nothing was written\n");
         return 1;
     }
     printf("stack: %zu bytes at most, stor.h says %d\n", most, STOR_STACK);
