@@ -214,15 +214,14 @@ fn written_alike(
     meter: &[i32],
     any: Any,
 ) -> Result<Written, String> {
+    let library = |room| library_written(tables, meter, room);
     let second = second_written(book, meter, MONTH_BYTES, any);
-    let written = library_written(tables, meter, MONTH_BYTES + 7)?;
-    alike(what, "library", &written, &second)?;
+    alike(what, "library", &library(MONTH_BYTES + 7)?, &second)?;
     if let Ok(file) = &second {
-        for room in [file.len(), file.len() - 1] {
-            let written = library_written(tables, meter, room)?;
-            let second = second_written(book, meter, room, any);
-            alike(what, "library", &written, &second)?;
-        }
+        alike(what, "library", &library(file.len())?, &second)?;
+        let short = file.len() - 1;
+        let refused = second_written(book, meter, short, any);
+        alike(what, "library", &library(short)?, &refused)?;
     }
     Ok(second)
 }

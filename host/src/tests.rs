@@ -297,6 +297,17 @@ fn tables_are_written_as_the_file() {
     assert_eq!(written.as_deref(), Ok(APPENDIX_2));
 }
 
+#[test]
+fn cells_that_hold_no_reading_are_not_written() {
+    let mut memory = appendix_2_read();
+    let meter = memory.meter();
+    meter[..2].copy_from_slice(&[500_001, -500_001]);
+    // Minutes after the contract's day.
+    meter[1_440..].fill(7);
+    let written = memory.write_tables(&appendix_2_tables());
+    assert_eq!(written.as_deref(), Ok(APPENDIX_2));
+}
+
 /// Appendix 2's tables with these contract numbers, written into so many
 /// marked bytes: the answer, and the bytes after it.
 fn written(contract: &[u32], meter: &[i32], room: usize) -> (u64, Vec<u8>) {
