@@ -8,9 +8,10 @@ ghost use mathlib.Core.Path.{_≡_};
 ghost use Prim.Native.Nat.{_+_, _≤_};
 ghost use lib.Dec.{leb};
 ghost use lib.ListN.{length, take};
+ghost use Rattle.energy.specs.Lists.{putAt};
 ghost use Rattle.rules.specs.File.{total, write, writeOperands};
 ghost use Rattle.format.specs.Operands.{Narrow};
-ghost use Rattle.unitfile.specs.Write.{putAt, writeAt};
+ghost use Rattle.unitfile.specs.Write.{writeAt};
 
 // What writing answers: the position after the command, or a refusal.
 pub enum Written {

@@ -8,15 +8,16 @@ use borrow.Author.Needs.{needs}
 use borrow.Author.Tests.{not-true, not-false, leb-true}
 use lib.Dec.{leb}
 use lib.ListN.{length, take, set, length-set}
+use Rattle.energy.specs.Lists.{putAt}
+use Rattle.energy.proofs.Puts.{put-cons}
 use Rattle.rules.specs.File.{total, byteOf, operandsOf, writeOperands, write}
 use Rattle.commands.specs.declared.entries.Command.{Command}
 use Rattle.format.specs.Table.{padded, rowFor}
 use Rattle.format.specs.Operands.{Narrow}
-use Rattle.unitfile.specs.Write.{putAt, writeAt}
+use Rattle.unitfile.specs.Write.{writeAt}
 use Rattle.unitfile.specs.declared.encode.Written.the-variants.{Next, Refused}
 use Rattle.format.specs.declared.table.Row.{Row}
 use Rattle.unitfile.proofs.Encoding.{encoded}
-use Rattle.unitfile.proofs.Puts.{put-cons}
 use Rattle.format.proofs.Rows.{row-narrow}
 use Rattle.unitfile.proofs.encode.write_at.Statement.{statement}
 use Rattle.unitfile.proofs.encode.write_at.Tie as tie
