@@ -1,0 +1,60 @@
+-- `lister::main` is safe and ends: the rows that are written out stand in the buffer.
+use mathlib.Core.Path.{_≡_, sym, ap}
+use mathlib.Core.List.{List}
+use Prim.Native.Nat.{ℕ, _≤_}
+use native.Mathlib.Omega.{arith}
+use borrow.Author.Needs.{needs}
+use lib.ListN.{length, length-append, length-drop}
+use lib.Seq.{length-take-le}
+use Rattle.energy.specs.Lists.{putAt, Laid}
+use Rattle.lister.proofs.main.Statement.{statement}
+use Rattle.lister.proofs.main.Tie as tie
+
+laid-within : {xs m after : List ℕ} {at next : ℕ} → at ≤ length m → Laid xs m at after next → next ≤ length after
+unfolding putAt
+laid-within {m = m} {at = at} h l =
+    let before = length-take-le at m h in
+    omega (arith, l .ends, simp (length-append, length-drop) at (ap length (l .holds)))
+
+slice-aggregate-enter-input : tie.Need-slice-aggregate-enter-input
+slice-aggregate-enter-input c = search needs
+
+slice-aggregate-enter-input-2 : tie.Need-slice-aggregate-enter-input-2
+slice-aggregate-enter-input-2 c = search needs
+
+enter-input-requires : tie.Need-enter-input-requires
+enter-input-requires c κs = search needs
+
+slice-aggregate-put-answer : tie.Need-slice-aggregate-put-answer
+slice-aggregate-put-answer c = search needs
+
+put-answer-requires : tie.Need-put-answer-requires
+put-answer-requires c κs = search needs
+
+array-share-prefix-rows : tie.Need-array-share-prefix-rows
+array-share-prefix-rows c = laid-within (omega arith) (c .put-answer .ensures)
+
+slice-aggregate-write-all : tie.Need-slice-aggregate-write-all
+slice-aggregate-write-all c =
+    let p = c .before .put-answer in
+    sym (length-take-le (p .result) (p .last .1 .1 .0) (array-share-prefix-rows (c .before)))
+
+write-all-requires : tie.Need-write-all-requires
+write-all-requires c κs = search needs
+
+returns : tie.Need-returns
+returns c = search needs
+
+pub main-spec : {M : Type 1} → statement M
+main-spec =
+    tie.close
+    (tie.spec
+    slice-aggregate-enter-input
+    slice-aggregate-enter-input-2
+    enter-input-requires
+    slice-aggregate-put-answer
+    put-answer-requires
+    array-share-prefix-rows
+    slice-aggregate-write-all
+    write-all-requires
+    returns)
