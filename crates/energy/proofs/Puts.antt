@@ -58,10 +58,10 @@ module _ {A : Type 0} where
   pub laid-long : {xs m after : List A} {at next : ℕ} → at + length xs ≤ length m → Laid xs m at after next → length after ≡ length m
   laid-long {xs} {m} {at = at} room l = ap length (l .holds) ∙ length-put xs m at room
 
-  -- and where it keeps its length, there was room
-  pub laid-fits : {xs m after : List A} {at next : ℕ} → at ≤ length m → length after ≡ length m → Laid xs m at after next → next ≤ length m
+  -- in any case they end within the memory that they leave
+  pub laid-within : {xs m after : List A} {at next : ℕ} → at ≤ length m → Laid xs m at after next → next ≤ length after
   unfolding putAt
-  laid-fits {m = m} {at = at} h long l =
+  laid-within {m = m} {at = at} h l =
       let before = length-take-le at m h in
       omega (arith, l .ends, simp (length-append, length-drop) at (ap length (l .holds)))
 

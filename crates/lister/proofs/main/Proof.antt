@@ -1,20 +1,11 @@
 -- `lister::main` is safe and ends: the rows that are written out stand in the buffer.
-use mathlib.Core.Path.{_≡_, sym, ap}
-use mathlib.Core.List.{List}
-use Prim.Native.Nat.{ℕ, _≤_}
+use mathlib.Core.Path.{sym}
 use native.Mathlib.Omega.{arith}
 use borrow.Author.Needs.{needs}
-use lib.ListN.{length, length-append, length-drop}
 use lib.Seq.{length-take-le}
-use Rattle.energy.specs.Lists.{putAt, Laid}
+use Rattle.energy.proofs.Puts.{laid-within}
 use Rattle.lister.proofs.main.Statement.{statement}
 use Rattle.lister.proofs.main.Tie as tie
-
-laid-within : {xs m after : List ℕ} {at next : ℕ} → at ≤ length m → Laid xs m at after next → next ≤ length after
-unfolding putAt
-laid-within {m = m} {at = at} h l =
-    let before = length-take-le at m h in
-    omega (arith, l .ends, simp (length-append, length-drop) at (ap length (l .holds)))
 
 slice-aggregate-enter-input : tie.Need-slice-aggregate-enter-input
 slice-aggregate-enter-input c = search needs
