@@ -10,16 +10,16 @@ enum-known-ended : tie.Need-enum-known-ended
 enum-known-ended c = search needs
 
 put-refusal-requires : tie.Need-put-refusal-requires
-put-refusal-requires c κs = search needs
+put-refusal-requires c κs = tt
 
 enum-told : tie.Need-enum-told
 enum-told c = search needs
 
 listed-requires : tie.Need-listed-requires
-listed-requires c κs = search needs
+listed-requires c κs = tt
 
 put-settlement-requires : tie.Need-put-settlement-requires
-put-settlement-requires c κs = search needs
+put-settlement-requires c κs = tt
 
 returns : tie.Need-returns
 unfolding printed

@@ -7,13 +7,13 @@ enum-known-answer : tie.Need-enum-known-answer
 enum-known-answer c = search needs
 
 put-refusal-requires : tie.Need-put-refusal-requires
-put-refusal-requires c κs = search needs
+put-refusal-requires c κs = tt
 
 enum-told : tie.Need-enum-told
 enum-told c = search needs
 
 put-listing-requires : tie.Need-put-listing-requires
-put-listing-requires c κs = search needs
+put-listing-requires c κs = tt
 
 returns : tie.Need-returns
 returns c = rw (c .before .before .before .answer .given .1) (c .put-refusal .ensures)
