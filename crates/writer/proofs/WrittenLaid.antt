@@ -10,10 +10,10 @@ use Rattle.energy.proofs.Puts.{laid-none as bytes-none, laid-long as bytes-long
 use Rattle.rules.specs.File.{write}
 use Rattle.commands.specs.declared.entries.Command.{Command}
 use Rattle.rules.proofs.Taken.{concatMap-append}
-use Rattle.unitfile.specs.Write.{writeAt}
-use Rattle.unitfile.specs.declared.encode.Written.{Written as Wr}
-use Rattle.unitfile.specs.declared.encode.Written.the-variants.{Next, Refused}
-use Rattle.unitfile.proofs.Puts.{write-room}
+use Rattle.encoder.specs.Write.{writeAt}
+use Rattle.encoder.specs.declared.Written.{Written as Wr}
+use Rattle.encoder.specs.declared.Written.the-variants.{Next, Refused}
+use Rattle.encoder.proofs.Puts.{write-room}
 use Rattle.writer.specs.Laid.{fileBytes, Room, Laid}
 
 -- ---- one after the other

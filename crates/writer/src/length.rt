@@ -16,7 +16,7 @@ use commands::entries::Command;
 use commands::entries::Reading;
 use energy::units::Kw;
 use energy::units::Minutes;
-use unitfile::encode::length_of;
+use encoder::length_of;
 
 // One command, or none.
 fn once(holds: bool) -> usize

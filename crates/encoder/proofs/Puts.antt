@@ -7,8 +7,8 @@ use lib.ListN.{length}
 use Rattle.energy.specs.Lists.{putAt}
 use Rattle.rules.specs.File.{write}
 use Rattle.commands.specs.declared.entries.Command.{Command}
-use Rattle.unitfile.specs.Write.{writeAt}
-use Rattle.unitfile.specs.declared.encode.Written.the-variants.{Next}
+use Rattle.encoder.specs.Write.{writeAt}
+use Rattle.encoder.specs.declared.Written.the-variants.{Next}
 
 pub write-room : (c : Command) (m : List ℕ) (at : ℕ) → at + length (write c) ≤ length m → writeAt c m at ≡ record { answer = Next (at + length (write c)); bytes = putAt (write c) m at }
 unfolding writeAt

@@ -7,8 +7,8 @@ use lib.ListN.{length}
 use Rattle.energy.specs.Lists.{putAt}
 use Rattle.rules.specs.File.{write}
 use Rattle.commands.specs.declared.entries.Command.{Command}
-use Rattle.unitfile.specs.declared.encode.Written.{Written}
-use Rattle.unitfile.specs.declared.encode.Written.the-variants.{Next, Refused}
+use Rattle.encoder.specs.declared.Written.{Written}
+use Rattle.encoder.specs.declared.Written.the-variants.{Next, Refused}
 
 -- the answer, and the memory after it
 pub record Wrote : Type 0 where
