@@ -15,9 +15,9 @@ use crate::entries::used;
 use book::Book;
 use commands::entries::Command;
 use commands::entries::Reading;
+use encoder::write_at;
 use energy::units::Kw;
 use energy::units::Minutes;
-use encoder::write_at;
 
 // A command where there is room for it; the position after it.
 fn put(command: Command, out: &mut [u8], at: usize) -> usize
