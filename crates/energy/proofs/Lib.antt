@@ -1,4 +1,5 @@
 pub mod Tests
 pub mod Integers
 pub mod Sums
+pub mod Puts
 pub mod Rounding

@@ -3,10 +3,14 @@ mod input;
 mod output;
 
 use commands::contract::Contract;
+use libc::STDOUT_FILENO;
+use printout::BYTES;
 
 fn main() {
     let mut meter = [Contract::NO_READING; 15840];
     let mut buffer = [0u8; 61440];
+    let mut rows = [0u8; BYTES];
     let ended = input::enter_input(&mut buffer, &mut meter);
-    output::answer(ended, &meter);
+    let n = output::put_answer(ended, &meter, &mut rows);
+    io::write_all(STDOUT_FILENO, &rows[..n]);
 }

@@ -1,80 +1,36 @@
-// The rows of a listing, or of a refusal.
-ghost use Prim.Native.Nat.{_≤_};
-ghost use Rattle.listing.specs.Row.{Counted};
+// All that is printed, as bytes in one buffer.
+ghost use Rattle.energy.specs.Lists.{Laid};
+ghost use Rattle.lister.specs.Printed.{printed, settlementRows};
 use crate::input::Ended;
-use libc::STDOUT_FILENO;
-use listing::row::Row;
-use listing::rows::line_row;
-use listing::rows::refusal_row;
-use listing::rows::totals_row;
-use listing::rows::window_row;
+use printout::BYTES;
+use printout::put_listing;
+use printout::put_refusal;
 use records::Listing;
 use records::listed::listed;
 use rules::answer::Answer;
-use rules::statement::Statement;
 
-fn print(r: Row)
-    requires { ⌜ Counted r ⌝ }
+// A settlement's listing, or its refusal with the file's length.
+fn put_settlement(g: Listing, windows: usize, size: usize, out: &mut [u8; BYTES]) -> usize
+    ensures { λ r. ⌜ Laid (settlementRows (g .settlement .answer) g windows size) (now (out .entry)) 0 (now (out .exit)) r ⌝ }
 {
-    let bytes = r.bytes;
-    let n = r.len;
-    io::write_all(STDOUT_FILENO, &bytes[..n]);
-}
-
-// A count of records, held to those that there are.
-fn within(n: usize, most: usize) -> usize
-    ensures { λ r. ⌜ r ≤ most ⌝ }
-{
-    if n < most { n } else { most }
-}
-
-// The L rows of a listing's first n records.
-fn print_lines(g: Listing, n: usize)
-    requires { ⌜ n ≤ 719 ⌝ }
-{
-    let lines = g.lines;
-    let mut i = 0;
-    while i < n {
-        let l = lines[i];
-        print(line_row(l));
-        i += 1;
-    }
-}
-
-// The A rows of the n windows entered.
-fn print_windows(s: Statement, n: usize)
-    requires { ⌜ n ≤ 128 ⌝ }
-{
-    let windows = s.windows;
-    let mut i = 0;
-    while i < n {
-        let a = windows[i];
-        print(window_row((i + 1) as u32, a));
-        i += 1;
-    }
-}
-
-// A settlement's rows, or its refusal with the file's length.
-fn print_settlement(g: Listing, windows: usize, length: usize) {
     let settlement = g.settlement;
+    let lines = g.lines;
     let answer = settlement.answer;
     let statement = settlement.statement;
     match answer {
-        Answer::Refused(n) => print(refusal_row(n, length)),
-        Answer::Taken => {
-            print_lines(g, within(statement.lines, 719));
-            print_windows(statement, within(windows, 128));
-            print(totals_row(statement));
-        }
+        Answer::Refused(n) => put_refusal(n, size, out),
+        Answer::Taken => put_listing(statement, lines, windows, out),
     }
 }
 
-// The whole answer: the first refusal with its command's offset, or the settlement.
-pub fn answer(e: Ended, meter: &[i32]) {
+// The first refusal with its command's offset, or the settlement; how many bytes.
+pub fn put_answer(e: Ended, meter: &[i32], out: &mut [u8; BYTES]) -> usize
+    ensures { λ r. ⌜ Laid (printed e (now (meter .entry))) (now (out .entry)) 0 (now (out .exit)) r ⌝ }
+{
     let ended = e.answer;
     let book = e.book;
     match ended {
-        Answer::Refused(n) => print(refusal_row(n, e.offset)),
-        Answer::Taken => print_settlement(listed(book, meter), book.nwindows, e.offset),
+        Answer::Refused(n) => put_refusal(n, e.offset, out),
+        Answer::Taken => put_settlement(listed(book, meter), book.nwindows, e.offset, out),
     }
 }

@@ -1,5 +1,3 @@
-mod Encoding
 pub mod Found
 pub mod Steps
 pub mod Pieces
-pub mod Puts

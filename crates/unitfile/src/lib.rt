@@ -1,4 +1,3 @@
-// The unit file: a decoder and an encoder of one command, and a reader that carries a file and its position.
+// The unit file: a decoder of one command, and a reader that carries a file and its position.
 pub mod decode;
-pub mod encode;
 pub mod reader;

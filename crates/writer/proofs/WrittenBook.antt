@@ -9,7 +9,7 @@ use native.Mathlib.Omega.{arith}
 use borrow.Author.Tests.{lt-ltb, le-ltb}
 use lib.IntN.{ℤ}
 use lib.ListN.{length, getD, length-map}
-use Rattle.energy.specs.Lists.{concatMap, run, between}
+use Rattle.energy.specs.Lists.{concatMap, run, between, putAt}
 use Rattle.rules.specs.Ledger.{contractOf, spanOf}
 use Rattle.commands.specs.Input.{lowest}
 use Rattle.rules.specs.File.{readingAt, written, fileOf}
@@ -17,7 +17,6 @@ use Rattle.commands.specs.declared.contract.Contract.{Contract}
 use Rattle.rules.specs.declared.answer.Answer.the-variants.{Taken, Refused}
 use Rattle.commands.specs.declared.entries.Command.the-variants.{Contract as contractᶜ, Window as windowᶜ, Instruction as instructionᶜ, Default as defaultᶜ}
 use Rattle.commands.proofs.Terms.{ranges}
-use Rattle.unitfile.specs.Write.{putAt}
 use Rattle.meter.specs.Meter.{cell, missing}
 use Rattle.book.specs.Book.{ledgerIn}
 use Rattle.book.specs.Sound.{sound, Shaped}

@@ -5,14 +5,15 @@ use Prim.Native.Nat.{ℕ, zero, suc, _+_, _-_, _≤_, _<_}
 use native.Mathlib.Nat.{le-refl}
 use native.Mathlib.Omega.{arith}
 use lib.ListN.{length, length-append}
-use Rattle.energy.specs.Lists.{concatMap}
+use Rattle.energy.specs.Lists.{concatMap, putAt}
+use Rattle.energy.proofs.Puts.{laid-none as bytes-none, laid-long as bytes-long, laid-both as bytes-both}
 use Rattle.rules.specs.File.{write}
 use Rattle.commands.specs.declared.entries.Command.{Command}
 use Rattle.rules.proofs.Taken.{concatMap-append}
-use Rattle.unitfile.specs.Write.{putAt, writeAt}
-use Rattle.unitfile.specs.declared.encode.Written.{Written as Wr}
-use Rattle.unitfile.specs.declared.encode.Written.the-variants.{Next, Refused}
-use Rattle.unitfile.proofs.Puts.{put-none, length-put, put-put, write-room}
+use Rattle.encoder.specs.Write.{writeAt}
+use Rattle.encoder.specs.declared.Written.{Written as Wr}
+use Rattle.encoder.specs.declared.Written.the-variants.{Next, Refused}
+use Rattle.encoder.proofs.Puts.{write-room}
 use Rattle.writer.specs.Laid.{fileBytes, Room, Laid}
 
 -- ---- one after the other
@@ -27,7 +28,7 @@ length-both cs ds = ap length (concatMap-append write cs ds) ∙ length-append (
 -- no command changes nothing
 pub laid-none : (m : List ℕ) (at : ℕ) → Laid [] m at m at
 unfolding concatMap
-laid-none m at = record { ends = omega arith; holds = sym (put-none m at) }
+laid-none m at = bytes-none m at
 
 -- one command, as the unit file's writer puts it where there is room for it
 module _ (c : Command) (m : List ℕ) (at : ℕ) (r : Room (c ∷ []) m at) where
@@ -47,7 +48,7 @@ module _ (c : Command) (m : List ℕ) (at : ℕ) (r : Room (c ∷ []) m at) wher
 
 -- memory keeps its length
 pub laid-long : {cs : List Command} {m after : List ℕ} {at next : ℕ} → Room cs m at → Laid cs m at after next → length after ≡ length m
-laid-long {cs} {m} {at = at} r l = ap length (l .holds) ∙ length-put (fileBytes cs) m at (r .fits)
+laid-long r l = bytes-long (r .fits) l
 
 module _ (cs ds : List Command) {m : List ℕ} {at : ℕ} (r : Room (cs ++ ds) m at) where
   pub room-first : Room cs m at
@@ -58,14 +59,7 @@ module _ (cs ds : List Command) {m : List ℕ} {at : ℕ} (r : Room (cs ++ ds) m
     room-next = record { fits = omega (arith, r .fits, length-both cs ds, laid-long room-first l, l .ends) }
 
     pub laid-both : {m₂ : List ℕ} {at₂ : ℕ} → Laid ds m₁ at₁ m₂ at₂ → Laid (cs ++ ds) m at m₂ at₂
-    laid-both n =
-        record {
-          ends = omega (arith, length-both cs ds, l .ends, n .ends);
-          holds =
-              n .holds
-              ∙ rw (l .holds, concatMap-append write cs ds)
-              (put-put (fileBytes cs) (fileBytes ds) m at at₁ (l .ends) (omega (arith, r .fits, length-both cs ds, l .ends)));
-        }
+    laid-both n = rw (concatMap-append write cs ds) (bytes-both (omega (arith, r .fits, length-both cs ds, l .ends)) l n)
 
 -- ---- a loop that puts commands, some each turn
 

@@ -1,16 +1,14 @@
 -- Commands laid out one after another in lent bytes: what the parts of the writer promise each other. Nothing here is a rule of its own.
-use mathlib.Core.Path.{_≡_}
 use mathlib.Core.Bool.{cond}
 use mathlib.Core.List.{List, [], _∷_, _++_, map}
 use Prim.Native.Nat.{ℕ, _+_, _≤_, _<_}
 use lib.IntN.{ℤ}
 use lib.ListN.{length, getD, take}
-use Rattle.energy.specs.Lists.{concatMap, between}
+use Rattle.energy.specs.Lists.{concatMap, between, Laid as LaidBytes}
 use Rattle.rules.specs.File.{write, readingAt}
 use Rattle.rules.specs.Ledger.{spanOf}
 use Rattle.commands.specs.declared.entries.Command.{Command}
 use Rattle.commands.specs.declared.entries.Command.the-variants.{Contract as contractᶜ, Window as windowᶜ, Instruction as instructionᶜ, Default as defaultᶜ, Close as closeᶜ}
-use Rattle.unitfile.specs.Write.{putAt}
 use Rattle.meter.specs.Meter.{cell, missing}
 use Rattle.book.specs.declared.Book.{Book}
 use Rattle.writer.specs.declared.entries.Table.{Table}
@@ -25,9 +23,8 @@ pub record Room (cs : List Command) (memory : List ℕ) (at : ℕ) : Type 0 wher
   pub fits : at + length (fileBytes cs) ≤ length memory
 
 -- put there, they leave the memory `after`, and end before the position `next`
-pub record Laid (cs : List Command) (memory : List ℕ) (at : ℕ) (after : List ℕ) (next : ℕ) : Type 0 where
-  pub ends : next ≡ at + length (fileBytes cs)
-  pub holds : after ≡ putAt (fileBytes cs) memory at
+abbrev pub Laid : List Command → List ℕ → ℕ → List ℕ → ℕ → Type 0
+Laid cs memory at after next = LaidBytes (fileBytes cs) memory at after next
 
 -- ---- a book's entries as commands
 

@@ -15,9 +15,9 @@ use crate::entries::used;
 use book::Book;
 use commands::entries::Command;
 use commands::entries::Reading;
+use encoder::write_at;
 use energy::units::Kw;
 use energy::units::Minutes;
-use unitfile::encode::write_at;
 
 // A command where there is room for it; the position after it.
 fn put(command: Command, out: &mut [u8], at: usize) -> usize
@@ -25,8 +25,8 @@ fn put(command: Command, out: &mut [u8], at: usize) -> usize
     ensures { λ r. ⌜ Laid (command ∷ []) (now (out .entry)) at (now (out .exit)) r ⌝ }
 {
     match write_at(command, out, at) {
-        unitfile::encode::Written::Next(next) => next,
-        unitfile::encode::Written::Refused(_) => at,
+        encoder::Written::Next(next) => next,
+        encoder::Written::Refused(_) => at,
     }
 }
 

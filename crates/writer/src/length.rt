@@ -14,9 +14,9 @@ use crate::entries::used;
 use book::Book;
 use commands::entries::Command;
 use commands::entries::Reading;
+use encoder::length_of;
 use energy::units::Kw;
 use energy::units::Minutes;
-use unitfile::encode::length_of;
 
 // One command, or none.
 fn once(holds: bool) -> usize

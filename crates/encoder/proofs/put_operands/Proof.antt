@@ -1,4 +1,4 @@
--- `unitfile::encode::put_operands` meets its contract: the operands passed so far are put, and the next one goes after their widths.
+-- `encoder::put_operands` meets its contract: the operands passed so far are put, and the next one goes after their widths.
 use mathlib.Core.Path.{_≡_}
 use Prim.Native.Nat.{_+_, _-_, _≤_, _<_}
 use native.Mathlib.Nat.{le-of-lt}
@@ -6,9 +6,9 @@ use native.Mathlib.Omega.{arith}
 use borrow.Author.Needs.{needs}
 use lib.ListN.{length, getD}
 use Rattle.format.proofs.Operands.{total-within, next-ends}
-use Rattle.unitfile.proofs.Encoding.{Put, put-nothing, put-long, put-more}
-use Rattle.unitfile.proofs.encode.put_operands.Statement.{statement}
-use Rattle.unitfile.proofs.encode.put_operands.Tie as tie
+use Rattle.encoder.proofs.Encoding.{Put, put-nothing, put-long, put-more}
+use Rattle.encoder.proofs.put_operands.Statement.{statement}
+use Rattle.encoder.proofs.put_operands.Tie as tie
 
 abbrev Inv-loop : tie.InvT-loop
 Inv-loop out₀ at count widths v place₀ k₀ out place k = (k ≤ count) × Put out₀ at widths v out place k

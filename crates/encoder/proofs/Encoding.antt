@@ -7,13 +7,13 @@ use native.Mathlib.Numerals.{add-one}
 use native.Mathlib.Omega.{arith}
 use lib.ListN.{length, getD, take, drop, length-append, length-drop}
 use lib.Seq.{length-take-le}
+use Rattle.energy.specs.Lists.{putAt}
+use Rattle.energy.proofs.Puts.{put-none, length-put, put-part, put-put}
 use Rattle.rules.specs.File.{table, widthsOf, total, bytesOf, byteOf, operandsOf, writeOperands, write}
 use Rattle.commands.specs.declared.entries.Command.{Command}
 use Rattle.commands.specs.declared.entries.Command.the-variants.{Contract as contractᶜ, Window as windowᶜ, Instruction as instructionᶜ, Default as defaultᶜ, Reading as readingᶜ, Close as closeᶜ}
 use Rattle.format.specs.Table.{padded, rowOf, rowIn, rowFor}
-use Rattle.unitfile.specs.Write.{putAt}
 use Rattle.format.proofs.Operands.{total-more}
-use Rattle.unitfile.proofs.Puts.{put-none, length-put, put-part, put-put}
 
 -- ---- operands as bytes
 

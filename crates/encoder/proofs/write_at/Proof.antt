@@ -1,4 +1,4 @@
--- `unitfile::encode::write_at` meets its contract: there is room for the command's bytes or not, and its byte and its operands are put one after the other.
+-- `encoder::write_at` meets its contract: there is room for the command's bytes or not, and its byte and its operands are put one after the other.
 use mathlib.Core.Path.{_≡_, refl, sym, _∙_, ap}
 use mathlib.Core.Bool.{true, false}
 use mathlib.Core.List.{List}
@@ -8,18 +8,19 @@ use borrow.Author.Needs.{needs}
 use borrow.Author.Tests.{not-true, not-false, leb-true}
 use lib.Dec.{leb}
 use lib.ListN.{length, take, set, length-set}
+use Rattle.energy.specs.Lists.{putAt}
+use Rattle.energy.proofs.Puts.{put-cons}
 use Rattle.rules.specs.File.{total, byteOf, operandsOf, writeOperands, write}
 use Rattle.commands.specs.declared.entries.Command.{Command}
 use Rattle.format.specs.Table.{padded, rowFor}
 use Rattle.format.specs.Operands.{Narrow}
-use Rattle.unitfile.specs.Write.{putAt, writeAt}
-use Rattle.unitfile.specs.declared.encode.Written.the-variants.{Next, Refused}
+use Rattle.encoder.specs.Write.{writeAt}
+use Rattle.encoder.specs.declared.Written.the-variants.{Next, Refused}
 use Rattle.format.specs.declared.table.Row.{Row}
-use Rattle.unitfile.proofs.Encoding.{encoded}
-use Rattle.unitfile.proofs.Puts.{put-cons}
+use Rattle.encoder.proofs.Encoding.{encoded}
 use Rattle.format.proofs.Rows.{row-narrow}
-use Rattle.unitfile.proofs.encode.write_at.Statement.{statement}
-use Rattle.unitfile.proofs.encode.write_at.Tie as tie
+use Rattle.encoder.proofs.write_at.Statement.{statement}
+use Rattle.encoder.proofs.write_at.Tie as tie
 
 -- a command, its row, and memory
 module _ (command : Command) (m : List ℕ) (at : ℕ) (row : Row) (is : row ≡ rowFor (byteOf command)) where

@@ -1,12 +1,12 @@
--- `unitfile::encode::room_for` meets its contract.
+-- `encoder::room_for` meets its contract.
 use mathlib.Core.Path.{_≡_, refl, sym}
 use mathlib.Core.Bool.{Bool, true, false}
 use Prim.Native.Nat.{ℕ, _+_, _-_, _≤_}
 use native.Mathlib.Omega.{arith}
 use borrow.Author.Tests.{le-leb, lt-leb, leb-true, leb-false}
 use lib.Dec.{leb}
-use Rattle.unitfile.proofs.encode.room_for.Statement.{statement}
-use Rattle.unitfile.proofs.encode.room_for.Tie as tie
+use Rattle.encoder.proofs.room_for.Statement.{statement}
+use Rattle.encoder.proofs.room_for.Tie as tie
 
 -- room for some bytes from a position on is room for the position before them
 moved : (at length size : ℕ) → length ≤ size → leb at (size - length) ≡ leb (at + length) size

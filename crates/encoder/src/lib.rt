@@ -1,4 +1,4 @@
-// Encoding: a command into lent bytes.
+// A command as bytes in lent memory, by the table of the unit file.
 use commands::entries::Command;
 use format::number::put_number;
 use format::table::row_of;
@@ -8,9 +8,10 @@ ghost use mathlib.Core.Path.{_≡_};
 ghost use Prim.Native.Nat.{_+_, _≤_};
 ghost use lib.Dec.{leb};
 ghost use lib.ListN.{length, take};
+ghost use Rattle.energy.specs.Lists.{putAt};
 ghost use Rattle.rules.specs.File.{total, write, writeOperands};
 ghost use Rattle.format.specs.Operands.{Narrow};
-ghost use Rattle.unitfile.specs.Write.{putAt, writeAt};
+ghost use Rattle.encoder.specs.Write.{writeAt};
 
 // What writing answers: the position after the command, or a refusal.
 pub enum Written {

@@ -1,8 +1,8 @@
--- `unitfile::encode::length_of` meets its contract: the row of the command's byte has its length.
+-- `encoder::length_of` meets its contract: the row of the command's byte has its length.
 use borrow.Author.Needs.{needs}
-use Rattle.unitfile.proofs.Encoding.{encoded}
-use Rattle.unitfile.proofs.encode.length_of.Statement.{statement}
-use Rattle.unitfile.proofs.encode.length_of.Tie as tie
+use Rattle.encoder.proofs.Encoding.{encoded}
+use Rattle.encoder.proofs.length_of.Statement.{statement}
+use Rattle.encoder.proofs.length_of.Tie as tie
 
 byte-of-requires : tie.Need-byte-of-requires
 byte-of-requires c κs = search needs

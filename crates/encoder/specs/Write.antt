@@ -1,17 +1,14 @@
 -- "The writer puts out ..": one command into lent bytes, from a position on.
 use mathlib.Core.Bool.{cond}
-use mathlib.Core.List.{List, _++_}
+use mathlib.Core.List.{List}
 use Prim.Native.Nat.{ℕ, _+_}
 use lib.Dec.{leb}
-use lib.ListN.{length, take, drop}
+use lib.ListN.{length}
+use Rattle.energy.specs.Lists.{putAt}
 use Rattle.rules.specs.File.{write}
 use Rattle.commands.specs.declared.entries.Command.{Command}
-use Rattle.unitfile.specs.declared.encode.Written.{Written}
-use Rattle.unitfile.specs.declared.encode.Written.the-variants.{Next, Refused}
-
--- bytes put into memory from a position on; the others keep their contents
-unfoldable pub putAt : List ℕ → List ℕ → ℕ → List ℕ
-putAt bs m at = take at m ++ bs ++ drop (at + length bs) m
+use Rattle.encoder.specs.declared.Written.{Written}
+use Rattle.encoder.specs.declared.Written.the-variants.{Next, Refused}
 
 -- the answer, and the memory after it
 pub record Wrote : Type 0 where

@@ -1,0 +1,2 @@
+mod Encoding
+pub mod Puts

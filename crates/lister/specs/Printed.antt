@@ -1,0 +1,25 @@
+-- "The lister": what it prints for how entering a file ended.
+use mathlib.Core.List.{List}
+use Prim.Native.Nat.{ℕ}
+use lib.IntN.{ℤ}
+use lib.ListN.{take}
+use Rattle.rules.specs.declared.answer.Answer.{Answer}
+use Rattle.rules.specs.declared.answer.Answer.the-variants.{Taken, Refused}
+use Rattle.records.specs.Listed.{listBook}
+use Rattle.records.specs.declared.Listing.{Listing}
+use Rattle.listing.specs.Rows.{listing, refusalRow}
+use Rattle.lister.specs.declared.input.Ended.{Ended}
+
+-- a settlement's listing, where so many windows were entered; a refusal prints only R, its number and the file's length
+abbrev pub settlementRows : Answer → Listing → ℕ → ℕ → List ℕ
+settlementRows Taken g windows size = listing (g .settlement .statement) (take (g .settlement .statement .lines) (g .lines)) windows
+settlementRows (Refused n) g windows size = refusalRow n size
+
+-- a file entered to its end is settled; a refusal prints only R, its number and the offset of the command
+abbrev pub rowsFor : Answer → Ended → List ℤ → List ℕ
+rowsFor Taken e meter = settlementRows (listBook (e .book) meter .settlement .answer) (listBook (e .book) meter) (e .book .nwindows) (e .offset)
+rowsFor (Refused n) e meter = refusalRow n (e .offset)
+
+-- all that is printed
+unfoldable pub printed : Ended → List ℤ → List ℕ
+printed e meter = rowsFor (e .answer) e meter
