@@ -27,9 +27,9 @@ fn to_settle(l: Loaded) -> Book
 fn answer_of(l: Loaded, s: Settlement) -> FileAnswer
     ensures { λ r. ⌜ r ≡ answerBy (l .answer) (l .at) s ⌝ }
 {
-    let answer = l.answer;
+    let ended = l.answer;
     let offset = l.at;
-    match answer {
+    match ended {
         Answer::Taken => FileAnswer {
             settlement: s,
             offset,
