@@ -24,7 +24,8 @@ pick-requires-6 c κs = search needs
 
 returns : tie.Need-returns
 unfolding firstNumber
-returns c = cc
+returns c =
+    rw (c .pick6 .ensures, c .before .pick5 .ensures, c .before .before .pick4 .ensures, c .before .before .before .pick3 .ensures, c .before .before .before .before .pick2 .ensures, c .before .before .before .before .before .pick .ensures)
 
 pub first-number-spec : {M : Type 1} → statement M
 first-number-spec =

@@ -16,7 +16,7 @@ cast-recovery : tie.Need-cast-recovery
 cast-recovery c = search needs
 
 returns : tie.Need-returns
-returns c = search needs
+returns c = rw (c .if1 .taken)
 
 sub-at : tie.Need-sub-at
 sub-at c = search needs
