@@ -43,12 +43,12 @@ instructionNumber k is i =
     (cond (ltb (i .issue .0) (recovered k is)) 20
     (cond (leb 64 (length is)) 23 0)))
 
--- a default beside the windows ws, after m defaults
+-- a default beside the windows ws, after n defaults
 unfoldable pub defaultNumber : Contract → List Window → ℕ → Default → ℕ
-defaultNumber k ws m d =
+defaultNumber k ws n d =
     cond (leb (spanOf k) (d .minute .0)) 16
     (cond (not (any (λ w. within w (d .minute .0)) ws)) 21
-    (cond (leb 128 m) 23 0))
+    (cond (leb 128 n) 23 0))
 
 -- a reading beside those in meter memory
 unfoldable pub readingNumber : Contract → List ℤ → Reading → ℕ
