@@ -7,14 +7,14 @@ use mathlib.Core.Option.{Option, none, some}
 use Prim.Native.Nat.{ℕ, zero, suc, _≤_}
 use native.Mathlib.Omega.{arith}
 use lib.IntN.{ℤ}
-use lib.Dec.{eqb, leb, ltb}
+use lib.Dec.{eqb, ltb}
 use lib.ListN.{length, getD, drop, take}
 use lib.Seq.{length-take-le}
 use borrow.Author.Tests.{ne-eqb}
-use Rattle.energy.specs.Lists.{any, first, isEmpty, isSome, last}
+use Rattle.energy.specs.Lists.{first, isEmpty, isSome}
 use Rattle.commands.specs.Command.{onContract, always}
-use Rattle.rules.specs.Ledger.{isContract, spanOf, expiry, endOf, within, noWindow}
-use Rattle.rules.specs.Refusal.{spanFor, recovered, conditions, refusal}
+use Rattle.rules.specs.Ledger.{isContract, spanOf}
+use Rattle.rules.specs.Refusal.{spanFor, conditions, refusal}
 use Rattle.commands.specs.Input.{isReading, inRange, rampTooLong, badWindow, Condition, lowest, inputRefusal, orZero}
 use Rattle.commands.specs.declared.contract.Contract.{Contract}
 use Rattle.commands.specs.declared.entries.Window.{Window}
@@ -26,7 +26,7 @@ use Rattle.commands.specs.declared.entries.Command.the-variants.{Contract as co
 use Rattle.commands.proofs.Input.{input-cond}
 use Rattle.meter.specs.Meter.{missing}
 use Rattle.book.specs.Book.{ledgerIn}
-use Rattle.tables.specs.Numbers.{firstNumber}
+use Rattle.entering.specs.Numbers.{firstNumber, windowNumber, instructionNumber, defaultNumber, readingNumber}
 use Rattle.book.specs.Numbers.{refusalOf}
 use Rattle.book.specs.Sound.{sound}
 use Rattle.book.specs.declared.Book.{Book}
@@ -139,8 +139,8 @@ module _ (b : Book) (meter : List ℤ) (c : Command) where
       record { leaves = p .leaves; contracted = p .contracted; number = by-first b meter c ∙ rw (sym e ∙ z) }
 
   -- without such conditions, the number up to 15 does
-  pub met-early : numbers (laterConditions b meter c) ≡ 0 → firstOf b meter c ≡ refusalOf b meter c
-  met-early e = sym (by-first b meter c ∙ rw e (zero-or (firstOf b meter c)))
+  pub met-early : (n : ℕ) → n ≡ firstOf b meter c → numbers (laterConditions b meter c) ≡ 0 → n ≡ refusalOf b meter c
+  met-early n e z = e ∙ sym (by-first b meter c ∙ rw z (zero-or (firstOf b meter c)))
 
 -- ---- the conditions of a command's own kind, in a book with a contract
 
@@ -151,37 +151,22 @@ read true false z = refl
 read false b z = refl
 
 module _ (b : Book) (meter : List ℤ) (s : b .agreed ≡ true) where
-  pub window-later : (w : Window) → b .nwindows ≤ length (b .windows)
-      → numbers (laterConditions b meter (windowᶜ w))
-      ≡ cond (ltb (spanOf (b .contract)) (w .end .0)) 16
-      (cond (eqb (b .contract .service) 0 && eqb (w .verdict) 1) 17
-      (cond (ltb (w .start .0) (last noWindow (take (b .nwindows) (b .windows)) .end .0)) 18
-      (cond (leb 128 (b .nwindows)) 23 0)))
-  unfolding numbers conditions ledgerIn
-  window-later w h = rw (contract-is b meter s, length-take-le (b .nwindows) (b .windows) h)
+  pub window-later : (w : Window) → numbers (laterConditions b meter (windowᶜ w)) ≡ windowNumber (b .contract) (take (b .nwindows) (b .windows)) w
+  unfolding numbers conditions ledgerIn windowNumber
+  window-later w = rw (contract-is b meter s)
 
-  pub instruction-later : (i : Instruction) → b .ninstructions ≤ length (b .instructions)
-      → numbers (laterConditions b meter (instructionᶜ i))
-      ≡ cond (ltb (spanOf (b .contract)) (endOf (b .contract) i)) 16
-      (cond (ltb (i .cease .0) (expiry (b .contract) i)) 19
-      (cond (ltb (i .issue .0) (recovered (b .contract) (take (b .ninstructions) (b .instructions)))) 20
-      (cond (leb 64 (b .ninstructions)) 23 0)))
-  unfolding numbers conditions ledgerIn
-  instruction-later i h = rw (contract-is b meter s, length-take-le (b .ninstructions) (b .instructions) h)
+  pub instruction-later : (i : Instruction)
+      → numbers (laterConditions b meter (instructionᶜ i)) ≡ instructionNumber (b .contract) (take (b .ninstructions) (b .instructions)) i
+  unfolding numbers conditions ledgerIn instructionNumber
+  instruction-later i = rw (contract-is b meter s)
 
   pub default-later : (d : Default) → b .ndefaults ≤ length (b .defaults)
-      → numbers (laterConditions b meter (defaultᶜ d))
-      ≡ cond (leb (spanOf (b .contract)) (d .minute .0)) 16
-      (cond (not (any (λ w. within w (d .minute .0)) (take (b .nwindows) (b .windows)))) 21
-      (cond (leb 128 (b .ndefaults)) 23 0))
-  unfolding numbers conditions ledgerIn
+      → numbers (laterConditions b meter (defaultᶜ d)) ≡ defaultNumber (b .contract) (take (b .nwindows) (b .windows)) (b .ndefaults) d
+  unfolding numbers conditions ledgerIn defaultNumber
   default-later d h = rw (contract-is b meter s, length-take-le (b .ndefaults) (b .defaults) h)
 
-  pub reading-later : (r : Reading)
-      → numbers (laterConditions b meter (readingᶜ r))
-      ≡ cond (leb (spanOf (b .contract)) (r .minute .0)) 16
-      (cond (ltb (r .minute .0) (spanOf (b .contract)) && isReading (getD meter (r .minute .0) missing)) 22 0)
-  unfolding numbers conditions ledgerIn
+  pub reading-later : (r : Reading) → numbers (laterConditions b meter (readingᶜ r)) ≡ readingNumber (b .contract) meter r
+  unfolding numbers conditions ledgerIn readingNumber
   reading-later r = rw (contract-is b meter s, read (ltb (r .minute .0) (spanOf (b .contract))) (isReading (getD meter (r .minute .0) missing)) (getD meter (r .minute .0) missing))
 
 -- the others have none

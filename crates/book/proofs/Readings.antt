@@ -16,7 +16,7 @@ use Rattle.commands.specs.declared.entries.Command.{Command}
 use Rattle.commands.specs.declared.entries.Command.the-variants.{Contract as contractᶜ, Window as windowᶜ, Instruction as instructionᶜ, Default as defaultᶜ, Reading as readingᶜ, Close as closeᶜ}
 use Rattle.meter.specs.Meter.{putMeter, takesReading}
 use Rattle.book.specs.Enter.{Entered, enterBook}
-use Rattle.tables.specs.Numbers.{firstNumber}
+use Rattle.entering.specs.Numbers.{firstNumber, readingNumber}
 use Rattle.book.specs.Numbers.{refusalOf}
 use Rattle.book.specs.Readings.{openSpan}
 use Rattle.book.specs.Sound.{sound}
@@ -55,6 +55,7 @@ first-none input left closed agreed short p q r s t = rw (p, q, r, s, t)
 module _ (b : Book) (meter : List ℤ) (s : sound b ≡ true) (r : Reading) (t : takesReading (openSpan b (length meter)) meter (readingᶜ r) ≡ true) where
   -- no condition holds
   unrefused : refusalOf b meter (readingᶜ r) ≡ 0
+  unfolding readingNumber
   unrefused =
       let p = tests (openSpan b (length meter)) meter r t in
       let o = opened b (length meter) (r .minute .0) (p .inside) in

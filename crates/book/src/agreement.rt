@@ -7,9 +7,9 @@ use crate::Book;
 use crate::Entry;
 use commands::contract::Contract;
 use commands::entries::Command;
+use entering::first::first_number;
 use meter::mark;
 use tables::agreement::span_of;
-use tables::refusals::first_number;
 
 impl Book {
     // Enters a contract.

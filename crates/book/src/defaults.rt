@@ -5,12 +5,9 @@ ghost use Rattle.book.specs.Numbers.{refusalOf};
 ghost use Rattle.book.specs.Sound.{sound};
 use crate::Book;
 use crate::Entry;
-use commands::checks::pick;
-use commands::contract::Contract;
 use commands::entries::Command;
 use commands::entries::Default;
-use tables::agreement::span_of;
-use tables::defaults::in_window;
+use entering::defaults::default_number;
 
 impl Book {
     // Enters a default.
@@ -46,14 +43,7 @@ impl Book {
             return first;
         }
         let k = self.contract;
-        let span = span_of(k);
         let windows = self.windows;
-        let minute = d.minute;
-        let inside = in_window(k, windows, self.nwindows, minute);
-        let beyond = span <= minute.0 as usize;
-        let full = Contract::DEFAULTS_MOST <= self.ndefaults;
-        let r23 = pick(full, 23, 0);
-        let r21 = pick(!inside, 21, r23);
-        pick(beyond, 16, r21)
+        default_number(k, windows, self.nwindows, self.ndefaults, d)
     }
 }

@@ -6,12 +6,9 @@ ghost use Rattle.book.specs.Readings.{openSpan};
 ghost use Rattle.book.specs.Sound.{sound};
 use crate::Book;
 use crate::Entry;
-use commands::checks::kw_from_to;
-use commands::checks::pick;
-use commands::contract::Contract;
 use commands::entries::Command;
 use commands::entries::Reading;
-use meter::cell;
+use entering::readings::reading_number;
 use meter::put_reading;
 use tables::agreement::span_of;
 
@@ -47,14 +44,7 @@ impl Book {
             return first;
         }
         let k = self.contract;
-        let span = span_of(k);
-        let minute = r.minute;
-        let at = minute.0 as usize;
-        let held = cell(meter, minute);
-        let read = kw_from_to(Contract::READING_LEAST, Contract::READING_MOST, held);
-        let beyond = span <= at;
-        let r22 = pick((at < span) & read, 22, 0);
-        pick(beyond, 16, r22)
+        reading_number(k, r, meter)
     }
 
     // The span in which readings are taken into meter memory of `room` cells, 0 where none is. Only a contract and a close change it.

@@ -4,15 +4,15 @@ ghost use mathlib.Core.Bool.{false};
 ghost use lib.Dec.{ltb};
 ghost use lib.ListN.{length};
 ghost use Rattle.rules.specs.Ledger.{spanOf};
-ghost use Rattle.tables.specs.Numbers.{firstNumber};
+ghost use Rattle.entering.specs.Numbers.{firstNumber};
 use crate::Book;
 use crate::Entry;
+use entering::first::first_number;
 use rules::answer::Answer;
 use tables::agreement::span_of;
-use tables::refusals::first_number;
 
 impl Book {
-    // The same for a command to this book that is no contract.
+    // What a command that is no contract meets up to 15.
     pub(crate) fn first_refusal(self, left: bool, input: u8, meter: &[i32]) -> u8
         ensures { λ r. ⌜ r ≡ firstNumber input left (self .closed) (self .agreed) false (ltb (length (now (meter .entry))) (spanOf (self .contract))) ⌝ }
     {

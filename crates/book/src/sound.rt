@@ -1,18 +1,13 @@
 // 11: whether some list of commands, from the empty book, leaves a book.
 ghost use mathlib.Core.Path.{_≡_};
-ghost use Prim.Native.Nat.{_≤_};
-ghost use lib.ListN.{take};
 ghost use Rattle.energy.specs.Lists.{pass};
-ghost use Rattle.rules.specs.Reached.{agreedTests};
 ghost use Rattle.book.specs.Sound.{tableTests, emptyTests, sound};
 use crate::Book;
 use commands::contract::Contract;
+use tables::agreed::agreed_sound;
 use tables::agreement::is_no_contract;
-use tables::defaults::defaults_sound;
 use tables::defaults::defaults_unused;
-use tables::instructions::instructions_sound;
 use tables::instructions::instructions_unused;
-use tables::windows::windows_sound;
 use tables::windows::windows_unused;
 
 impl Book {
@@ -24,11 +19,22 @@ impl Book {
         if !tables {
             return false;
         }
-        if self.agreed {
-            self.agreed_sound()
-        } else {
-            self.empty_sound()
+        if !self.agreed {
+            return self.empty_sound();
         }
+        let k = self.contract;
+        let windows = self.windows;
+        let instructions = self.instructions;
+        let defaults = self.defaults;
+        agreed_sound(
+            k,
+            windows,
+            self.nwindows,
+            instructions,
+            self.ninstructions,
+            defaults,
+            self.ndefaults,
+        )
     }
 
     // Counts within the tables, and zeros in the entries after them.
@@ -50,35 +56,6 @@ impl Book {
         windows_unused(windows, w)
             & instructions_unused(instructions, i)
             & defaults_unused(defaults, d)
-    }
-
-    // Under a contract each entry could be taken after those before it.
-    fn agreed_sound(self) -> bool
-        requires { ⌜ (self .nwindows ≤ 128) × (self .ninstructions ≤ 64) × (self .ndefaults ≤ 128) ⌝ }
-        ensures { λ r. ⌜ r ≡ pass (agreedTests (self .contract) (take (self .nwindows) (self .windows)) (take (self .ninstructions) (self .instructions)) (take (self .ndefaults) (self .defaults))) ⌝ }
-    {
-        let k = self.contract;
-        if k.input_refusal() != 0 {
-            return false;
-        }
-        let w = self.nwindows;
-        let windows = self.windows;
-        let ordered = windows_sound(k, windows, w);
-        if !ordered {
-            return false;
-        }
-        let instructions = self.instructions;
-        let spaced = instructions_sound(k, instructions, self.ninstructions);
-        if !spaced {
-            return false;
-        }
-        // a search among the windows is prepared only where there is a default
-        let d = self.ndefaults;
-        if d == 0 {
-            return true;
-        }
-        let defaults = self.defaults;
-        defaults_sound(k, windows, w, defaults, d)
     }
 
     // Without a contract nothing is entered.

@@ -18,7 +18,7 @@ use Rattle.commands.specs.declared.contract.Contract.{Contract}
 use Rattle.commands.specs.declared.entries.Window.{Window}
 use Rattle.rules.proofs.Tables.{WindowFits, windows-cons}
 use Rattle.tables.proofs.Tables.{same-test}
-use Rattle.tables.specs.Numbers.{Rising, Ordered, Held, Started}
+use Rattle.tables.specs.Columns.{Rising, Ordered, Held, Started}
 
 -- ---- an element that a test holds of
 

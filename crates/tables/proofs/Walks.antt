@@ -19,7 +19,7 @@ use Rattle.commands.specs.declared.entries.Instruction.{Instruction}
 use Rattle.commands.specs.declared.entries.Default.{Default}
 use Rattle.commands.specs.declared.entries.Command.the-variants.{Contract as contractᶜ, Window as windowᶜ, Instruction as instructionᶜ, Default as defaultᶜ}
 use Rattle.commands.proofs.Input.{input-none}
-use Rattle.tables.specs.Numbers.{Held}
+use Rattle.tables.specs.Columns.{Held}
 use Rattle.tables.proofs.Tables.{slice-turn}
 use Rattle.tables.proofs.Search.{startOf, endsAt, in-table}
 

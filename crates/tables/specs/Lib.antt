@@ -1,2 +1,2 @@
 pub mod Unused
-pub mod Numbers
+pub mod Columns

@@ -3,7 +3,7 @@ ghost use mathlib.Core.Path.{_≡_};
 ghost use mathlib.Core.List.{map};
 ghost use Prim.Native.Nat.{_≤_};
 ghost use Rattle.commands.specs.declared.entries.Window.{Window};
-ghost use Rattle.tables.specs.Numbers.{Rising, Started, Ordered, Held};
+ghost use Rattle.tables.specs.Columns.{Rising, Started, Ordered, Held};
 ghost use mathlib.Core.Logic.{_↔_};
 ghost use lib.Dec.{T};
 use commands::contract::Contract;

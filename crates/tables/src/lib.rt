@@ -1,7 +1,7 @@
-// The tests on the tables of a book, by value, each on its own: what 11 asks of them, and the first refusals as a number.
+// The tests on the tables of a book, by value, each on its own: what 11 asks of them.
+pub mod agreed;
 pub mod agreement;
 mod columns;
 pub mod defaults;
 pub mod instructions;
-pub mod refusals;
 pub mod windows;

@@ -1,7 +1,7 @@
+-- `book::contract_refusal` meets its contract: nothing after 15 is asked of a contract.
 use borrow.Author.Needs.{needs}
-use mathlib.Core.Path.{_≡_, _∙_}
 use Rattle.commands.specs.declared.entries.Command.the-variants.{Contract as contractᶜ}
-use Rattle.book.proofs.Numbers.{firstOf, met-early, contract-later}
+use Rattle.book.proofs.Numbers.{met-early, contract-later}
 use Rattle.book.proofs.Book.contract_refusal.Statement.{statement}
 use Rattle.book.proofs.Book.contract_refusal.Tie as tie
 
@@ -17,12 +17,8 @@ first-number-requires c κs = search needs
 returns : tie.Need-returns
 returns c =
     let at = c .before .before .before in
-    let b = at .args .self in
-    let meter = at .args .meter .now in
-    let k = contractᶜ (at .args .k) in
-    let first : c .first-number .result ≡ firstOf b meter k =
-    c .first-number .ensures ∙ rw (c .before .before .input-refusal .ensures, c .before .span-of .ensures, at .pre) in
-    first ∙ met-early b meter k (contract-later b meter (at .args .k))
+    met-early (at .args .self) (at .args .meter .now) (contractᶜ (at .args .k)) (c .first-number .result)
+    (rw (c .first-number .ensures, c .before .before .input-refusal .ensures, c .before .span-of .ensures, at .pre)) (contract-later (at .args .self) (at .args .meter .now) (at .args .k))
 
 pub contract-refusal-spec : {M : Type 1} → statement M
 contract-refusal-spec =

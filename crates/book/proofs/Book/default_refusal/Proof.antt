@@ -1,3 +1,4 @@
+-- `book::default_refusal` meets its contract: a number up to 15 decides, and without one a default's own number.
 use borrow.Author.Needs.{needs}
 use mathlib.Core.Path.{_≡_, sym, _∙_}
 use Prim.Native.Nat.{_≤_}
@@ -40,47 +41,20 @@ late c =
 used : (c : tie.Else1) → Tables (c .before .before .before .args .self)
 used c = sound-parts (c .before .before .before .args .self) (late c .leaves) .tables
 
-span-of-requires : tie.Need-span-of-requires
-span-of-requires c κs = search needs
-
-in-window-requires : tie.Need-in-window-requires
-in-window-requires c κs =
-    let past = c .before .before .before .before in
+default-number-requires : tie.Need-default-number-requires
+default-number-requires c κs =
+    let past = c .before .before in
     let b = past .before .before .before .args .self in
     (used past .windows, of-T (windowsSound (b .contract) 0 (take (b .nwindows) (b .windows))) (sound-used b (late past .leaves) (late past .contracted) .windows))
 
-cast-beyond : tie.Need-cast-beyond
-cast-beyond c = search needs
-
-pick-requires : tie.Need-pick-requires
-pick-requires c κs = search needs
-
-pick-requires-2 : tie.Need-pick-requires-2
-pick-requires-2 c κs = search needs
-
-pick-requires-3 : tie.Need-pick-requires-3
-pick-requires-3 c κs = search needs
-
 returns-2 : tie.Need-returns-2
 returns-2 c =
-    let past = c .before .before .before .before .before .before .before .before .before .before in
+    let past = c .before .before .before in
     let at = past .before .before .before in
     let b = at .args .self in
     let n : b .ndefaults ≤ length (b .defaults) = rw (cells at) (used past .defaults) in
-    rw (c .pick3 .ensures, c .before .pick2 .ensures, c .before .before .pick .ensures, c .before .before .before .before .before .in-window .ensures, c .before .before .before .before .before .before .before .before .span-of .ensures)
+    rw (c .default-number .ensures)
     (sym (late past .number ∙ default-later b (at .args .meter .now) (late past .contracted) (at .args .d) n))
 
 pub default-refusal-spec : {M : Type 1} → statement M
-default-refusal-spec =
-    tie.close
-    (tie.spec
-    input-refusal-requires
-    first-refusal-requires
-    returns
-    span-of-requires
-    in-window-requires
-    cast-beyond
-    pick-requires
-    pick-requires-2
-    pick-requires-3
-    returns-2)
+default-refusal-spec = tie.close (tie.spec input-refusal-requires first-refusal-requires returns default-number-requires returns-2)

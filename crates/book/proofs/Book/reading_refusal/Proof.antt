@@ -1,3 +1,4 @@
+-- `book::reading_refusal` meets its contract: a number up to 15 decides, and without one a reading's own number.
 use borrow.Author.Needs.{needs}
 use mathlib.Core.Path.{_≡_, sym, _∙_}
 use Rattle.commands.specs.declared.entries.Command.the-variants.{Reading as readingᶜ}
@@ -26,42 +27,15 @@ late c =
     let at = c .before .before .before in
     met-late (at .args .self) (at .args .meter .now) (readingᶜ (at .args .r)) (c .before .first-refusal .result) (first (c .before)) (c .if1 .left)
 
-span-of-requires : tie.Need-span-of-requires
-span-of-requires c κs = search needs
-
-cast-at : tie.Need-cast-at
-cast-at c = search needs
-
-cell-requires : tie.Need-cell-requires
-cell-requires c κs = search needs
-
-kw-from-to-requires : tie.Need-kw-from-to-requires
-kw-from-to-requires c κs = search needs
-
-pick-requires : tie.Need-pick-requires
-pick-requires c κs = search needs
-
-pick-requires-2 : tie.Need-pick-requires-2
-pick-requires-2 c κs = search needs
+reading-number-requires : tie.Need-reading-number-requires
+reading-number-requires c κs = search needs
 
 returns-2 : tie.Need-returns-2
 returns-2 c =
-    let past = c .before .before .before .before .before .before .before .before in
+    let past = c .before .before in
     let at = past .before .before .before in
-    rw (c .pick2 .ensures, c .before .pick .ensures, c .before .before .kw-from-to .ensures, c .before .before .before .cell .ensures, c .before .before .before .before .before .before .span-of .ensures)
+    rw (c .reading-number .ensures)
     (sym (late past .number ∙ reading-later (at .args .self) (at .args .meter .now) (late past .contracted) (at .args .r)))
 
 pub reading-refusal-spec : {M : Type 1} → statement M
-reading-refusal-spec =
-    tie.close
-    (tie.spec
-    input-refusal-requires
-    first-refusal-requires
-    returns
-    span-of-requires
-    cast-at
-    cell-requires
-    kw-from-to-requires
-    pick-requires
-    pick-requires-2
-    returns-2)
+reading-refusal-spec = tie.close (tie.spec input-refusal-requires first-refusal-requires returns reading-number-requires returns-2)

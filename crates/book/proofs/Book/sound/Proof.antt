@@ -1,3 +1,4 @@
+-- `book::sound` meets its contract: the tables decide first, then whether there is a contract.
 use borrow.Author.Needs.{needs}
 use mathlib.Core.Path.{_≡_, sym, _∙_}
 use mathlib.Core.Bool.{true}
@@ -20,21 +21,27 @@ returns c = rw (sym (c .before .tables-sound .ensures) ∙ not-true _ (c .if1 .t
 shaped : (c : tie.Else1) → pass (tableTests (c .before .before .args .self)) ≡ true
 shaped c = sym (c .before .tables-sound .ensures) ∙ not-false _ (c .if1 .left)
 
-agreed-sound-requires : tie.Need-agreed-sound-requires
-agreed-sound-requires c κs =
-    let t = tables-of (c .before .before .before .args .self) (to-T (shaped (c .before))) in
-    (t .windows, t .instructions, t .defaults)
-
 empty-sound-requires : tie.Need-empty-sound-requires
 empty-sound-requires c κs = search needs
 
 returns-2 : tie.Need-returns-2
 unfolding sound
-returns-2 c = rw (c .agreed-sound .ensures, shaped (c .before .before), c .before .if2 .taken)
+returns-2 c =
+    let past = c .before .before .before in
+    rw (c .empty-sound .ensures, shaped past, not-true (past .before .before .args .self .agreed) (c .before .if2 .taken))
+
+agreed-sound-requires : tie.Need-agreed-sound-requires
+agreed-sound-requires c κs =
+    let past = c .before .before .before .before .before .before in
+    let t = tables-of (past .before .before .args .self) (to-T (shaped past)) in
+    (t .windows, t .instructions, t .defaults)
 
 returns-3 : tie.Need-returns-3
 unfolding sound
-returns-3 c = rw (c .empty-sound .ensures, shaped (c .before .before), c .before .if2 .left)
+returns-3 c =
+    let other = c .before .before .before .before .before in
+    let past = other .before .before in
+    rw (c .agreed-sound .ensures, shaped past, not-false (past .before .before .args .self .agreed) (other .if2 .left))
 
 pub sound-spec : {M : Type 1} → statement M
 sound-spec =
@@ -42,7 +49,7 @@ sound-spec =
     (tie.spec
     tables-sound-requires
     returns
-    agreed-sound-requires
     empty-sound-requires
     returns-2
+    agreed-sound-requires
     returns-3)

@@ -1,7 +1,8 @@
+-- `entering::first_number` meets its contract: the picks, from the last to the first, are the chain.
 use borrow.Author.Needs.{needs}
-use Rattle.tables.specs.Numbers.{firstNumber}
-use Rattle.tables.proofs.refusals.first_number.Statement.{statement}
-use Rattle.tables.proofs.refusals.first_number.Tie as tie
+use Rattle.entering.specs.Numbers.{firstNumber}
+use Rattle.entering.proofs.first.first_number.Statement.{statement}
+use Rattle.entering.proofs.first.first_number.Tie as tie
 
 pick-requires : tie.Need-pick-requires
 pick-requires c κs = search needs
@@ -23,7 +24,8 @@ pick-requires-6 c κs = search needs
 
 returns : tie.Need-returns
 unfolding firstNumber
-returns c = cc
+returns c =
+    rw (c .pick6 .ensures, c .before .pick5 .ensures, c .before .before .pick4 .ensures, c .before .before .before .pick3 .ensures, c .before .before .before .before .pick2 .ensures, c .before .before .before .before .before .pick .ensures)
 
 pub first-number-spec : {M : Type 1} → statement M
 first-number-spec =

@@ -1,9 +1,9 @@
-// The first refusals as one number, 0 for none.
+// The conditions before those of a command's own kind.
 ghost use mathlib.Core.Path.{_≡_};
-ghost use Rattle.tables.specs.Numbers.{firstNumber};
+ghost use Rattle.entering.specs.Numbers.{firstNumber};
 use commands::checks::pick;
 
-// What a command meets before the conditions of its own kind: the number from its input, then 11 to 15.
+// The number from a command's input, then 11 to 15.
 // left: commands leave the book; first: the command is a contract; short: meter memory is shorter than the span.
 pub fn first_number(
     input: u8,

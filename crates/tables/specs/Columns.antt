@@ -1,24 +1,7 @@
--- What is answered on the way: the first refusals as one number, 0 for none, and the place of a minute among the windows.
-use mathlib.Core.Bool.{Bool, not, _&&_, cond}
+-- The windows' times as columns, and the place of a minute among them.
 use mathlib.Core.List.{List}
 use Prim.Native.Nat.{ℕ, _≤_, _<_}
-use lib.Dec.{eqb}
 use lib.ListN.{getD}
-
--- ---- a refusal as a number
-
--- what a command meets before the conditions of its own kind: the number from its input, then 11 to 15. left: commands leave the book;
--- first: the command is a contract; short: meter memory is
-unfoldable pub firstNumber : ℕ → Bool → Bool → Bool → Bool → Bool → ℕ
-firstNumber input left closed agreed first short =
-    cond (not (eqb input 0)) input
-    (cond (not left) 11
-    (cond closed 12
-    (cond (not agreed && not first) 13
-    (cond (agreed && first) 14
-    (cond short 15 0)))))
-
--- ---- the windows' times as columns
 
 -- the first n numbers never fall
 pub record Rising (starts : List ℕ) (n : ℕ) : Type 0 where

@@ -1,3 +1,4 @@
+-- `entering::last_end` meets its contract.
 use borrow.Author.Needs.{needs}
 use mathlib.Core.Path.{_≡_, sym, ap}
 use native.Mathlib.Omega.{arith}
@@ -6,11 +7,11 @@ use Rattle.energy.specs.Lists.{last}
 use Rattle.rules.specs.Ledger.{noWindow}
 use Rattle.tables.proofs.Tables.{length-mapped, last-used}
 use Rattle.tables.proofs.Search.{endsAt}
-use Rattle.book.proofs.Book.last_end.Statement.{statement}
-use Rattle.book.proofs.Book.last_end.Tie as tie
+use Rattle.entering.proofs.windows.last_end.Statement.{statement}
+use Rattle.entering.proofs.windows.last_end.Tie as tie
 
 -- the table's length
-table : (c : tie.Start) → length (c .args .t1 .windows) ≡ 128
+table : (c : tie.Start) → length (c .args .t1) ≡ 128
 table c = search (length-mapped, needs)
 
 returns : tie.Need-returns
@@ -23,15 +24,15 @@ sub-at c = search needs
 mul-w : tie.Need-mul-w
 mul-w c = search needs
 
-element-copy-out-w : tie.Need-element-copy-out-w
-element-copy-out-w c = search needs
+array-copy-out-w : tie.Need-array-copy-out-w
+array-copy-out-w c = search needs
 
 returns-2 : tie.Need-returns-2
 returns-2 c =
     let at = c .before .before .before in
-    let ws = at .args .t1 .windows in
+    let ws = at .args .t1 in
     let cells : length ws ≡ 128 = table at in
-    sym (ap endsAt (last-used ws (at .args .t1 .nwindows) noWindow (omega arith) (omega arith)))
+    sym (ap endsAt (last-used ws (at .args .n) noWindow (omega arith) (omega arith)))
 
 pub last-end-spec : {M : Type 1} → statement M
-last-end-spec = tie.close (tie.spec returns sub-at mul-w element-copy-out-w returns-2)
+last-end-spec = tie.close (tie.spec returns sub-at mul-w array-copy-out-w returns-2)
