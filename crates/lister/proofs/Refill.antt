@@ -1,0 +1,106 @@
+-- A turn of the lister's refill: the bytes that were kept, and those read behind them, are entered as all bytes together are.
+use mathlib.Core.Path.{_≡_, refl, sym, ap, _∙_, subst, subst⁻¹}
+use mathlib.Core.Bool.{Bool, true, false, not, _&&_, false≢true, true≢false}
+use mathlib.Core.List.{List, [], _++_}
+use Prim.Native.Nat.{ℕ, _+_, _*_, _≤_, _<_}
+use native.Mathlib.Omega.{arith}
+use borrow.Author.Tests.{eqb-true, eqb-false}
+use lib.IntN.{ℤ}
+use lib.Dec.{T, eqb}
+use lib.ListN.{length, take, drop, length-append, length-drop, take-append-drop}
+use lib.Seq.{length-take-le, take-take, drop-append-le, drop-drop}
+use Rattle.rules.specs.declared.answer.Answer.the-variants.{Taken}
+use Rattle.book.specs.Book.{emptyBook}
+use Rattle.book.specs.declared.Book.{Book}
+use Rattle.stor.specs.Files.{endedAt, load, loadFrom, unfinished, later, Pieces·theorem}
+use Rattle.stor.specs.declared.file.Loaded.{Loaded}
+use Rattle.stor.proofs.Pieces.{pieces, unread}
+use Rattle.stor.proofs.Files.{stops-within}
+use Rattle.lister.specs.Input.{EnteredInput}
+use Rattle.lister.specs.declared.input.Ended.{Ended}
+
+-- ---- the loop's test
+
+-- it is left where more bytes change nothing, or the buffer is not full
+pub left-short : (a : Bool) (have size : ℕ) → have ≤ size → not (a && eqb have size) ≡ true → T a → have < size
+left-short false have size h e t = absurd t
+left-short true have size h e t = go (eqb have size) refl e
+  where
+    go : (b : Bool) → eqb have size ≡ b → not b ≡ true → have < size
+    go true k e = absurd (false≢true e)
+    go false k e = let differ : have ≡ size → ⊥ = eqb-false have size k in omega arith
+
+pub goes-full : (a : Bool) (have size : ℕ) → not (a && eqb have size) ≡ false → T a × (have ≡ size)
+goes-full false have size e = absurd (true≢false e)
+goes-full true have size e = go (eqb have size) refl e
+  where
+    go : (b : Bool) → eqb have size ≡ b → not b ≡ false → T true × (have ≡ size)
+    go true k e = (tt, eqb-true have size k)
+    go false k e = absurd (true≢false e)
+
+-- ---- turns
+
+-- the bytes so far, entered as one file from meter memory `before`: how that stands, and the bytes that are kept for the next turn
+pub record SoFar (before : List ℤ) (e : Ended) (meter : List ℤ) (kept : List ℕ) : Type 0 where
+  pub file : List ℕ
+  pub ended : load file emptyBook before ≡ endedAt (e .offset) (e .answer) (e .book) meter
+  pub goesOn : T (unfinished (e .answer))
+  pub within : e .offset ≤ length file
+  pub rest : kept ≡ drop (e .offset) file
+
+pub begins : (before : List ℤ) (b : Book) → b ≡ emptyBook → SoFar before (record { answer = Taken; offset = 0; book = b }) before []
+unfolding load loadFrom
+begins before b e = record { file = []; ended = ap (λ x. endedAt 0 Taken x before) (sym e); goesOn = tt; within = omega arith; rest = refl }
+
+-- a read leaves `have` bytes in the buffer, the first n of them those that were kept, and they are entered
+module _ {before : List ℤ} {e : Ended} {meter : List ℤ} {kept : List ℕ} (s : SoFar before e meter kept) (buffer : List ℕ) (n have : ℕ)
+    (stay : take n buffer ≡ kept) (more : n ≤ have) (l : Loaded) (m : List ℤ)
+    (loads : l ≡ load (take have buffer) (e .book) meter .loaded) (leaves : m ≡ load (take have buffer) (e .book) meter .meter)
+    (inside : l .at ≤ length (take have buffer)) where
+  abbrev new : List ℕ
+  new = drop n (take have buffer)
+
+  abbrev all : List ℕ
+  all = s .file ++ new
+
+  -- what the buffer holds is all from where entering stood
+  stands : take have buffer ≡ drop (e .offset) all
+  stands =
+      sym (take-append-drop n (take have buffer))
+      ∙ ap (λ x. x ++ new) (take-take n have buffer more ∙ stay ∙ s .rest)
+      ∙ sym (drop-append-le (e .offset) (s .file) new (s .within))
+
+  whole : load all emptyBook before ≡ endedAt (e .offset + l .at) (l .answer) (l .book) m
+  unfolding Pieces·theorem
+  whole =
+      pieces (s .file) new emptyBook before .goesOn (subst⁻¹ (λ x. T (unfinished (x .loaded .answer))) (s .ended) (s .goesOn))
+      ∙ ap (λ x. later (x .loaded .at) (load (drop (x .loaded .at) (s .file) ++ new) (x .loaded .book) (x .meter))) (s .ended)
+      ∙ ap (λ x. later (e .offset) (load x (e .book) meter)) (sym (drop-append-le (e .offset) (s .file) new (s .within)) ∙ sym stands)
+      ∙ rw (loads, leaves)
+
+  -- the reading ends here
+  pub entered : (T (unfinished (l .answer)) → have < length buffer)
+      → EnteredInput before buffer (record { answer = l .answer; offset = e .offset + l .at; book = l .book }) m
+  entered short = record { file = all; ended = whole; from = e .offset; have = have; last = stands; short = short }
+
+  -- or it goes on with what is kept
+  module _ (going : T (unfinished (l .answer))) where
+    pub again : (next : List ℕ) → next ≡ drop (l .at) (take have buffer) → SoFar before (record { answer = l .answer; offset = e .offset + l .at; book = l .book }) m next
+    again next k =
+        record {
+          file = all;
+          ended = whole;
+          goesOn = going;
+          within = omega (arith, s .within, length-append (s .file) new, length-drop (e .offset) all, ap length stands);
+          rest = k ∙ ap (drop (l .at)) stands ∙ drop-drop (l .at) (e .offset) all;
+        }
+
+    -- a full buffer moves the offset on, and not past the room for commands
+    pub forward : 32 ≤ have → have ≤ length buffer → (e .offset < e .offset + l .at) × (e .offset + l .at ≤ 1761 + 7 * length before)
+    forward h room =
+        let near : length all < load all emptyBook before .loaded .at + 32 = unread all emptyBook before (subst⁻¹ (λ x. T (unfinished (x .loaded .answer))) whole going) in
+        let there : load all emptyBook before .loaded .at ≡ e .offset + l .at = ap (λ x. x .loaded .at) whole in
+        (omega (arith, length-take-le have buffer room, length-drop (e .offset) all, ap length stands), omega (arith, stops-within all before))
+
+pub far : {before : List ℤ} {e : Ended} {meter : List ℤ} {kept : List ℕ} → SoFar before e meter kept → e .offset ≤ 1761 + 7 * length before
+far {before} s = omega (arith, stops-within (s .file) before, ap (λ x. x .loaded .at) (s .ended))
