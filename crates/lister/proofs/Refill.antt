@@ -2,7 +2,7 @@
 use mathlib.Core.Path.{_≡_, refl, sym, ap, _∙_, subst, subst⁻¹}
 use mathlib.Core.Bool.{Bool, true, false, not, _&&_, false≢true, true≢false}
 use mathlib.Core.List.{List, [], _++_}
-use Prim.Native.Nat.{ℕ, _+_, _*_, _≤_, _<_}
+use Prim.Native.Nat.{ℕ, _+_, _-_, _*_, _≤_, _<_}
 use native.Mathlib.Omega.{arith}
 use borrow.Author.Tests.{eqb-true, eqb-false}
 use lib.IntN.{ℤ}
@@ -54,7 +54,7 @@ begins before b e = record { file = []; ended = ap (λ x. endedAt 0 Taken x befo
 
 -- a read leaves `have` bytes in the buffer, the first n of them those that were kept, and they are entered
 module _ {before : List ℤ} {e : Ended} {meter : List ℤ} {kept : List ℕ} (s : SoFar before e meter kept) (buffer : List ℕ) (n have : ℕ)
-    (stay : take n buffer ≡ kept) (more : n ≤ have) (l : Loaded) (m : List ℤ)
+    (stay : take n buffer ≡ kept) (more : n ≤ have) (room : have ≤ length buffer) (l : Loaded) (m : List ℤ)
     (loads : l ≡ load (take have buffer) (e .book) meter .loaded) (leaves : m ≡ load (take have buffer) (e .book) meter .meter)
     (inside : l .at ≤ length (take have buffer)) where
   abbrev new : List ℕ
@@ -78,10 +78,21 @@ module _ {before : List ℤ} {e : Ended} {meter : List ℤ} {kept : List ℕ} (s
       ∙ ap (λ x. later (e .offset) (load x (e .book) meter)) (sym (drop-append-le (e .offset) (s .file) new (s .within)) ∙ sym stands)
       ∙ rw (loads, leaves)
 
+  long : length all - e .offset ≡ have
+  long = sym (length-drop (e .offset) all) ∙ ap length (sym stands) ∙ length-take-le have buffer room
+
   -- the reading ends here
   pub entered : (T (unfinished (l .answer)) → have < length buffer)
       → EnteredInput before buffer (record { answer = l .answer; offset = e .offset + l .at; book = l .book }) m
-  entered short = record { file = all; ended = whole; from = e .offset; have = have; last = stands; short = short }
+  entered short =
+      record {
+        file = all;
+        ended = whole;
+        from = e .offset;
+        unread = omega arith;
+        last = ap (λ k. take k buffer) long ∙ stands;
+        short = λ t. omega (arith, short t, long);
+      }
 
   -- or it goes on with what is kept
   module _ (going : T (unfinished (l .answer))) where
@@ -91,16 +102,16 @@ module _ {before : List ℤ} {e : Ended} {meter : List ℤ} {kept : List ℕ} (s
           file = all;
           ended = whole;
           goesOn = going;
-          within = omega (arith, s .within, length-append (s .file) new, length-drop (e .offset) all, ap length stands);
+          within = omega (arith, s .within, inside, length-append (s .file) new, long, length-take-le have buffer room);
           rest = k ∙ ap (drop (l .at)) stands ∙ drop-drop (l .at) (e .offset) all;
         }
 
     -- a full buffer moves the offset on, and not past the room for commands
-    pub forward : 32 ≤ have → have ≤ length buffer → (e .offset < e .offset + l .at) × (e .offset + l .at ≤ 1761 + 7 * length before)
-    forward h room =
+    pub forward : 32 ≤ have → (e .offset < e .offset + l .at) × (e .offset + l .at ≤ 1761 + 7 * length before)
+    forward h =
         let near : length all < load all emptyBook before .loaded .at + 32 = unread all emptyBook before (subst⁻¹ (λ x. T (unfinished (x .loaded .answer))) whole going) in
         let there : load all emptyBook before .loaded .at ≡ e .offset + l .at = ap (λ x. x .loaded .at) whole in
-        (omega (arith, length-take-le have buffer room, length-drop (e .offset) all, ap length stands), omega (arith, stops-within all before))
+        (omega (arith, long), omega (arith, stops-within all before))
 
 pub far : {before : List ℤ} {e : Ended} {meter : List ℤ} {kept : List ℕ} → SoFar before e meter kept → e .offset ≤ 1761 + 7 * length before
 far {before} s = omega (arith, stops-within (s .file) before, ap (λ x. x .loaded .at) (s .ended))

@@ -1,7 +1,7 @@
 -- "The lister": what entering standard input comes to, whose bytes come into one buffer, one read after the other.
 use mathlib.Core.Path.{_≡_}
 use mathlib.Core.List.{List}
-use Prim.Native.Nat.{ℕ, _<_}
+use Prim.Native.Nat.{ℕ, _+_, _-_, _≤_, _<_}
 use lib.IntN.{ℤ}
 use lib.Dec.{T}
 use lib.ListN.{length, take, drop}
@@ -15,9 +15,9 @@ pub record EnteredInput (before : List ℤ) (buffer : List ℕ) (e : Ended) (aft
   pub file : List ℕ
   -- entering them as one file ends like this
   pub ended : load file emptyBook before ≡ endedAt (e .offset) (e .answer) (e .book) after
-  -- those from this position on, so many, stand first in the buffer
+  -- the buffer holds them from this position on, which is not past the offset
   pub from : ℕ
-  pub have : ℕ
-  pub last : take have buffer ≡ drop from file
+  pub unread : from ≤ e .offset
+  pub last : take (length file - from) buffer ≡ drop from file
   -- where more bytes could change how it ended, they do not fill the buffer: the last read came short
-  pub short : T (unfinished (e .answer)) → have < length buffer
+  pub short : T (unfinished (e .answer)) → length file < from + length buffer

@@ -64,7 +64,7 @@ returns c =
     let l = c .before .before .before .before .load in
     let f = c .before .before .before .before .before .before .before .before .before .before .fill in
     let t = c .before .before .before .before .before .before .before .before .before .before .before .before .loop in
-    entered (t .inv .4) (f .last .0) (t .kept) (f .result) (f .ensures .0) (f .ensures .1) (l .result) (l .last .1 .1 .0) (l .ensures .0) (l .ensures .1) (l .ensures .3)
+    entered (t .inv .4) (f .last .0) (t .kept) (f .result) (f .ensures .0) (f .ensures .1) (f .ensures .2) (l .result) (l .last .1 .1 .0) (l .ensures .0) (l .ensures .1) (l .ensures .3)
     (λ going. left-short (u .result) (f .result) (length (f .last .0)) (f .ensures .2) (c .if1 .taken) (subst⁻¹ T (u .ensures) going))
 
 keep-requires : tie.Need-keep-requires Inv-loop μ-loop
@@ -81,7 +81,7 @@ loop-less c =
     let full = goes-full (u .result) (f .result) (length (f .last .0)) (c .before .before .before .before .if1 .left) in
     let going = subst T (u .ensures) (full .0) in
     let start = c .before .before .before .before .before .before .before .before .before .before .before .before .before .before .before .before .before .before .before in
-    let on = forward (t .inv .4) (f .last .0) (t .kept) (f .result) (f .ensures .0) (f .ensures .1) (l .result) (l .last .1 .1 .0) (l .ensures .0) (l .ensures .1) (l .ensures .3) going (omega (arith, full .1, f .kept .0, t .inv .2, start .pre)) (f .ensures .2) in
+    let on = forward (t .inv .4) (f .last .0) (t .kept) (f .result) (f .ensures .0) (f .ensures .1) (f .ensures .2) (l .result) (l .last .1 .1 .0) (l .ensures .0) (l .ensures .1) (l .ensures .3) going (omega (arith, full .1, f .kept .0, t .inv .2, start .pre)) in
     omega (arith, on, l .kept, t .inv .3)
 
 loop-again : tie.Need-loop-again Inv-loop μ-loop
@@ -97,7 +97,7 @@ loop-again c =
       omega (arith, k .ensures .1, k .kept .0, f .ensures .2),
       search (needs, k, f, t .inv),
       search (needs, l, t .inv),
-      again (t .inv .4) (f .last .0) (t .kept) (f .result) (f .ensures .0) (f .ensures .1) (l .result) (l .last .1 .1 .0) (l .ensures .0) (l .ensures .1) (l .ensures .3) going (take (k .result) (k .last .0)) (k .ensures .0),
+      again (t .inv .4) (f .last .0) (t .kept) (f .result) (f .ensures .0) (f .ensures .1) (f .ensures .2) (l .result) (l .last .1 .1 .0) (l .ensures .0) (l .ensures .1) (l .ensures .3) going (take (k .result) (k .last .0)) (k .ensures .0),
     )
 
 pub enter-input-spec : {M : Type 1} → statement M
