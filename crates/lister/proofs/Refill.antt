@@ -52,46 +52,57 @@ pub begins : (before : List ℤ) (b : Book) → b ≡ emptyBook → SoFar before
 unfolding load loadFrom
 begins before b e = record { file = []; ended = ap (λ x. endedAt 0 Taken x before) (sym e); goesOn = tt; within = omega arith; rest = refl }
 
--- a read leaves `have` bytes in the buffer, the first n of them those that were kept, and they are entered
-module _ {before : List ℤ} {e : Ended} {meter : List ℤ} {kept : List ℕ} (s : SoFar before e meter kept) (buffer : List ℕ) (n have : ℕ)
-    (stay : take n buffer ≡ kept) (more : n ≤ have) (room : have ≤ length buffer) (l : Loaded) (m : List ℤ)
-    (loads : l ≡ load (take have buffer) (e .book) meter .loaded) (leaves : m ≡ load (take have buffer) (e .book) meter .meter)
-    (inside : l .at ≤ length (take have buffer)) where
-  abbrev new : List ℕ
-  new = drop n (take have buffer)
+pub far : {before : List ℤ} {e : Ended} {meter : List ℤ} {kept : List ℕ} → SoFar before e meter kept → e .offset ≤ 1761 + 7 * length before
+far {before} s = omega (arith, stops-within (s .file) before, ap (λ x. x .loaded .at) (s .ended))
 
-  abbrev all : List ℕ
-  all = s .file ++ new
+-- a turn: the buffer's first bytes, `have` of them, are all bytes from the offset on, and all bytes end where and as those do
+pub record Turn (before : List ℤ) (e : Ended) (buffer : List ℕ) (have : ℕ) (l : Loaded) (m : List ℤ) : Type 0 where
+  pub all : List ℕ
+  pub whole : load all emptyBook before ≡ endedAt (e .offset + l .at) (l .answer) (l .book) m
+  pub stands : take have buffer ≡ drop (e .offset) all
+  pub long : length all ≡ e .offset + have
+  pub inside : l .at ≤ have
 
-  -- what the buffer holds is all from where entering stood
-  stands : take have buffer ≡ drop (e .offset) all
-  stands =
-      sym (take-append-drop n (take have buffer))
-      ∙ ap (λ x. x ++ new) (take-take n have buffer more ∙ stay ∙ s .rest)
-      ∙ sym (drop-append-le (e .offset) (s .file) new (s .within))
+-- bytes are read behind n that were kept, and what the buffer holds then is entered
+pub turn : {before : List ℤ} {e : Ended} {meter : List ℤ} {kept : List ℕ} → SoFar before e meter kept → (buffer : List ℕ) (n have : ℕ) → take n buffer ≡ kept → n ≤ have
+    → have ≤ length buffer
+    → (l : Loaded) (m : List ℤ)
+    → l ≡ load (take have buffer) (e .book) meter .loaded
+    → m ≡ load (take have buffer) (e .book) meter .meter
+    → l .at ≤ length (take have buffer)
+    → Turn before e buffer have l m
+unfolding Pieces·theorem
+turn {before} {e} {meter} s buffer n have stay more room l m loads leaves inside =
+    let new : List ℕ = drop n (take have buffer) in
+    let size : length (take have buffer) ≡ have = length-take-le have buffer room in
+    let behind : drop (e .offset) (s .file ++ new) ≡ drop (e .offset) (s .file) ++ new = drop-append-le (e .offset) (s .file) new (s .within) in
+    let stands : take have buffer ≡ drop (e .offset) (s .file ++ new) =
+    sym (take-append-drop n (take have buffer)) ∙ ap (λ x. x ++ new) (take-take n have buffer more ∙ stay ∙ s .rest) ∙ sym behind in
+    record {
+      all = s .file ++ new;
+      whole =
+          pieces (s .file) new emptyBook before .goesOn (subst⁻¹ (λ x. T (unfinished (x .loaded .answer))) (s .ended) (s .goesOn))
+          ∙ ap (λ x. later (x .loaded .at) (load (drop (x .loaded .at) (s .file) ++ new) (x .loaded .book) (x .meter))) (s .ended)
+          ∙ ap (λ x. later (e .offset) (load x (e .book) meter)) (sym behind ∙ sym stands)
+          ∙ rw (loads, leaves);
+      stands = stands;
+      long = omega (arith, s .within, length-append (s .file) new, length-drop (e .offset) (s .file ++ new), ap length stands, size);
+      inside = omega arith;
+    }
 
-  whole : load all emptyBook before ≡ endedAt (e .offset + l .at) (l .answer) (l .book) m
-  unfolding Pieces·theorem
-  whole =
-      pieces (s .file) new emptyBook before .goesOn (subst⁻¹ (λ x. T (unfinished (x .loaded .answer))) (s .ended) (s .goesOn))
-      ∙ ap (λ x. later (x .loaded .at) (load (drop (x .loaded .at) (s .file) ++ new) (x .loaded .book) (x .meter))) (s .ended)
-      ∙ ap (λ x. later (e .offset) (load x (e .book) meter)) (sym (drop-append-le (e .offset) (s .file) new (s .within)) ∙ sym stands)
-      ∙ rw (loads, leaves)
-
-  long : length all - e .offset ≡ have
-  long = sym (length-drop (e .offset) all) ∙ ap length (sym stands) ∙ length-take-le have buffer room
-
-  -- the reading ends here
+module _ {before : List ℤ} {e : Ended} {buffer : List ℕ} {have : ℕ} {l : Loaded} {m : List ℤ} (t : Turn before e buffer have l m) where
+  -- the loop ends here
   pub entered : (T (unfinished (l .answer)) → have < length buffer)
       → EnteredInput before buffer (record { answer = l .answer; offset = e .offset + l .at; book = l .book }) m
   entered short =
+      let size : length (t .all) - e .offset ≡ have = omega (arith, t .long) in
       record {
-        file = all;
-        ended = whole;
+        file = t .all;
+        ended = t .whole;
         from = e .offset;
         unread = omega arith;
-        last = ap (λ k. take k buffer) long ∙ stands;
-        short = λ t. omega (arith, short t, long);
+        last = ap (λ k. take k buffer) size ∙ t .stands;
+        short = λ u. omega (arith, short u, t .long);
       }
 
   -- or it goes on with what is kept
@@ -99,19 +110,16 @@ module _ {before : List ℤ} {e : Ended} {meter : List ℤ} {kept : List ℕ} (s
     pub again : (next : List ℕ) → next ≡ drop (l .at) (take have buffer) → SoFar before (record { answer = l .answer; offset = e .offset + l .at; book = l .book }) m next
     again next k =
         record {
-          file = all;
-          ended = whole;
+          file = t .all;
+          ended = t .whole;
           goesOn = going;
-          within = omega (arith, s .within, inside, length-append (s .file) new, long, length-take-le have buffer room);
-          rest = k ∙ ap (drop (l .at)) stands ∙ drop-drop (l .at) (e .offset) all;
+          within = omega (arith, t .long, t .inside);
+          rest = k ∙ ap (drop (l .at)) (t .stands) ∙ drop-drop (l .at) (e .offset) (t .all);
         }
 
     -- a full buffer moves the offset on, and not past the room for commands
     pub forward : 32 ≤ have → (e .offset < e .offset + l .at) × (e .offset + l .at ≤ 1761 + 7 * length before)
     forward h =
-        let near : length all < load all emptyBook before .loaded .at + 32 = unread all emptyBook before (subst⁻¹ (λ x. T (unfinished (x .loaded .answer))) whole going) in
-        let there : load all emptyBook before .loaded .at ≡ e .offset + l .at = ap (λ x. x .loaded .at) whole in
-        (omega (arith, long), omega (arith, stops-within all before))
-
-pub far : {before : List ℤ} {e : Ended} {meter : List ℤ} {kept : List ℕ} → SoFar before e meter kept → e .offset ≤ 1761 + 7 * length before
-far {before} s = omega (arith, stops-within (s .file) before, ap (λ x. x .loaded .at) (s .ended))
+        let near = unread (t .all) emptyBook before (subst⁻¹ (λ x. T (unfinished (x .loaded .answer))) (t .whole) going) in
+        let there = ap (λ x. x .loaded .at) (t .whole) in
+        (omega (arith, near, there, t .long), omega (arith, there, stops-within (t .all) before))

@@ -9,8 +9,9 @@ use lib.Dec.{T}
 use lib.ListN.{length, take}
 use lib.Seq.{length-take-le}
 use Rattle.book.specs.Sound.{sound}
+use Rattle.stor.specs.Files.{unfinished}
 use Rattle.book.proofs.Follow.{starts}
-use Rattle.lister.proofs.Refill.{SoFar, begins, entered, again, forward, far, left-short, goes-full}
+use Rattle.lister.proofs.Refill.{left-short, goes-full, SoFar, begins, far, Turn, turn, entered, again, forward}
 use Rattle.lister.proofs.input.enter_input.Statement.{statement}
 use Rattle.lister.proofs.input.enter_input.Tie as tie
 
@@ -20,6 +21,23 @@ Inv-loop buffer₀ meter₀ e₀ kept₀ buffer meter e kept =
 
 abbrev μ-loop : tie.MeasureT-loop
 μ-loop buffer₀ meter₀ e₀ kept₀ buffer meter e kept = 1761 + 7 * length meter - e .offset
+
+-- a turn, once the bytes that the buffer holds are entered
+turned : (c : tie.After-load Inv-loop μ-loop)
+    → Turn (c .before .before .before .before .before .before .before .before .before .before .before .args .meter .now) (c .before .before .before .before .before .before .before .before .loop .e) (c .before .before .before .before .before .before .fill .last .0) (c .before .before .before .before .before .before .fill .result) (c .load .result) (c .load .last .1 .1 .0)
+turned c =
+    let l = c .load in
+    let f = c .before .before .before .before .before .before .fill in
+    let t = c .before .before .before .before .before .before .before .before .loop in
+    turn (t .inv .4) (f .last .0) (t .kept) (f .result) (f .ensures .0) (f .ensures .1) (f .ensures .2) (l .result) (l .last .1 .1 .0) (l .ensures .0) (l .ensures .1) (l .ensures .3)
+
+-- where the loop goes on, more bytes can change the answer, and the buffer is full
+full : (c : tie.Else1 Inv-loop μ-loop) → T (unfinished (c .before .before .before .before .load .result .answer)) × (c .before .before .before .before .before .before .before .before .before .before .fill .result ≡ length (c .before .before .before .before .before .before .before .before .before .before .fill .last .0))
+full c =
+    let u = c .before .unfinished in
+    let f = c .before .before .before .before .before .before .before .before .before .before .fill in
+    let g = goes-full (u .result) (f .result) (length (f .last .0)) (c .if1 .left) in
+    (subst T (u .ensures) (g .0), g .1)
 
 empty-requires : tie.Need-empty-requires Inv-loop μ-loop
 empty-requires c κs = search needs
@@ -61,10 +79,8 @@ same-length-2 c = search needs
 returns : tie.Need-returns Inv-loop μ-loop
 returns c =
     let u = c .before .unfinished in
-    let l = c .before .before .before .before .load in
     let f = c .before .before .before .before .before .before .before .before .before .before .fill in
-    let t = c .before .before .before .before .before .before .before .before .before .before .before .before .loop in
-    entered (t .inv .4) (f .last .0) (t .kept) (f .result) (f .ensures .0) (f .ensures .1) (f .ensures .2) (l .result) (l .last .1 .1 .0) (l .ensures .0) (l .ensures .1) (l .ensures .3)
+    entered (turned (c .before .before .before .before))
     (λ going. left-short (u .result) (f .result) (length (f .last .0)) (f .ensures .2) (c .if1 .taken) (subst⁻¹ T (u .ensures) going))
 
 keep-requires : tie.Need-keep-requires Inv-loop μ-loop
@@ -74,30 +90,26 @@ keep-requires c κs =
 
 loop-less : tie.Need-loop-less Inv-loop μ-loop
 loop-less c =
-    let u = c .before .before .before .before .before .unfinished in
+    let g = full (c .before .before .before .before) in
     let l = c .before .before .before .before .before .before .before .before .load in
     let f = c .before .before .before .before .before .before .before .before .before .before .before .before .before .before .fill in
     let t = c .before .before .before .before .before .before .before .before .before .before .before .before .before .before .before .before .loop in
-    let full = goes-full (u .result) (f .result) (length (f .last .0)) (c .before .before .before .before .if1 .left) in
-    let going = subst T (u .ensures) (full .0) in
     let start = c .before .before .before .before .before .before .before .before .before .before .before .before .before .before .before .before .before .before .before in
-    let on = forward (t .inv .4) (f .last .0) (t .kept) (f .result) (f .ensures .0) (f .ensures .1) (f .ensures .2) (l .result) (l .last .1 .1 .0) (l .ensures .0) (l .ensures .1) (l .ensures .3) going (omega (arith, full .1, f .kept .0, t .inv .2, start .pre)) in
+    let on = forward (turned (c .before .before .before .before .before .before .before .before)) (g .0) (omega (arith, g .1, f .kept .0, t .inv .2, start .pre)) in
     omega (arith, on, l .kept, t .inv .3)
 
 loop-again : tie.Need-loop-again Inv-loop μ-loop
 loop-again c =
-    let u = c .before .before .before .before .before .unfinished in
+    let k = c .before .before .keep in
+    let g = full (c .before .before .before .before) in
     let l = c .before .before .before .before .before .before .before .before .load in
     let f = c .before .before .before .before .before .before .before .before .before .before .before .before .before .before .fill in
-    let t = c .before .before .before .before .before .before .before .before .before .before .before .before .before .before .before .before .loop in
-    let full = goes-full (u .result) (f .result) (length (f .last .0)) (c .before .before .before .before .if1 .left) in
-    let going = subst T (u .ensures) (full .0) in
-    let k = c .before .before .keep in (
+    let t = c .before .before .before .before .before .before .before .before .before .before .before .before .before .before .before .before .loop in (
       l .ensures .2,
       omega (arith, k .ensures .1, k .kept .0, f .ensures .2),
       search (needs, k, f, t .inv),
       search (needs, l, t .inv),
-      again (t .inv .4) (f .last .0) (t .kept) (f .result) (f .ensures .0) (f .ensures .1) (f .ensures .2) (l .result) (l .last .1 .1 .0) (l .ensures .0) (l .ensures .1) (l .ensures .3) going (take (k .result) (k .last .0)) (k .ensures .0),
+      again (turned (c .before .before .before .before .before .before .before .before)) (g .0) (take (k .result) (k .last .0)) (k .ensures .0),
     )
 
 pub enter-input-spec : {M : Type 1} → statement M
