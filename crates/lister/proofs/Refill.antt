@@ -1,5 +1,5 @@
 -- A turn of the lister's refill: the bytes that were kept, and those read behind them, are entered as all bytes together are.
-use mathlib.Core.Path.{_≡_, refl, sym, ap, _∙_, subst, subst⁻¹}
+use mathlib.Core.Path.{_≡_, refl, sym, ap, _∙_, subst⁻¹}
 use mathlib.Core.Bool.{Bool, true, false, not, _&&_, false≢true, true≢false}
 use mathlib.Core.List.{List, [], _++_}
 use Prim.Native.Nat.{ℕ, _+_, _-_, _*_, _≤_, _<_}
@@ -52,8 +52,21 @@ pub begins : (before : List ℤ) (b : Book) → b ≡ emptyBook → SoFar before
 unfolding load loadFrom
 begins before b e = record { file = []; ended = ap (λ x. endedAt 0 Taken x before) (sym e); goesOn = tt; within = omega arith; rest = refl }
 
+-- how far entering can have come
 pub far : {before : List ℤ} {e : Ended} {meter : List ℤ} {kept : List ℕ} → SoFar before e meter kept → e .offset ≤ 1761 + 7 * length before
 far {before} s = omega (arith, stops-within (s .file) before, ap (λ x. x .loaded .at) (s .ended))
+
+-- new bytes behind those that were kept: entering what is held then is entering all bytes, from the offset on
+module _ {before : List ℤ} {e : Ended} {meter : List ℤ} {kept : List ℕ} (s : SoFar before e meter kept) (held new : List ℕ) (h : held ≡ kept ++ new) where
+  held-stands : held ≡ drop (e .offset) (s .file ++ new)
+  held-stands = h ∙ ap (λ x. x ++ new) (s .rest) ∙ sym (drop-append-le (e .offset) (s .file) new (s .within))
+
+  held-ends : load (s .file ++ new) emptyBook before ≡ later (e .offset) (load held (e .book) meter)
+  unfolding Pieces·theorem
+  held-ends =
+      pieces (s .file) new emptyBook before .goesOn (subst⁻¹ (λ x. T (unfinished (x .loaded .answer))) (s .ended) (s .goesOn))
+      ∙ ap (λ x. later (x .loaded .at) (load (drop (x .loaded .at) (s .file) ++ new) (x .loaded .book) (x .meter))) (s .ended)
+      ∙ ap (λ x. later (e .offset) (load x (e .book) meter)) (ap (λ x. x ++ new) (sym (s .rest)) ∙ sym h)
 
 -- a turn: the buffer's first bytes, `have` of them, are all bytes from the offset on, and all bytes end where and as those do
 pub record Turn (before : List ℤ) (e : Ended) (buffer : List ℕ) (have : ℕ) (l : Loaded) (m : List ℤ) : Type 0 where
@@ -71,22 +84,22 @@ pub turn : {before : List ℤ} {e : Ended} {meter : List ℤ} {kept : List ℕ} 
     → m ≡ load (take have buffer) (e .book) meter .meter
     → l .at ≤ length (take have buffer)
     → Turn before e buffer have l m
-unfolding Pieces·theorem
-turn {before} {e} {meter} s buffer n have stay more room l m loads leaves inside =
-    let new : List ℕ = drop n (take have buffer) in
-    let size : length (take have buffer) ≡ have = length-take-le have buffer room in
-    let behind : drop (e .offset) (s .file ++ new) ≡ drop (e .offset) (s .file) ++ new = drop-append-le (e .offset) (s .file) new (s .within) in
-    let stands : take have buffer ≡ drop (e .offset) (s .file ++ new) =
-    sym (take-append-drop n (take have buffer)) ∙ ap (λ x. x ++ new) (take-take n have buffer more ∙ stay ∙ s .rest) ∙ sym behind in
+turn {e = e} {kept = kept} s buffer n have stay more room l m loads leaves inside =
+    let held : take have buffer ≡ kept ++ drop n (take have buffer) =
+    sym (take-append-drop n (take have buffer)) ∙ ap (λ x. x ++ drop n (take have buffer)) (take-take n have buffer more ∙ stay) in
+    let size = length-take-le have buffer room in
     record {
-      all = s .file ++ new;
-      whole =
-          pieces (s .file) new emptyBook before .goesOn (subst⁻¹ (λ x. T (unfinished (x .loaded .answer))) (s .ended) (s .goesOn))
-          ∙ ap (λ x. later (x .loaded .at) (load (drop (x .loaded .at) (s .file) ++ new) (x .loaded .book) (x .meter))) (s .ended)
-          ∙ ap (λ x. later (e .offset) (load x (e .book) meter)) (sym behind ∙ sym stands)
-          ∙ rw (loads, leaves);
-      stands = stands;
-      long = omega (arith, s .within, length-append (s .file) new, length-drop (e .offset) (s .file ++ new), ap length stands, size);
+      all = s .file ++ drop n (take have buffer);
+      whole = held-ends s (take have buffer) (drop n (take have buffer)) held ∙ rw (loads, leaves);
+      stands = held-stands s (take have buffer) (drop n (take have buffer)) held;
+      long = omega (
+        arith,
+        s .within,
+        length-append (s .file) (drop n (take have buffer)),
+        length-drop (e .offset) (s .file ++ drop n (take have buffer)),
+        ap length (held-stands s (take have buffer) (drop n (take have buffer)) held),
+        size,
+      );
       inside = omega arith;
     }
 

@@ -1,7 +1,7 @@
 -- Laws of a reader's steps, for those who read a file from its first byte to its last.
 use mathlib.Core.Path.{_≡_, refl, sym, ap, _∙_, subst}
 use mathlib.Core.Bool.{Bool, true, false}
-use mathlib.Core.Option.{none, some, Option·none-ne-some}
+use mathlib.Core.Option.{some, Option·none-ne-some}
 use mathlib.Core.Logic.{_⊎_, inl, inr}
 use mathlib.Core.List.{List, [], _∷_}
 use Prim.Native.Nat.{ℕ, zero, suc, _+_, _≤_, _<_}

@@ -9,8 +9,8 @@ use lib.Dec.{T}
 use lib.ListN.{length, take}
 use lib.Seq.{length-take-le}
 use Rattle.book.specs.Sound.{sound}
-use Rattle.stor.specs.Files.{unfinished}
 use Rattle.book.proofs.Follow.{starts}
+use Rattle.stor.specs.Files.{unfinished}
 use Rattle.lister.proofs.Refill.{left-short, goes-full, SoFar, begins, far, Turn, turn, entered, again, forward}
 use Rattle.lister.proofs.input.enter_input.Statement.{statement}
 use Rattle.lister.proofs.input.enter_input.Tie as tie
