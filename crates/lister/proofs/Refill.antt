@@ -107,11 +107,13 @@ module _ {before : List ℤ} {e : Ended} {buffer : List ℕ} {have : ℕ} {l : L
   -- the loop ends here
   pub entered : (T (unfinished (l .answer)) → have < length buffer)
       → EnteredInput before buffer (record { answer = l .answer; offset = e .offset + l .at; book = l .book }) m
+  unfolding Pieces·theorem
   entered short =
       let size : length (t .all) - e .offset ≡ have = omega (arith, t .long) in
       record {
         file = t .all;
         ended = t .whole;
+        decided = λ u more. pieces (t .all) more emptyBook before .ends (subst⁻¹ (λ x. unfinished (x .loaded .answer) ≡ false) (t .whole) u);
         from = e .offset;
         unread = omega arith;
         last = ap (λ k. take k buffer) size ∙ t .stands;
