@@ -1,6 +1,9 @@
 // Standard input in pieces: each is entered up to a command that it cuts off, whose bytes stand first in the next piece.
-ghost use Prim.Native.Nat.{_≤_};
-ghost use lib.ListN.{length};
+ghost use mathlib.Core.Path.{_≡_};
+ghost use Prim.Native.Nat.{_-_, _≤_};
+ghost use lib.ListN.{length, take, drop};
+ghost use Rattle.stor.specs.Files.{unfinished as unfinishedOf};
+ghost use Rattle.lister.specs.Input.{EnteredInput};
 use book::Book;
 use libc::STDIN_FILENO;
 use rules::answer::Answer;
@@ -16,7 +19,7 @@ pub struct Ended {
 // The bytes that the buffer holds once standard input has filled it behind those that were kept.
 fn fill(buffer: &mut [u8], kept: usize) -> usize
     requires { ⌜ kept ≤ length (now buffer) ⌝ }
-    ensures { λ r. ⌜ r ≤ length (now (buffer .exit)) ⌝ }
+    ensures { λ r. ⌜ (take kept (now (buffer .exit)) ≡ take kept (now (buffer .entry))) × (kept ≤ r) × (r ≤ length (now (buffer .exit))) ⌝ }
 {
     kept + io::read_full(STDIN_FILENO, &mut buffer[kept..])
 }
@@ -24,7 +27,7 @@ fn fill(buffer: &mut [u8], kept: usize) -> usize
 // Moves the bytes from `from` to `to` - 1 to the front, and tells how many they are.
 fn keep(buffer: &mut [u8], from: usize, to: usize) -> usize
     requires { ⌜ (from ≤ to) × (to ≤ length (now buffer)) ⌝ }
-    ensures { λ r. ⌜ r ≤ length (now (buffer .exit)) ⌝ }
+    ensures { λ r. ⌜ (take r (now (buffer .exit)) ≡ drop from (take to (now (buffer .entry)))) × (r ≡ to - from) ⌝ }
 {
     let n = to - from;
     let mut i = 0;
@@ -36,17 +39,20 @@ fn keep(buffer: &mut [u8], from: usize, to: usize) -> usize
 }
 
 // Whether more bytes can change how a piece ended: it ended behind a command or inside one.
-fn unfinished(answer: Answer) -> bool {
+fn unfinished(answer: Answer) -> bool
+    ensures { λ r. ⌜ r ≡ unfinishedOf answer ⌝ }
+{
     match answer {
         Answer::Taken => true,
         Answer::Refused(n) => n == 2,
     }
 }
 
-// Enters standard input into the empty book, up to its end or the first refusal. Commands that are all taken are at most 112,641 bytes with this
-// meter memory (FileLength·theorem of the rules), so a second piece holds the end or a refusal: the loop's limit is never what ends it.
+// Enters standard input into the empty book, up to its end or the first refusal. It ends because commands that are all taken are no longer
+// than the tables and meter memory have room for (FileLength·theorem of the rules).
 pub fn enter_input(buffer: &mut [u8], meter: &mut [i32]) -> Ended
-    requires { ⌜ length (now buffer) ≤ 65536 ⌝ }
+    requires { ⌜ (32 ≤ length (now buffer)) × (length (now buffer) ≤ 65536) ⌝ }
+    ensures { λ r. ⌜ EnteredInput (now (meter .entry)) (now (buffer .exit)) r (now (meter .exit)) ⌝ }
 {
     let mut e = Ended {
         answer: Answer::Taken,
@@ -54,8 +60,7 @@ pub fn enter_input(buffer: &mut [u8], meter: &mut [i32]) -> Ended
         book: Book::empty(),
     };
     let mut kept: usize = 0;
-    let mut turns: usize = 0;
-    while turns < 4 {
+    loop {
         let have = fill(buffer, kept);
         let start = e.offset;
         let book = e.book;
@@ -72,7 +77,5 @@ pub fn enter_input(buffer: &mut [u8], meter: &mut [i32]) -> Ended
             return e;
         }
         kept = keep(buffer, at, have);
-        turns += 1;
     }
-    e
 }

@@ -3,13 +3,15 @@ use mathlib.Core.Path.{_≡_, refl, sym, ap, _∙_, subst, subst⁻¹}
 use mathlib.Core.Bool.{false}
 use mathlib.Core.List.{List, [], _∷_, _++_, append-assoc, append-nil}
 use mathlib.Core.Option.{Option, none, some}
-use Prim.Native.Nat.{ℕ, zero, suc, _+_, _≤_}
+use Prim.Native.Nat.{ℕ, zero, suc, _+_, _*_, _≤_}
 use native.Mathlib.Omega.{arith}
 use lib.IntN.{ℤ}
-use lib.ListN.{length, replicate}
+use lib.ListN.{length, replicate, length-append}
+use Rattle.energy.specs.Lists.{concatMap}
 use Rattle.rules.specs.Ledger.{ledgerOf}
 use Rattle.rules.specs.Refusal.{refusal, taken, takenAfter, joined, answerOf}
-use Rattle.rules.specs.File.{readAt, readOn, commandsFrom, commandsIn}
+use Rattle.rules.specs.File.{readAt, readOn, write, commandsFrom, commandsIn}
+use Rattle.rules.proofs.FileLength.{file-length}
 use Rattle.commands.specs.declared.entries.Command.{Command}
 use Rattle.rules.specs.declared.answer.Answer.{Answer}
 use Rattle.rules.specs.declared.answer.Answer.the-variants.{Taken, Refused}
@@ -20,11 +22,11 @@ use Rattle.book.specs.Book.{emptyBook}
 use Rattle.book.specs.Enter.{enterBook, Entered}
 use Rattle.book.specs.declared.Book.{Book}
 use Rattle.book.proofs.Follow.{Follows, follow, answers, starts}
-use Rattle.unitfile.proofs.Steps.{got-within}
+use Rattle.unitfile.proofs.Steps.{got-within, got-long}
 use Rattle.settlement.specs.Settle.{settleBook}
 use Rattle.stor.specs.Steps.{read, entries, readsOn, position, onwards}
 use Rattle.stor.specs.Demand3.{SettlementRight}
-use Rattle.stor.specs.Files.{LoadedFile, carriesOn, loadsOn, loadFrom, load, settlesFile, settleFile, readRefusal, File·theorem}
+use Rattle.stor.specs.Files.{LoadedFile, carriesOn, loadsOn, loadFrom, load, settlesFile, settleFile, readRefusal, FileRight, File·theorem}
 use Rattle.stor.proofs.Demand3.{settlement-right}
 use Rattle.stor.proofs.Pieces.{past-end}
 
@@ -124,3 +126,27 @@ file-right file meter memory =
           (subst (λ cs. Follows (length meter) cs (l .loaded .book) (l .meter)) (r .whole a) (r .follows)) in
           subst⁻¹ (λ x. SettlementRight (commandsFrom (length file) file 0) memory (record { settlement = settlesFile x l memory .answer .settlement; memory = settlesFile x l memory .memory })) a right;
     }
+
+-- ---- where entering stops
+
+-- the reader stands behind what the commands that it read are written as
+behind : (file : List ℕ) (at n : ℕ) → position file at (replicate n read) ≡ at + length (concatMap write (entries file at (replicate n read)))
+unfolding entries position concatMap
+behind file at zero = omega arith
+behind file at (suc n) = go (λ next. behind file next n) (readAt file at) refl
+  where
+    go : ((next : ℕ) → position file next (replicate n read) ≡ next + length (concatMap write (entries file next (replicate n read))))
+        → (r : Read) → readAt file at ≡ r
+        → onwards (λ next. position file next (replicate n read)) at r
+        ≡ at + length (concatMap write (readsOn (λ next. entries file next (replicate n read)) (entries file at (replicate n read)) r))
+    go rest (Got c next) e = omega (arith, rest next, got-long file at e, length-append (write c) (concatMap write (entries file next (replicate n read))))
+    go rest (refusedʳ x) e = rest at
+    go rest End e = rest at
+
+-- the commands before it are taken, so it is within the room that tables and meter memory have
+pub stops-within : (file : List ℕ) (meter : List ℤ) → load file emptyBook meter .loaded .at ≤ 1761 + 7 * length meter
+unfolding File·theorem
+stops-within file meter =
+    let r : FileRight file meter [] = file-right file meter [] in
+    let cs : List Command = entries file 0 (replicate (r .reads) read) in
+    omega (arith, r .stands, behind file 0 (r .reads), ap (λ x. length (concatMap write x)) (r .allTaken), file-length (length meter) cs)

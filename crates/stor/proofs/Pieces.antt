@@ -8,7 +8,7 @@ use Prim.Native.Nat.{ℕ, zero, suc, _+_, _-_, _≤_, _<_}
 use native.Mathlib.Omega.{arith}
 use borrow.Author.Tests.{le-leb, eq-eqb}
 use lib.IntN.{ℤ}
-use lib.Dec.{T, eqb, leb}
+use lib.Dec.{T, eqb, leb, eqb→eq}
 use lib.ListN.{length, drop, length-append, length-drop}
 use lib.Seq.{drop-append-le}
 use Rattle.energy.specs.Lists.{all}
@@ -26,8 +26,8 @@ use Rattle.book.specs.Book.{ledgerIn}
 use Rattle.book.specs.Sound.{sound}
 use Rattle.book.specs.Enter.{enterBook, enteredBy, Entered}
 use Rattle.book.specs.declared.Book.{Book}
-use Rattle.unitfile.proofs.Steps.{got-within, refused-number}
-use Rattle.unitfile.proofs.Pieces.{piece-got, piece-unknown, shift, read-drop}
+use Rattle.unitfile.proofs.Steps.{got-within, refused-number, refused-near}
+use Rattle.unitfile.proofs.Pieces.{piece-got, piece-unknown, piece-end, shift, read-drop}
 use Rattle.stor.specs.Files.{LoadedFile, carriesOn, loadsOn, loadFrom, load, unfinished, later, Pieces, Pieces·theorem}
 
 -- ---- enough turns
@@ -206,3 +206,31 @@ pieces p q b m =
           ∙ ap (later k) (enough (length (p ++ q)) (length (drop k p ++ q)) (drop k p ++ q) 0 b′ m′ (simp (length-append, length-drop) (omega arith)) (omega arith));
       ends = λ t. ends-there p q (length p) 0 b m t;
     }
+
+-- ---- what a piece leaves unread
+
+left : (n : ℕ) (p : List ℕ) (at : ℕ) (b : Book) (m : List ℤ) → length p ≤ at + n → T (unfinished (loadFrom n p at b m .loaded .answer))
+    → length p < loadFrom n p at b m .loaded .at + 32
+unfolding loadFrom
+left zero p at b m h t = omega arith
+left (suc n) p at b m h t = go (λ next b m. left n p next b m) (readAt p at) refl t
+  where
+    Rest : Type 0
+    Rest = (next : ℕ) (b : Book) (m : List ℤ) → length p ≤ next + n → T (unfinished (loadFrom n p next b m .loaded .answer)) → length p < loadFrom n p next b m .loaded .at + 32
+
+    goAnswer : Rest → (c : Command) (next : ℕ) → length p ≤ next + n → (a : Answer) → enterBook b m c .entry .answer ≡ a
+        → T (unfinished (carriesOn (loadFrom n p next) at a (enterBook b m c) .loaded .answer))
+        → length p < carriesOn (loadFrom n p next) at a (enterBook b m c) .loaded .at + 32
+    goAnswer rest c next l Taken e t = rest next (enterBook b m c .entry .book) (enterBook b m c .meter) l t
+    goAnswer rest c next l (Refused x) e t = absurd (book-not-two b m c x e t)
+
+    go : Rest → (r : Read) → readAt p at ≡ r → T (unfinished (loadsOn (λ next b m. loadFrom n p next b m) at b m r .loaded .answer))
+        → length p < loadsOn (λ next b m. loadFrom n p next b m) at b m r .loaded .at + 32
+    go rest (Got c next) e t = goAnswer rest c next (omega (arith, got-within p at e)) (enterBook b m c .entry .answer) refl t
+    go rest (refusedʳ x) e t = refused-near p at (subst (λ n. readAt p at ≡ refusedʳ n) (eqb→eq x 2 t) e)
+    go rest End e t = omega (arith, piece-end p [] at e)
+
+-- where it is unfinished, fewer bytes than the longest command has
+pub unread : (p : List ℕ) (b : Book) (m : List ℤ) → T (unfinished (load p b m .loaded .answer)) → length p < load p b m .loaded .at + 32
+unfolding load
+unread p b m t = left (length p) p 0 b m (omega arith) t

@@ -1,12 +1,18 @@
 -- Laws of a reader's steps, for those who read a file from its first byte to its last.
-use mathlib.Core.Path.{_≡_, refl}
+use mathlib.Core.Path.{_≡_, refl, sym, ap, _∙_, subst}
+use mathlib.Core.Bool.{Bool, true, false}
+use mathlib.Core.Option.{some, Option·none-ne-some}
 use mathlib.Core.Logic.{_⊎_, inl, inr}
 use mathlib.Core.List.{List, [], _∷_}
-use Prim.Native.Nat.{ℕ, zero, suc, _≤_, _<_}
+use Prim.Native.Nat.{ℕ, zero, suc, _+_, _≤_, _<_}
 use native.Mathlib.Omega.{arith}
-use lib.ListN.{length}
-use Rattle.rules.specs.File.{readAt, commandsFrom}
+use borrow.Author.Tests.{eqb-true}
+use lib.Dec.{eqb}
+use lib.ListN.{length, getD, drop}
+use Rattle.rules.specs.File.{table, widthsOf, total, bytesOf, operands, commandOf, readAt, byteOf, writeOperands, widthsFor, write, commandsFrom}
 use Rattle.commands.specs.declared.entries.Command.{Command}
+use Rattle.commands.specs.declared.entries.Command.the-variants.{Contract as contractᶜ, Window as windowᶜ, Instruction as instructionᶜ, Default as defaultᶜ, Reading as readingᶜ, Close as closeᶜ}
+use Rattle.format.proofs.Rows.{widths-most}
 use Rattle.rules.specs.declared.file.Read.{Read}
 use Rattle.rules.specs.declared.file.Read.the-variants.{Got, Refused, End}
 use Rattle.unitfile.specs.Reader.{after, stepAt}
@@ -27,7 +33,55 @@ refused-as (short h e k) = inr refl
 pub refused-number : (s : List ℕ) (at : ℕ) {n : ℕ} → readAt s at ≡ Refused n → (n ≡ 1) ⊎ (n ≡ 2)
 refused-number s at e = refused-as (found-at e)
 
--- what a step gives, by what is read
+-- 2 leaves fewer bytes than the longest command has
+refused-left : {s : List ℕ} {at : ℕ} → Found s at (Refused 2) → length s < at + 32
+refused-left {s} {at} (short {ws} h e k) = omega (arith, widths-most (getD s at 0) ws e)
+
+pub refused-near : (s : List ℕ) (at : ℕ) → readAt s at ≡ Refused 2 → length s < at + 32
+refused-near s at e = refused-left (found-at e)
+
+-- ---- a command is as long as what it is written as
+
+write-long : (c : Command) → length (write c) ≡ 1 + total (widthsFor c)
+unfolding table widthsOf total bytesOf writeOperands write
+write-long (contractᶜ k) = refl
+write-long (windowᶜ w) = refl
+write-long (instructionᶜ i) = refl
+write-long (defaultᶜ d) = refl
+write-long (readingᶜ r) = refl
+write-long closeᶜ = refl
+
+-- a command of the table has the byte that it was read by
+byte-back : (b : ℕ) (v ws : List ℕ) → widthsOf b table ≡ some ws → byteOf (commandOf b v) ≡ b
+unfolding table widthsOf commandOf
+byte-back b v ws e =
+    try 0x43 refl
+    (λ k. try 0x57 refl
+    (λ l. try 0x49 refl
+    (λ m. try 0x44 refl
+    (λ n. try 0x4D refl
+    (λ o. try 0x5A refl
+    (λ p. absurd (Option·none-ne-some ws (rw (k, l, m, n, o, p) at e))))))))
+  where
+    try : (n : ℕ) → byteOf (commandOf n v) ≡ n → (eqb n b ≡ false → byteOf (commandOf b v) ≡ b) → byteOf (commandOf b v) ≡ b
+    try n h rest = go (eqb n b) refl
+      where
+        go : (t : Bool) → eqb n b ≡ t → byteOf (commandOf b v) ≡ b
+        go true k = subst (λ x. byteOf (commandOf x v) ≡ x) (eqb-true n b k) h
+        go false k = rest k
+
+got-size : {s : List ℕ} {at next : ℕ} {c : Command} → Found s at (Got c next) → next ≡ at + length (write c)
+got-size {s} {at} (entire {ws} h e k) =
+    let b : ℕ = getD s at 0 in
+    let v : List ℕ = operands ws (drop (at + 1) s) in
+    let widths : widthsFor (commandOf b v) ≡ ws = rw (byte-back b v ws e, e) in
+    ap (λ n. at + n) (sym (write-long (commandOf b v) ∙ ap (λ x. 1 + total x) widths))
+
+pub got-long : (s : List ℕ) (at : ℕ) {c : Command} {next : ℕ} → readAt s at ≡ Got c next → next ≡ at + length (write c)
+got-long s at e = got-size (found-at e)
+
+-- ---- what a step gives, by what is read
+
 pub step-got : (s : List ℕ) (at : ℕ) {c : Command} {next : ℕ} → readAt s at ≡ Got c next → stepAt s at ≡ record { read = Got c next; at = next }
 unfolding stepAt
 step-got s at e = rw e

@@ -1,29 +1,49 @@
--- `lister::input::enter_input` is safe and ends: the book stays sound, and offsets stay small.
-use mathlib.Core.Path.{_≡_, refl, sym}
+-- `lister::input::enter_input` meets its contract: all bytes so far, entered as one file, end as the loop stands, and each full buffer moves the offset on.
+use mathlib.Core.Path.{_≡_, refl, sym, subst, subst⁻¹}
 use mathlib.Core.Bool.{true}
 use mathlib.Core.List.{[]}
 use borrow.Author.Needs.{needs}
-use Prim.Native.Nat.{_≤_, _-_, _*_}
+use Prim.Native.Nat.{_≤_, _+_, _-_, _*_}
 use native.Mathlib.Omega.{arith}
-use lib.ListN.{length}
+use lib.Dec.{T}
+use lib.ListN.{length, take}
 use lib.Seq.{length-take-le}
 use Rattle.book.specs.Sound.{sound}
 use Rattle.book.proofs.Follow.{starts}
+use Rattle.stor.specs.Files.{unfinished}
+use Rattle.lister.proofs.Refill.{left-short, goes-full, SoFar, begins, far, Turn, turn, entered, again, forward}
 use Rattle.lister.proofs.input.enter_input.Statement.{statement}
 use Rattle.lister.proofs.input.enter_input.Tie as tie
 
 abbrev Inv-loop : tie.InvT-loop
-Inv-loop buffer₀ meter₀ e₀ kept₀ turns₀ buffer meter e kept turns =
-    (sound (e .book) ≡ true) × (kept ≤ length buffer) × (turns ≤ 4) × (e .offset ≤ 65536 * turns) × (length buffer ≡ length buffer₀) × (length meter ≡ length meter₀)
+Inv-loop buffer₀ meter₀ e₀ kept₀ buffer meter e kept =
+    (sound (e .book) ≡ true) × (kept ≤ length buffer) × (length buffer ≡ length buffer₀) × (length meter ≡ length meter₀) × SoFar meter₀ e meter (take kept buffer)
 
 abbrev μ-loop : tie.MeasureT-loop
-μ-loop buffer₀ meter₀ e₀ kept₀ turns₀ buffer meter e kept turns = 4 - turns
+μ-loop buffer₀ meter₀ e₀ kept₀ buffer meter e kept = 1761 + 7 * length meter - e .offset
+
+-- a turn, once the bytes that the buffer holds are entered
+turned : (c : tie.After-load Inv-loop μ-loop)
+    → Turn (c .before .before .before .before .before .before .before .before .before .before .before .args .meter .now) (c .before .before .before .before .before .before .before .before .loop .e) (c .before .before .before .before .before .before .fill .last .0) (c .before .before .before .before .before .before .fill .result) (c .load .result) (c .load .last .1 .1 .0)
+turned c =
+    let l = c .load in
+    let f = c .before .before .before .before .before .before .fill in
+    let t = c .before .before .before .before .before .before .before .before .loop in
+    turn (t .inv .4) (f .last .0) (t .kept) (f .result) (f .ensures .0) (f .ensures .1) (f .ensures .2) (l .result) (l .last .1 .1 .0) (l .ensures .0) (l .ensures .1) (l .ensures .3)
+
+-- where the loop goes on, more bytes can change the answer, and the buffer is full
+full : (c : tie.Else1 Inv-loop μ-loop) → T (unfinished (c .before .before .before .before .load .result .answer)) × (c .before .before .before .before .before .before .before .before .before .before .fill .result ≡ length (c .before .before .before .before .before .before .before .before .before .before .fill .last .0))
+full c =
+    let u = c .before .unfinished in
+    let f = c .before .before .before .before .before .before .before .before .before .before .fill in
+    let g = goes-full (u .result) (f .result) (length (f .last .0)) (c .if1 .left) in
+    (subst T (u .ensures) (g .0), g .1)
 
 empty-requires : tie.Need-empty-requires Inv-loop μ-loop
 empty-requires c κs = search needs
 
 loop-holds : tie.Need-loop-holds Inv-loop μ-loop
-loop-holds c = (rw (c .empty .ensures) (starts [] .left), omega arith, omega arith, omega arith, refl, refl)
+loop-holds c = (rw (c .empty .ensures) (starts [] .left), omega arith, refl, refl, begins _ _ (c .empty .ensures))
 
 fill-requires : tie.Need-fill-requires Inv-loop μ-loop
 fill-requires c κs = search needs
@@ -32,15 +52,20 @@ slice-reshare-prefix-load : tie.Need-slice-reshare-prefix-load Inv-loop μ-loop
 slice-reshare-prefix-load c = search needs
 
 slice-aggregate-load : tie.Need-slice-aggregate-load Inv-loop μ-loop
-slice-aggregate-load c = sym (length-take-le (c .before .before .before .before .fill .result) (c .before .before .before .before .fill .last .0) (c .before .before .before .before .fill .ensures))
+slice-aggregate-load c =
+    let f = c .before .before .before .before .fill in
+    sym (length-take-le (f .result) (f .last .0) (f .ensures .2))
 
 load-requires : tie.Need-load-requires Inv-loop μ-loop
 load-requires c κs = search needs
 
 add-if1 : tie.Need-add-if1 Inv-loop μ-loop
 add-if1 c =
+    let l = c .before .before .load in
     let f = c .before .before .before .before .before .before .before .before .fill in
-    omega (arith, c .before .before .load .ensures .3, length-take-le (f .result) (f .last .0) (f .ensures))
+    let t = c .before .before .before .before .before .before .before .before .before .before .loop in
+    let start = c .before .before .before .before .before .before .before .before .before .before .before .before .before in
+    omega (arith, far (t .inv .4), l .ensures .3, length-take-le (f .result) (f .last .0) (f .ensures .2), f .kept .0, t .inv .2, start .pre, start .good .1)
 
 unfinished-requires : tie.Need-unfinished-requires Inv-loop μ-loop
 unfinished-requires c κs = search needs
@@ -52,44 +77,40 @@ same-length-2 : tie.Need-same-length-2 Inv-loop μ-loop
 same-length-2 c = search needs
 
 returns : tie.Need-returns Inv-loop μ-loop
-returns c = search needs
+returns c =
+    let u = c .before .unfinished in
+    let f = c .before .before .before .before .before .before .before .before .before .before .fill in
+    entered (turned (c .before .before .before .before))
+    (λ going. left-short (u .result) (f .result) (length (f .last .0)) (f .ensures .2) (c .if1 .taken) (subst⁻¹ T (u .ensures) going))
 
 keep-requires : tie.Need-keep-requires Inv-loop μ-loop
 keep-requires c κs =
     let f = c .before .before .before .before .before .before .before .before .before .before .before .fill in
-    (omega (arith, c .before .before .before .before .before .load .ensures .3, length-take-le (f .result) (f .last .0) (f .ensures)), f .ensures)
-
-add-turns : tie.Need-add-turns Inv-loop μ-loop
-add-turns c = search needs
+    (omega (arith, c .before .before .before .before .before .load .ensures .3, length-take-le (f .result) (f .last .0) (f .ensures .2)), f .ensures .2)
 
 loop-less : tie.Need-loop-less Inv-loop μ-loop
-loop-less c = search needs
+loop-less c =
+    let g = full (c .before .before .before .before) in
+    let l = c .before .before .before .before .before .before .before .before .load in
+    let f = c .before .before .before .before .before .before .before .before .before .before .before .before .before .before .fill in
+    let t = c .before .before .before .before .before .before .before .before .before .before .before .before .before .before .before .before .loop in
+    let start = c .before .before .before .before .before .before .before .before .before .before .before .before .before .before .before .before .before .before .before in
+    let on = forward (turned (c .before .before .before .before .before .before .before .before)) (g .0) (omega (arith, g .1, f .kept .0, t .inv .2, start .pre)) in
+    omega (arith, on, l .kept, t .inv .3)
 
 loop-again : tie.Need-loop-again Inv-loop μ-loop
 loop-again c =
     let k = c .before .before .keep in
+    let g = full (c .before .before .before .before) in
     let l = c .before .before .before .before .before .before .before .before .load in
-    let filled = c .before .before .before .before .before .before .before .before .before .before .before .before .before .before in
-    let f = filled .fill in
-    let turn = filled .before .before in
-    let inv = turn .before .loop .inv in
-    let start = turn .before .before .before .before in (
+    let f = c .before .before .before .before .before .before .before .before .before .before .before .before .before .before .fill in
+    let t = c .before .before .before .before .before .before .before .before .before .before .before .before .before .before .before .before .loop in (
       l .ensures .2,
-      k .ensures,
-      omega (arith, turn .loop-test .taken),
-      omega (arith, l .ensures .3, length-take-le (f .result) (f .last .0) (f .ensures), f, inv, start .pre),
-      search (needs, k, f, inv),
-      search (needs, l, inv),
+      omega (arith, k .ensures .1, k .kept .0, f .ensures .2),
+      search (needs, k, f, t .inv),
+      search (needs, l, t .inv),
+      again (turned (c .before .before .before .before .before .before .before .before)) (g .0) (take (k .result) (k .last .0)) (k .ensures .0),
     )
-
-same-length-3 : tie.Need-same-length-3 Inv-loop μ-loop
-same-length-3 c = search needs
-
-same-length-4 : tie.Need-same-length-4 Inv-loop μ-loop
-same-length-4 c = search needs
-
-returns-2 : tie.Need-returns-2 Inv-loop μ-loop
-returns-2 c = search needs
 
 pub enter-input-spec : {M : Type 1} → statement M
 enter-input-spec =
@@ -109,9 +130,5 @@ enter-input-spec =
     same-length-2
     returns
     keep-requires
-    add-turns
     loop-less
-    loop-again
-    same-length-3
-    same-length-4
-    returns-2)
+    loop-again)
