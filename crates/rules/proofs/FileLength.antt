@@ -14,14 +14,14 @@ use Rattle.energy.specs.Lists.{concatMap, count, first, isEmpty, isSome, later,
 use Rattle.energy.proofs.Tests.{to-T}
 use Rattle.rules.specs.Ledger.{Ledger, ledgerOf, noContract, contractOf, spanOf, readingIn, readingOf}
 use Rattle.rules.specs.Refusal.{refusal, joined, takenAfter, taken}
-use Rattle.rules.specs.File.{total, table, widthsOf, widthsFor, write}
+use Rattle.rules.specs.File.{total, table, widthsOf, write}
 use Rattle.rules.specs.Reached.{Reached, untouched, agreed}
 use Rattle.rules.specs.FileLength.{FileLength·theorem}
 use Rattle.commands.specs.declared.entries.Reading.{Reading}
 use Rattle.commands.specs.declared.entries.Command.{Command}
 use Rattle.commands.specs.declared.entries.Command.the-variants.{Contract as contractᶜ, Window as windowᶜ, Instruction as instructionᶜ, Default as defaultᶜ, Reading as readingᶜ, Close as closeᶜ}
 use Rattle.rules.proofs.Reached.{step as keeps, start}
-use Rattle.rules.proofs.Reread.{reread}
+use Rattle.rules.proofs.Operands.{write-long}
 use Rattle.rules.proofs.Taken.{grown, ledgerOf-snoc, concatMap-append, Allowed, allowed}
 
 -- ---- fewer minutes pass a test
@@ -91,10 +91,6 @@ room size g =
 longer : {A : Type 0} (xs : List A) (x : A) → length (xs ++ (x ∷ [])) ≡ length xs + 1
 longer xs x = length-append xs (x ∷ [])
 
--- the bytes of a command, by its row of the table
-costs : (size : ℕ) (g : Ledger) (c : Command) → Allowed size g c → length (write c) ≡ 1 + total (widthsFor c)
-costs size g c a = reread .size c (reread .ranged c (a .operands))
-
 -- no contract is there yet
 none-yet : {A : Type 0} (xs : List A) → (not (isEmpty xs) && true) ≡ false → length xs ≡ 0
 unfolding isEmpty
@@ -123,24 +119,24 @@ module _ (g : Ledger) (r : Reading) (new : isSome (g .reading (r .minute .0)) �
 step : (size : ℕ) (g : Ledger) (c : Command) → spanOf (contractOf g) ≤ size → Allowed size g c → length (write c) + room size (grown g c) ≤ room size g
 unfolding room later table widthsOf total
 step size g (contractᶜ k) s a =
-    let cost : length (write (contractᶜ k)) ≡ 32 = costs size g (contractᶜ k) a in
+    let cost : length (write (contractᶜ k)) ≡ 32 = write-long (contractᶜ k) in
     simp (append-nil, length-append, or-false) (omega (arith, none-yet (g .contracts) (a .only)))
 step size g (windowᶜ w) s a =
-    let cost : length (write (windowᶜ w)) ≡ 6 = costs size g (windowᶜ w) a in
+    let cost : length (write (windowᶜ w)) ≡ 6 = write-long (windowᶜ w) in
     simp (append-nil, length-append, or-false) (omega (arith, leb-false 128 (length (g .windows)) (a .room)))
 step size g (instructionᶜ i) s a =
-    let cost : length (write (instructionᶜ i)) ≡ 5 = costs size g (instructionᶜ i) a in
+    let cost : length (write (instructionᶜ i)) ≡ 5 = write-long (instructionᶜ i) in
     simp (append-nil, length-append, or-false) (omega (arith, leb-false 64 (length (g .instructions)) (a .room)))
 step size g (defaultᶜ d) s a =
-    let cost : length (write (defaultᶜ d)) ≡ 5 = costs size g (defaultᶜ d) a in
+    let cost : length (write (defaultᶜ d)) ≡ 5 = write-long (defaultᶜ d) in
     simp (append-nil, length-append, or-false) (omega (arith, leb-false 128 (length (g .defaults)) (a .room)))
 step size g (readingᶜ r) s a =
-    let cost : length (write (readingᶜ r)) ≡ 7 = costs size g (readingᶜ r) a in
+    let cost : length (write (readingᶜ r)) ≡ 7 = write-long (readingᶜ r) in
     let inside : r .minute .0 < size = omega (arith, leb-false (spanOf (contractOf g)) (r .minute .0) (a .inside)) in
     let less : suc (count (bare (grown g (readingᶜ r))) (between 0 size)) ≤ count (bare g) (between 0 size) = fewer-bare g r (a .unread) size inside in
     simp (append-nil, or-false) (omega arith)
 step size g closeᶜ s a =
-    let cost : length (write closeᶜ) ≡ 1 = costs size g closeᶜ a in
+    let cost : length (write closeᶜ) ≡ 1 = write-long closeᶜ in
     simp append-nil (rw (a .notClosed) (omega arith))
 
 -- ---- a list

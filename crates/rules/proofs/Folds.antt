@@ -79,7 +79,7 @@ module _ {A B : Type 0} where
   concatMap-snoc f [] x = append-nil (f x)
   concatMap-snoc f (y ∷ xs) x = ap (λ l. f y ++ l) (concatMap-snoc f xs x) ∙ sym (append-assoc (f y) (concatMap f xs) (f x))
 
-  -- an array that is held as a list of another type is as long
+  -- an array's length, as owning it tells, is that of the list of its elements' values
   pub length-mapped : (f : A → B) (l : List A) (n : ℕ) → length (map f l) ≡ n → length l ≡ n
   length-mapped f l n e = sym (length-map l f) ∙ e
 

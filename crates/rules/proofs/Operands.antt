@@ -1,4 +1,4 @@
--- Operands and their bytes: what is written in some bytes, high byte first, is read from them.
+-- Operands and their bytes: what is written in some bytes, high byte first, is read from them, and how long it is.
 use mathlib.Core.Path.{_≡_, refl, sym, ap, ap₂, _∙_, subst}
 use mathlib.Core.List.{List, [], _∷_, _++_, append-assoc}
 use Prim.Native.Nat.{ℕ, zero, suc, _+_, _*_, _/_, _%_, _^_, _<_}
@@ -9,8 +9,10 @@ use lib.Dec.{T, lit<, ltb, ltb→lt}
 use lib.ListN.{length, length-append}
 use lib.Seq.{take-at, drop-at}
 use Rattle.energy.proofs.Tests.{T-and}
-use Rattle.rules.specs.File.{total, wordFrom, bytesOf, operands, writeOperands}
+use Rattle.rules.specs.File.{table, widthsOf, total, wordFrom, bytesOf, operands, writeOperands, widthsFor, write}
 use Rattle.rules.specs.Reread.{fit}
+use Rattle.commands.specs.declared.entries.Command.{Command}
+use Rattle.commands.specs.declared.entries.Command.the-variants.{Contract as contractᶜ, Window as windowᶜ, Instruction as instructionᶜ, Default as defaultᶜ, Reading as readingᶜ, Close as closeᶜ}
 
 length-bytes : (w n : ℕ) → length (bytesOf w n) ≡ w
 unfolding bytesOf
@@ -53,3 +55,13 @@ length-operands (w ∷ ws) [] t = absurd t
 length-operands (w ∷ ws) (n ∷ v) t =
     length-append (bytesOf w n) (writeOperands ws v)
     ∙ ap₂ _+_ (length-bytes w n) (length-operands ws v (T-and (ltb n (256 ^ w)) (fit ws v) t .1))
+
+-- a command is as long as its row of the table says
+pub write-long : (c : Command) → length (write c) ≡ 1 + total (widthsFor c)
+unfolding table widthsOf total bytesOf writeOperands write
+write-long (contractᶜ k) = refl
+write-long (windowᶜ w) = refl
+write-long (instructionᶜ i) = refl
+write-long (defaultᶜ d) = refl
+write-long (readingᶜ r) = refl
+write-long closeᶜ = refl

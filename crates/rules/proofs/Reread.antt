@@ -21,7 +21,7 @@ use Rattle.commands.specs.declared.entries.Command.{Command}
 use Rattle.commands.specs.declared.entries.Command.the-variants.{Contract as contractᶜ, Window as windowᶜ, Instruction as instructionᶜ, Default as defaultᶜ, Reading as readingᶜ, Close as closeᶜ}
 use Rattle.rules.specs.declared.file.Read.{Read}
 use Rattle.rules.specs.declared.file.Read.the-variants.{Got, End, Refused}
-use Rattle.rules.proofs.Operands.{operands-back, length-operands}
+use Rattle.rules.proofs.Operands.{operands-back, length-operands, write-long}
 use Rattle.commands.proofs.Chain.{apart}
 use Rattle.commands.proofs.Terms.{ranges, bounds}
 
@@ -125,14 +125,10 @@ module _ (c : Command) (t : T (sayable c)) where
   unfolding sayable
   says = T-and (signFits c) (fit (widthsFor c) (operandsOf c)) t
 
-  size : length (write c) ≡ 1 + total (widthsFor c)
-  unfolding write
-  size = omega (arith, length-operands (widthsFor c) (operandsOf c) (says .1))
-
   read-one : (before after : List ℕ) → readAt (before ++ write c ++ after) (length before) ≡ Got c (length before + length (write c))
   unfolding write
   read-one before after =
-      rw (append-assoc before (write c) after, read-layout before after (byteOf c) (widthsFor c) (operandsOf c) (in-table c) (says .1), command-back c (says .0), size)
+      rw (append-assoc before (write c) after, read-layout before after (byteOf c) (widthsFor c) (operandsOf c) (in-table c) (says .1), command-back c (says .0), write-long c)
 
 -- ---- a whole file
 
@@ -150,11 +146,11 @@ read-all : (fuel : ℕ) (before : List ℕ) (cs : List Command) → T (all sayab
 unfolding all concatMap commandsFrom
 read-all fuel before [] t h = none-left fuel (before ++ []) (length before) (rw (append-nil before) (le-refl (length before)))
 read-all zero before (c ∷ cs) t h =
-    absurd (omega (arith, length-append (write c) (concatMap write cs), size c (T-and (sayable c) (all sayable cs) t .0)))
+    absurd (omega (arith, length-append (write c) (concatMap write cs), write-long c))
 read-all (suc fuel) before (c ∷ cs) t h =
     let q = T-and (sayable c) (all sayable cs) t in
     let rest : List ℕ = concatMap write cs in
-    let n : length rest ≤ fuel = omega (arith, length-append (write c) rest, size c (q .0)) in
+    let n : length rest ≤ fuel = omega (arith, length-append (write c) rest, write-long c) in
     rw (sym (append-assoc before (write c) rest), read-one c (q .0) before rest, sym (length-append before (write c)))
     (ap (λ l. c ∷ l) (read-all fuel (before ++ write c) cs (q .1) n))
 
@@ -196,7 +192,7 @@ pub reread : Reread
 unfolding commandsIn
 reread =
     record {
-      size = size;
+      size = write-long;
       command = λ before after c t. read-one c t before after;
       file = λ cs t. read-all (length (concatMap write cs)) [] cs t (le-refl (length (concatMap write cs)));
       ranged = ranged;

@@ -35,7 +35,7 @@ sayable c = signFits c && fit (widthsFor c) (operandsOf c)
 
 pub record Reread : Type 0 where
   -- it is written at its whole length, and read back wherever it stands
-  pub size : (c : Command) → T (sayable c) → length (write c) ≡ 1 + total (widthsFor c)
+  pub size : (c : Command) → length (write c) ≡ 1 + total (widthsFor c)
   pub command :
       (before after : List ℕ) (c : Command)
       → T (sayable c)

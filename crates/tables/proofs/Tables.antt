@@ -7,7 +7,7 @@ use native.Mathlib.Numerals.{add-one, sub-one}
 use native.Mathlib.Omega.{arith}
 use lib.IntN.{ℤ, pos, negsuc}
 use lib.Dec.{T, eqb, leb}
-use lib.ListN.{length, length-map, getD, take, drop, set, drop-of-length-le}
+use lib.ListN.{length, getD, take, drop, set, drop-of-length-le}
 use lib.Seq.{drop-cons, slice, slice-cons, take-suc, take-suc-set, take-all, length-take-le}
 use borrow.Author.Tests.{ne-eqb, leb-false}
 use mir.Syntax.{w64}
@@ -49,10 +49,6 @@ zero-bits (pos n) h = refl
 zero-bits (negsuc n) h = ne-eqb (2 ^ 64 - suc n) 0 (λ e. omega (arith, parts-fit w64 (negsuc n) h))
 
 -- ---- arrays
-
--- an array's length, as owning it tells, is that of the list of its elements' values
-pub length-mapped : (X Y : Type 0) (f : X → Y) (l : List X) (n : ℕ) → length (map f l) ≡ n → length l ≡ n
-length-mapped X Y f l n e = sym (length-map l f) ∙ e
 
 module _ {A : Type 0} where
   -- one turn of a walk over the entries from i up to n

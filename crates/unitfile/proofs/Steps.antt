@@ -9,9 +9,9 @@ use native.Mathlib.Omega.{arith}
 use borrow.Author.Tests.{eqb-true}
 use lib.Dec.{eqb}
 use lib.ListN.{length, getD, drop}
-use Rattle.rules.specs.File.{table, widthsOf, total, bytesOf, operands, commandOf, readAt, byteOf, writeOperands, widthsFor, write, commandsFrom}
+use Rattle.rules.specs.File.{table, widthsOf, total, operands, commandOf, readAt, byteOf, widthsFor, write, commandsFrom}
 use Rattle.commands.specs.declared.entries.Command.{Command}
-use Rattle.commands.specs.declared.entries.Command.the-variants.{Contract as contractᶜ, Window as windowᶜ, Instruction as instructionᶜ, Default as defaultᶜ, Reading as readingᶜ, Close as closeᶜ}
+use Rattle.rules.proofs.Operands.{write-long}
 use Rattle.format.proofs.Rows.{widths-most}
 use Rattle.rules.specs.declared.file.Read.{Read}
 use Rattle.rules.specs.declared.file.Read.the-variants.{Got, Refused, End}
@@ -41,15 +41,6 @@ pub refused-near : (s : List ℕ) (at : ℕ) → readAt s at ≡ Refused 2 → l
 refused-near s at e = refused-left (found-at e)
 
 -- ---- a command is as long as what it is written as
-
-write-long : (c : Command) → length (write c) ≡ 1 + total (widthsFor c)
-unfolding table widthsOf total bytesOf writeOperands write
-write-long (contractᶜ k) = refl
-write-long (windowᶜ w) = refl
-write-long (instructionᶜ i) = refl
-write-long (defaultᶜ d) = refl
-write-long (readingᶜ r) = refl
-write-long closeᶜ = refl
 
 -- a command of the table has the byte that it was read by
 byte-back : (b : ℕ) (v ws : List ℕ) → widthsOf b table ≡ some ws → byteOf (commandOf b v) ≡ b

@@ -14,10 +14,11 @@ use Rattle.energy.specs.Lists.{concatMap, run, between}
 use Rattle.energy.proofs.Sums.{between-snoc}
 use Rattle.rules.specs.Ledger.{spanOf}
 use Rattle.commands.specs.Input.{isReading}
-use Rattle.rules.specs.File.{table, widthsOf, bytesOf, writeOperands, write, readingAt}
+use Rattle.rules.specs.File.{table, widthsOf, total, write, readingAt}
 use Rattle.commands.specs.declared.entries.Reading.{Reading}
 use Rattle.commands.specs.declared.entries.Command.{Command}
 use Rattle.commands.specs.declared.entries.Command.the-variants.{Contract as contractᶜ, Window as windowᶜ, Instruction as instructionᶜ, Default as defaultᶜ, Reading as readingᶜ, Close as closeᶜ}
+use Rattle.rules.proofs.Operands.{write-long}
 use Rattle.rules.proofs.Taken.{concatMap-append}
 use Rattle.meter.specs.Meter.{cell, missing}
 use Rattle.book.specs.declared.Book.{Book}
@@ -29,31 +30,14 @@ use Rattle.writer.proofs.WrittenLaid.{bytes-one, length-both, room-firs
 
 -- ---- how long a command is
 
-sizeOf : Command → ℕ
-sizeOf (contractᶜ k) = 32
-sizeOf (windowᶜ w) = 6
-sizeOf (instructionᶜ i) = 5
-sizeOf (defaultᶜ d) = 5
-sizeOf (readingᶜ r) = 7
-sizeOf closeᶜ = 1
-
-size : (c : Command) → length (write c) ≡ sizeOf c
-unfolding table widthsOf bytesOf writeOperands write sizeOf
-size (contractᶜ k) = refl
-size (windowᶜ w) = refl
-size (instructionᶜ i) = refl
-size (defaultᶜ d) = refl
-size (readingᶜ r) = refl
-size closeᶜ = refl
-
 pub write-short : (c : Command) → length (write c) ≤ 32
-unfolding sizeOf
-write-short (contractᶜ k) = omega (arith, size (contractᶜ k))
-write-short (windowᶜ w) = omega (arith, size (windowᶜ w))
-write-short (instructionᶜ i) = omega (arith, size (instructionᶜ i))
-write-short (defaultᶜ d) = omega (arith, size (defaultᶜ d))
-write-short (readingᶜ r) = omega (arith, size (readingᶜ r))
-write-short closeᶜ = omega (arith, size closeᶜ)
+unfolding table widthsOf total
+write-short (contractᶜ k) = omega (arith, write-long (contractᶜ k))
+write-short (windowᶜ w) = omega (arith, write-long (windowᶜ w))
+write-short (instructionᶜ i) = omega (arith, write-long (instructionᶜ i))
+write-short (defaultᶜ d) = omega (arith, write-long (defaultᶜ d))
+write-short (readingᶜ r) = omega (arith, write-long (readingᶜ r))
+write-short closeᶜ = omega (arith, write-long closeᶜ)
 
 pub bytes-short : (cs : List Command) → length (fileBytes cs) ≤ 32 * length cs
 unfolding concatMap
@@ -90,10 +74,10 @@ module _ {A : Type 0} (f : A → Command) (k : ℕ) (alike : (x : A) → length 
       sym (ap (λ cs. length (fileBytes cs)) (take-map f n (x ∷ xs)) ∙ length-alike (take n (x ∷ xs)) ∙ rw (long, alike x))
 
 pub entries-length : (b : Book) (t : Table) → Tabled b t → usedIn b t * length (write (getD (placesIn b t) 0 closeᶜ)) ≡ length (fileBytes (entries b t))
-unfolding sizeOf
-entries-length b Windows h = length-table windowᶜ 6 (λ w. size (windowᶜ w)) (b .windows) (b .nwindows) (h .least) (h .few)
-entries-length b Instructions h = length-table instructionᶜ 5 (λ i. size (instructionᶜ i)) (b .instructions) (b .ninstructions) (h .least) (h .few)
-entries-length b Defaults h = length-table defaultᶜ 5 (λ d. size (defaultᶜ d)) (b .defaults) (b .ndefaults) (h .least) (h .few)
+unfolding table widthsOf total
+entries-length b Windows h = length-table windowᶜ 6 (λ w. write-long (windowᶜ w)) (b .windows) (b .nwindows) (h .least) (h .few)
+entries-length b Instructions h = length-table instructionᶜ 5 (λ i. write-long (instructionᶜ i)) (b .instructions) (b .ninstructions) (h .least) (h .few)
+entries-length b Defaults h = length-table defaultᶜ 5 (λ d. write-long (defaultᶜ d)) (b .defaults) (b .ndefaults) (h .least) (h .few)
 
 pub entries-short : (b : Book) (t : Table) → Tabled b t → length (fileBytes (entries b t)) ≤ 4096
 entries-short b t h = omega (arith, bytes-short (entries b t), length-take-le (usedIn b t) (placesIn b t) (h .few), h .few, h .most)
@@ -122,11 +106,11 @@ once-most true = le-refl 1
 once-most false = omega arith
 
 cell-length : (z : ℤ) (m : ℕ) → length (fileBytes (readingAt (cell z) m)) ≡ length (readingAt (cell z) m) * 7
-unfolding concatMap sizeOf
+unfolding concatMap table widthsOf total
 cell-length z m = go (isReading z)
   where
     go : (b : Bool) → length (fileBytes (readingAt (cond b (some z) none) m)) ≡ length (readingAt (cond b (some z) none) m) * 7
-    go true = ap length (bytes-one (readingᶜ (record { minute = record { 0 = m }; kw = record { 0 = z } }))) ∙ size (readingᶜ (record { minute = record { 0 = m }; kw = record { 0 = z } }))
+    go true = ap length (bytes-one (readingᶜ (record { minute = record { 0 = m }; kw = record { 0 = z } }))) ∙ write-long (readingᶜ (record { minute = record { 0 = m }; kw = record { 0 = z } }))
     go false = refl
 
 module _ (meter : List ℤ) where
@@ -158,8 +142,8 @@ module _ (meter : List ℤ) where
       (omega (arith, length-both (readings meter n) (turn n), length-append (readings meter n) (turn n), sevens n, cell-length (getD meter n missing) n))
 
   pub readings-length : {n span long : ℕ} (r : Reading) (k : ℕ) → span ≡ k → n ≡ length (readings meter span) → long ≡ n * length (write (readingᶜ r)) → long ≡ length (fileBytes (readings meter k))
-  unfolding sizeOf
-  readings-length r k e f g = g ∙ rw (f, e, size (readingᶜ r)) (sym (sevens k))
+  unfolding table widthsOf total
+  readings-length r k e f g = g ∙ rw (f, e, write-long (readingᶜ r)) (sym (sevens k))
 
 -- ---- all of them
 

@@ -6,7 +6,7 @@ use lib.ListN.{length, take}
 use Rattle.energy.proofs.Tests.{of-T}
 use Rattle.rules.specs.Reached.{windowsSound}
 use Rattle.commands.specs.declared.entries.Command.the-variants.{Default as defaultᶜ}
-use Rattle.tables.proofs.Tables.{length-mapped}
+use Rattle.rules.proofs.Folds.{length-mapped}
 use Rattle.book.proofs.Tested.{Tables, sound-parts, sound-used}
 use Rattle.book.proofs.Numbers.{firstOf, Late, met-first, met-late, default-later}
 use Rattle.book.proofs.Book.default_refusal.Statement.{statement}

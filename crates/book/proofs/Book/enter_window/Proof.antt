@@ -4,7 +4,7 @@ use Prim.Native.Nat.{_<_}
 use native.Mathlib.Omega.{arith}
 use lib.ListN.{length}
 use Rattle.commands.specs.declared.entries.Command.the-variants.{Window as windowᶜ}
-use Rattle.tables.proofs.Tables.{length-mapped}
+use Rattle.rules.proofs.Folds.{length-mapped}
 use Rattle.book.proofs.Entered.{refused-entry, taken-entry, window-room}
 use Rattle.book.proofs.Book.enter_window.Statement.{statement}
 use Rattle.book.proofs.Book.enter_window.Tie as tie

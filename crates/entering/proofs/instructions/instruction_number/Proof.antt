@@ -3,7 +3,7 @@ use borrow.Author.Needs.{needs}
 use mathlib.Core.Path.{_≡_}
 use lib.ListN.{length}
 use lib.Seq.{length-take-le}
-use Rattle.tables.proofs.Tables.{length-mapped}
+use Rattle.rules.proofs.Folds.{length-mapped}
 use Rattle.entering.specs.Numbers.{instructionNumber}
 use Rattle.entering.proofs.instructions.instruction_number.Statement.{statement}
 use Rattle.entering.proofs.instructions.instruction_number.Tie as tie

@@ -7,7 +7,8 @@ use lib.ListN.{length, take}
 use lib.Seq.{length-take-le}
 use Rattle.rules.specs.Ledger.{endOf, noInstruction}
 use Rattle.commands.specs.declared.entries.Instruction.{Instruction}
-use Rattle.tables.proofs.Tables.{length-mapped, last-used}
+use Rattle.rules.proofs.Folds.{length-mapped}
+use Rattle.tables.proofs.Tables.{last-used}
 use Rattle.tables.proofs.Walks.{recovered-last}
 use Rattle.entering.proofs.instructions.ready.Statement.{statement}
 use Rattle.entering.proofs.instructions.ready.Tie as tie

@@ -5,7 +5,8 @@ use native.Mathlib.Omega.{arith}
 use lib.ListN.{length}
 use Rattle.energy.specs.Lists.{last}
 use Rattle.rules.specs.Ledger.{noWindow}
-use Rattle.tables.proofs.Tables.{length-mapped, last-used}
+use Rattle.rules.proofs.Folds.{length-mapped}
+use Rattle.tables.proofs.Tables.{last-used}
 use Rattle.tables.proofs.Search.{endsAt}
 use Rattle.entering.proofs.windows.last_end.Statement.{statement}
 use Rattle.entering.proofs.windows.last_end.Tie as tie

@@ -8,7 +8,7 @@ use lib.ListN.{length}
 use Rattle.book.specs.Readings.{openSpan}
 use Rattle.book.specs.Sound.{Shaped}
 use Rattle.book.proofs.Kept.{Kept}
-use Rattle.tables.proofs.Tables.{length-mapped}
+use Rattle.rules.proofs.Folds.{length-mapped}
 use Rattle.stor.specs.Files.{load}
 use Rattle.stor.proofs.Pieces.{from}
 use Rattle.stor.proofs.Turns.{rest, more, again, keeps, inside, less, read-again, read-inside, read-none}

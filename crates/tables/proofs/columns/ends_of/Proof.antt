@@ -6,7 +6,8 @@ use native.Mathlib.Omega.{arith}
 use borrow.Author.Needs.{needs}
 use Rattle.commands.specs.declared.entries.Window.{Window}
 use Rattle.rules.specs.Ledger.{noWindow}
-use Rattle.tables.proofs.Tables.{length-mapped, column-turn, column-whole}
+use Rattle.rules.proofs.Folds.{length-mapped}
+use Rattle.tables.proofs.Tables.{column-turn, column-whole}
 use Rattle.tables.proofs.columns.ends_of.Statement.{statement}
 use Rattle.tables.proofs.columns.ends_of.Tie as tie
 

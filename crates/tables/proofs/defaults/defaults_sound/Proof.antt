@@ -14,7 +14,8 @@ use Rattle.rules.specs.Reached.{defaultSound}
 use Rattle.commands.specs.declared.contract.Contract.{Contract}
 use Rattle.commands.specs.declared.entries.Window.{Window}
 use Rattle.rules.specs.Ledger.{noDefault}
-use Rattle.tables.proofs.Tables.{length-mapped, all-fails, all-on, all-passes}
+use Rattle.rules.proofs.Folds.{length-mapped}
+use Rattle.tables.proofs.Tables.{all-fails, all-on, all-passes}
 use Rattle.tables.proofs.Search.{ordered}
 use Rattle.tables.proofs.Walks.{Columns, default-fits}
 use Rattle.tables.proofs.defaults.defaults_sound.Statement.{statement}

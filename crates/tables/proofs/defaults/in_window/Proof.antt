@@ -4,7 +4,7 @@ use Prim.Native.Nat.{_≤_}
 use native.Mathlib.Omega.{arith}
 use lib.ListN.{length}
 use Rattle.energy.proofs.Tests.{to-T}
-use Rattle.tables.proofs.Tables.{length-mapped}
+use Rattle.rules.proofs.Folds.{length-mapped}
 use Rattle.tables.proofs.Search.{ordered, in-table}
 use Rattle.tables.proofs.defaults.in_window.Statement.{statement}
 use Rattle.tables.proofs.defaults.in_window.Tie as tie

@@ -6,7 +6,7 @@ use borrow.Author.Tests.{not-true, not-false}
 use lib.ListN.{length, take}
 use lib.Seq.{slice, slice-empty}
 use Rattle.rules.specs.Reached.{instructionsSound}
-use Rattle.tables.proofs.Tables.{length-mapped}
+use Rattle.rules.proofs.Folds.{length-mapped}
 use Rattle.tables.proofs.Walks.{instructions-fail, instructions-on}
 use Rattle.tables.proofs.instructions.instructions_sound.Statement.{statement}
 use Rattle.tables.proofs.instructions.instructions_sound.Tie as tie

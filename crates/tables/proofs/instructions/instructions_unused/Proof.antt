@@ -6,7 +6,8 @@ use lib.ListN.{length, drop}
 use Rattle.energy.specs.Lists.{all}
 use Rattle.rules.specs.Ledger.{noInstruction}
 use Rattle.tables.specs.Unused.{isNoInstruction}
-use Rattle.tables.proofs.Tables.{length-mapped, all-fails, all-on, all-passes}
+use Rattle.rules.proofs.Folds.{length-mapped}
+use Rattle.tables.proofs.Tables.{all-fails, all-on, all-passes}
 use Rattle.tables.proofs.instructions.instructions_unused.Statement.{statement}
 use Rattle.tables.proofs.instructions.instructions_unused.Tie as tie
 

@@ -4,7 +4,7 @@ use native.Mathlib.Omega.{arith}
 use borrow.Author.Needs.{needs}
 use Rattle.commands.specs.declared.entries.Command.the-variants.{Window as windowᶜ, Instruction as instructionᶜ, Default as defaultᶜ}
 use Rattle.book.specs.Sound.{Shaped}
-use Rattle.tables.proofs.Tables.{length-mapped}
+use Rattle.rules.proofs.Folds.{length-mapped}
 use Rattle.book.specs.Book.{noWindow, noInstruction, noDefault}
 use Rattle.writer.proofs.WrittenParts.{place-below, place-is}
 use Rattle.writer.proofs.entries.entry.Statement.{statement}

@@ -1,7 +1,7 @@
 -- `writer::layout::put_book` meets its contract: each part goes after those before it.
 use borrow.Author.Needs.{needs}
 use Rattle.book.specs.Sound.{Shaped}
-use Rattle.tables.proofs.Tables.{length-mapped}
+use Rattle.rules.proofs.Folds.{length-mapped}
 use Rattle.writer.specs.Laid.{Tabled}
 use Rattle.writer.specs.declared.entries.Table.{Table}
 use Rattle.writer.proofs.WrittenParts.{room-contract, room-windows, room-instructions, room-defaults, room-readings, room-close, parts-laid}

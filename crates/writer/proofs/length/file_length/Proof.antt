@@ -7,7 +7,7 @@ use lib.ListN.{length}
 use Rattle.rules.specs.Ledger.{spanOf}
 use Rattle.commands.specs.declared.entries.Command.the-variants.{Contract as contractᶜ, Close as closeᶜ}
 use Rattle.book.specs.Sound.{Shaped}
-use Rattle.tables.proofs.Tables.{length-mapped}
+use Rattle.rules.proofs.Folds.{length-mapped}
 use Rattle.writer.specs.Laid.{fileBytes, parts, Tabled}
 use Rattle.writer.specs.declared.entries.Table.{Table}
 use Rattle.writer.proofs.WrittenParts.{once-most, once-length, readings-few, readings-length, parts-length, parts-short}
