@@ -2,20 +2,20 @@
 use mathlib.Core.Path.{_≡_, refl, sym, ap, _∙_}
 use mathlib.Core.Logic.{_≢_}
 use mathlib.Core.Bool.{Bool, true, false, not, _&&_, cond, false≢true}
-use mathlib.Core.List.{List, [], _∷_}
+use mathlib.Core.List.{List, [], _∷_, _++_}
 use mathlib.Core.Option.{Option, none, some}
 use Prim.Native.Nat.{ℕ, zero, suc, _≤_}
 use native.Mathlib.Omega.{arith}
 use lib.IntN.{ℤ}
-use lib.Dec.{eqb, ltb}
+use lib.Dec.{T, eqb, ltb}
 use lib.ListN.{length, getD, drop, take}
 use lib.Seq.{length-take-le}
 use borrow.Author.Tests.{ne-eqb}
 use Rattle.energy.specs.Lists.{first, isEmpty, isSome}
 use Rattle.commands.specs.Command.{onContract, always}
 use Rattle.rules.specs.Ledger.{isContract, spanOf}
-use Rattle.rules.specs.Refusal.{spanFor, conditions, refusal}
-use Rattle.commands.specs.Input.{isReading, inRange, rampTooLong, badWindow, Condition, lowest, inputRefusal, orZero}
+use Rattle.rules.specs.Refusal.{spanFor, bookConditions, kindConditions, conditions, refusal}
+use Rattle.commands.specs.Input.{isReading, Condition, inputConditions, lowest, inputRefusal, orZero}
 use Rattle.commands.specs.declared.contract.Contract.{Contract}
 use Rattle.commands.specs.declared.entries.Window.{Window}
 use Rattle.commands.specs.declared.entries.Instruction.{Instruction}
@@ -23,7 +23,7 @@ use Rattle.commands.specs.declared.entries.Default.{Default}
 use Rattle.commands.specs.declared.entries.Reading.{Reading}
 use Rattle.commands.specs.declared.entries.Command.{Command}
 use Rattle.commands.specs.declared.entries.Command.the-variants.{Contract as contractᶜ, Window as windowᶜ, Instruction as instructionᶜ, Default as defaultᶜ, Reading as readingᶜ, Close as closeᶜ}
-use Rattle.commands.proofs.Input.{input-cond}
+use Rattle.energy.proofs.Tests.{T-and}
 use Rattle.meter.specs.Meter.{missing}
 use Rattle.book.specs.Book.{ledgerIn}
 use Rattle.entering.specs.Numbers.{firstNumber, windowNumber, instructionNumber, defaultNumber, readingNumber}
@@ -33,6 +33,11 @@ use Rattle.book.specs.declared.Book.{Book}
 use Rattle.book.proofs.Tested.{contract-is}
 
 -- ---- all conditions
+
+-- every condition has a number
+abbrev pub numbered : List Condition → Bool
+numbered [] = true
+numbered (c ∷ cs) = ltb 0 (c .number) && numbered cs
 
 -- the number of the first condition that holds
 unfoldable pub numbers : List Condition → ℕ
@@ -50,29 +55,46 @@ lowest-number (c ∷ cs) = go (c .holds) (lowest-number cs)
 
 -- what a command meets in a book after 15
 abbrev pub laterConditions : Book → List ℤ → Command → List Condition
-laterConditions b meter c = drop 8 (conditions (not (sound b)) (length meter) (ledgerIn b meter) c)
+laterConditions b meter c = kindConditions (ledgerIn b meter) c
 
 -- the number from 3 to 15, of any command to a book
 abbrev pub firstOf : Book → List ℤ → Command → ℕ
 firstOf b meter c =
     firstNumber (inputRefusal c) (sound b) (b .closed) (b .agreed) (isContract c) (ltb (length meter) (onContract spanOf (always (spanOf (b .contract))) c))
 
--- the chain of the first eight conditions
-first-eight : (k : Contract) (p q r s z a f t t′ : Bool) (rest : ℕ) → (a ≡ true → t′ ≡ t) → (f ≡ true → t′ ≡ t)
-    → cond (not p) 3 (cond q 4 (cond r 5 (cond (not s) 11 (cond z 12 (cond (isEmpty (cond a (k ∷ []) []) && not f) 13 (cond (not (isEmpty (cond a (k ∷ []) [])) && f) 14 (cond t′ 15 rest)))))))
-    ≡ cond (eqb (firstNumber (cond (not p) 3 (cond q 4 (cond r 5 0))) s z a f t) 0) rest (firstNumber (cond (not p) 3 (cond q 4 (cond r 5 0))) s z a f t)
+-- of two lists of conditions the first decides, and where none of it holds the second
+numbers-append : (xs ys : List Condition) → T (numbered xs) → numbers (xs ++ ys) ≡ cond (eqb (numbers xs) 0) (numbers ys) (numbers xs)
+unfolding numbers
+numbers-append [] ys t = refl
+numbers-append (c ∷ xs) ys t = go (c .number) (c .holds) (T-and (ltb 0 (c .number)) (numbered xs) t .0) (numbers-append xs ys (T-and (ltb 0 (c .number)) (numbered xs) t .1))
+  where
+    go : (n : ℕ) (b : Bool) → T (ltb 0 n) → numbers (xs ++ ys) ≡ cond (eqb (numbers xs) 0) (numbers ys) (numbers xs)
+        → cond b n (numbers (xs ++ ys)) ≡ cond (eqb (cond b n (numbers xs)) 0) (numbers ys) (cond b n (numbers xs))
+    go zero true h e = absurd h
+    go (suc n) true h e = rw (ne-eqb (suc n) 0 (λ q. omega arith))
+    go n false h e = e
+
+-- the conditions from 11 to 15
+from-book : (k : Contract) (s z a f t t′ : Bool) (rest : ℕ) → (a ≡ true → t′ ≡ t) → (f ≡ true → t′ ≡ t)
+    → cond (not s) 11 (cond z 12 (cond (isEmpty (cond a (k ∷ []) []) && not f) 13 (cond (not (isEmpty (cond a (k ∷ []) [])) && f) 14 (cond t′ 15 rest))))
+    ≡ cond (eqb (firstNumber 0 s z a f t) 0) rest (firstNumber 0 s z a f t)
 unfolding firstNumber isEmpty
-first-eight k false q r s z a f t t′ rest g h = refl
-first-eight k true true r s z a f t t′ rest g h = refl
-first-eight k true false true s z a f t t′ rest g h = refl
-first-eight k true false false false z a f t t′ rest g h = refl
-first-eight k true false false true true a f t t′ rest g h = refl
-first-eight k true false false true false false false t t′ rest g h = refl
-first-eight k true false false true false true true t t′ rest g h = refl
-first-eight k true false false true false true false true t′ rest g h = rw (g refl)
-first-eight k true false false true false true false false t′ rest g h = rw (g refl)
-first-eight k true false false true false false true true t′ rest g h = rw (h refl)
-first-eight k true false false true false false true false t′ rest g h = rw (h refl)
+from-book k false z a f t t′ rest g h = refl
+from-book k true true a f t t′ rest g h = refl
+from-book k true false false false t t′ rest g h = refl
+from-book k true false true true t t′ rest g h = refl
+from-book k true false true false true t′ rest g h = rw (g refl)
+from-book k true false true false false t′ rest g h = rw (g refl)
+from-book k true false false true true t′ rest g h = rw (h refl)
+from-book k true false false true false t′ rest g h = rw (h refl)
+
+-- a number from the input comes before them
+from-input : (n : ℕ) (s z a f t : Bool) (rest : ℕ)
+    → cond (eqb n 0) (cond (eqb (firstNumber 0 s z a f t) 0) rest (firstNumber 0 s z a f t)) n
+    ≡ cond (eqb (firstNumber n s z a f t) 0) rest (firstNumber n s z a f t)
+unfolding firstNumber
+from-input zero s z a f t rest = refl
+from-input (suc n) s z a f t rest = rw (ne-eqb (suc n) 0 (λ q. omega arith)) (rw (ne-eqb (suc n) 0 (λ q. omega arith)) refl)
 
 -- the span that 15 asks for is the book's, or a contract's own
 span-asked : (b : Book) (meter : List ℤ) (c : Command) → isContract c ≡ true → spanFor (ledgerIn b meter) c ≡ onContract spanOf (always (spanOf (b .contract))) c
@@ -86,15 +108,18 @@ span-asked b meter closeᶜ e = absurd (false≢true e)
 -- conditions up to 15 come first
 pub by-first : (b : Book) (meter : List ℤ) (c : Command)
     → refusalOf b meter c ≡ cond (eqb (firstOf b meter c) 0) (numbers (laterConditions b meter c)) (firstOf b meter c)
-unfolding refusalOf refusal conditions numbers ledgerIn
+unfolding refusalOf refusal conditions numbers ledgerIn inputRefusal
 by-first b meter c =
+    let short : Bool = ltb (length meter) (onContract spanOf (always (spanOf (b .contract))) c) in
+    let rest : ℕ = numbers (laterConditions b meter c) in
     lowest-number (conditions (not (sound b)) (length meter) (ledgerIn b meter) c)
-    ∙ first-eight (b .contract) (inRange c) (rampTooLong c) (badWindow c) (sound b) (b .closed) (b .agreed) (isContract c)
-    (ltb (length meter) (onContract spanOf (always (spanOf (b .contract))) c)) (ltb (length meter) (spanFor (ledgerIn b meter) c)) (numbers (laterConditions b meter c))
+    ∙ numbers-append (inputConditions c) (bookConditions (not (sound b)) (length meter) (ledgerIn b meter) c ++ laterConditions b meter c) tt
+    ∙ ap (λ n. cond (eqb n 0) (numbers (bookConditions (not (sound b)) (length meter) (ledgerIn b meter) c ++ laterConditions b meter c)) n) (sym (lowest-number (inputConditions c)))
+    ∙ ap (λ m. cond (eqb (inputRefusal c) 0) m (inputRefusal c))
+    (from-book (b .contract) (sound b) (b .closed) (b .agreed) (isContract c) short (ltb (length meter) (spanFor (ledgerIn b meter) c)) rest
     (λ e. ap (λ k. ltb (length meter) (onContract spanOf (always (spanOf k)) c)) (contract-is b meter e))
-    (λ e. ap (ltb (length meter)) (span-asked b meter c e))
-    ∙ ap (λ n. cond (eqb (firstNumber n (sound b) (b .closed) (b .agreed) (isContract c) (ltb (length meter) (onContract spanOf (always (spanOf (b .contract))) c))) 0) (numbers (laterConditions b meter c)) (firstNumber n (sound b) (b .closed) (b .agreed) (isContract c) (ltb (length meter) (onContract spanOf (always (spanOf (b .contract))) c))))
-    (sym (input-cond c))
+    (λ e. ap (ltb (length meter)) (span-asked b meter c e)))
+    ∙ from-input (inputRefusal c) (sound b) (b .closed) (b .agreed) (isContract c) short rest
 
 -- ---- where no condition up to 15 holds
 

@@ -7,8 +7,8 @@ use lib.IntN.{ℤ}
 use lib.Dec.{ltb}
 use lib.ListN.{getD, take, set, replicate}
 use Rattle.rules.specs.Ledger.{Ledger, noContract, spanOf}
+use Rattle.commands.specs.Command.{onContract, onWindow, onInstruction, onDefault, onClose, always}
 use Rattle.commands.specs.declared.entries.Command.{Command}
-use Rattle.commands.specs.declared.entries.Command.the-variants.{Contract as contractᶜ, Window as windowᶜ, Instruction as instructionᶜ, Default as defaultᶜ, Reading as readingᶜ, Close as closeᶜ}
 pub use Rattle.rules.specs.Ledger.{noWindow, noInstruction, noDefault}
 use Rattle.meter.specs.Meter.{missing, cell}
 use Rattle.book.specs.declared.Book.{Book}
@@ -44,68 +44,19 @@ ledgerIn b meter =
 
 -- ---- a taken command put into the book
 
--- the book with a command's entry
+-- the book with a command's entry: what each kind of command changes, field by field
 abbrev pub putBook : Book → Command → Book
-putBook b (contractᶜ k) =
+putBook b c =
     record {
-      agreed = true;
-      closed = b .closed;
-      contract = k;
-      windows = b .windows;
-      nwindows = b .nwindows;
-      instructions = b .instructions;
-      ninstructions = b .ninstructions;
-      defaults = b .defaults;
-      ndefaults = b .ndefaults;
-    }
-putBook b (windowᶜ w) =
-    record {
-      agreed = b .agreed;
-      closed = b .closed;
-      contract = b .contract;
-      windows = set (b .windows) (b .nwindows) w;
-      nwindows = b .nwindows + 1;
-      instructions = b .instructions;
-      ninstructions = b .ninstructions;
-      defaults = b .defaults;
-      ndefaults = b .ndefaults;
-    }
-putBook b (instructionᶜ i) =
-    record {
-      agreed = b .agreed;
-      closed = b .closed;
-      contract = b .contract;
-      windows = b .windows;
-      nwindows = b .nwindows;
-      instructions = set (b .instructions) (b .ninstructions) i;
-      ninstructions = b .ninstructions + 1;
-      defaults = b .defaults;
-      ndefaults = b .ndefaults;
-    }
-putBook b (defaultᶜ d) =
-    record {
-      agreed = b .agreed;
-      closed = b .closed;
-      contract = b .contract;
-      windows = b .windows;
-      nwindows = b .nwindows;
-      instructions = b .instructions;
-      ninstructions = b .ninstructions;
-      defaults = set (b .defaults) (b .ndefaults) d;
-      ndefaults = b .ndefaults + 1;
-    }
-putBook b (readingᶜ r) = b
-putBook b closeᶜ =
-    record {
-      agreed = b .agreed;
-      closed = true;
-      contract = b .contract;
-      windows = b .windows;
-      nwindows = b .nwindows;
-      instructions = b .instructions;
-      ninstructions = b .ninstructions;
-      defaults = b .defaults;
-      ndefaults = b .ndefaults;
+      agreed = onContract (λ k. true) (always (b .agreed)) c;
+      closed = onClose true (always (b .closed)) c;
+      contract = onContract (λ k. k) (always (b .contract)) c;
+      windows = onWindow (λ w. set (b .windows) (b .nwindows) w) (always (b .windows)) c;
+      nwindows = onWindow (λ w. b .nwindows + 1) (always (b .nwindows)) c;
+      instructions = onInstruction (λ i. set (b .instructions) (b .ninstructions) i) (always (b .instructions)) c;
+      ninstructions = onInstruction (λ i. b .ninstructions + 1) (always (b .ninstructions)) c;
+      defaults = onDefault (λ d. set (b .defaults) (b .ndefaults) d) (always (b .defaults)) c;
+      ndefaults = onDefault (λ d. b .ndefaults + 1) (always (b .ndefaults)) c;
     }
 
 -- the book with the entries of a list of commands

@@ -7,9 +7,10 @@ use lib.IntN.{ℤ, negsuc}
 use lib.Dec.{eqb, ltb}
 use lib.ListN.{length, getD, drop, set, replicate}
 use Rattle.commands.specs.Input.{isReading, inputRefusal}
+use Rattle.commands.specs.Command.{onContract, onReading, always}
 use Rattle.rules.specs.Ledger.{spanOf}
 use Rattle.commands.specs.declared.entries.Command.{Command}
-use Rattle.commands.specs.declared.entries.Command.the-variants.{Contract as contractᶜ, Window as windowᶜ, Instruction as instructionᶜ, Default as defaultᶜ, Reading as readingᶜ, Close as closeᶜ}
+use Rattle.commands.specs.declared.entries.Command.the-variants.{Reading as readingᶜ}
 
 -- the mark of a minute without a reading
 abbrev pub missing : ℤ
@@ -21,22 +22,19 @@ cell z = cond (isReading z) (some z) none
 
 -- meter memory with a command's reading, or with a contract's span marked
 abbrev pub putMeter : List ℤ → Command → List ℤ
-putMeter meter (contractᶜ k) = replicate (spanOf k) missing ++ drop (spanOf k) meter
-putMeter meter (windowᶜ w) = meter
-putMeter meter (instructionᶜ i) = meter
-putMeter meter (defaultᶜ d) = meter
-putMeter meter (readingᶜ r) = set meter (r .minute .0) (r .kw .0)
-putMeter meter closeᶜ = meter
+putMeter meter c =
+    onContract (λ k. replicate (spanOf k) missing ++ drop (spanOf k) meter)
+    (onReading (λ r. set meter (r .minute .0) (r .kw .0))
+    (always meter))
+    c
 
 -- a reading with its operands in range, for a minute of the span that has a cell and no reading yet
 unfoldable pub takesReading : ℕ → List ℤ → Command → Bool
-takesReading span meter (contractᶜ k) = false
-takesReading span meter (windowᶜ w) = false
-takesReading span meter (instructionᶜ i) = false
-takesReading span meter (defaultᶜ d) = false
-takesReading span meter (readingᶜ r) =
-    eqb (inputRefusal (readingᶜ r)) 0
+takesReading span meter c =
+    onReading
+    (λ r. eqb (inputRefusal (readingᶜ r)) 0
     && ltb (r .minute .0) span
     && ltb (r .minute .0) (length meter)
-    && not (isReading (getD meter (r .minute .0) missing))
-takesReading span meter closeᶜ = false
+    && not (isReading (getD meter (r .minute .0) missing)))
+    (always false)
+    c

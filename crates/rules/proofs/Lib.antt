@@ -1,5 +1,4 @@
 pub mod Lists
-pub mod First
 pub mod Taken
 pub mod Tables
 pub mod Reached

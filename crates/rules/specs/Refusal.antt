@@ -75,16 +75,20 @@ tableFull g c =
 
 -- ---- the lowest number that applies
 
--- what a command meets. unleft: no list of commands leaves the book, which is never so of a book that one left; size: the length of meter memory
-unfoldable pub conditions : Bool → ℕ → Ledger → Command → List Condition
-conditions unleft size g c =
-    inputConditions c
-    ++ (11 when unleft)
+-- what any command meets at a book: size is the length of meter memory. unleft: no list of commands leaves the book, which is never so of a book that one left
+abbrev pub bookConditions : Bool → ℕ → Ledger → Command → List Condition
+bookConditions unleft size g c =
+    (11 when unleft)
     ∷ (12 when g .closed)
     ∷ (13 when isEmpty (g .contracts) && not (isContract c))
     ∷ (14 when not (isEmpty (g .contracts)) && isContract c)
     ∷ (15 when ltb size (spanFor g c))
-    ∷ (16 when beyondSpan g c)
+    ∷ []
+
+-- what a command meets for its own kind
+abbrev pub kindConditions : Ledger → Command → List Condition
+kindConditions g c =
+    (16 when beyondSpan g c)
     ∷ (17 when rejectedCommitted g c)
     ∷ (18 when windowOverlaps g c)
     ∷ (19 when ceaseEarly g c)
@@ -93,6 +97,10 @@ conditions unleft size g c =
     ∷ (22 when hasReading g c)
     ∷ (23 when tableFull g c)
     ∷ []
+
+-- what a command meets, in order: from its input, from the book, from its kind
+unfoldable pub conditions : Bool → ℕ → Ledger → Command → List Condition
+conditions unleft size g c = inputConditions c ++ bookConditions unleft size g c ++ kindConditions g c
 
 -- the number under which a command is turned down, if it is
 unfoldable pub refusal : Bool → ℕ → Ledger → Command → Option ℕ

@@ -16,9 +16,6 @@ use Rattle.tables.proofs.Walks.{contract-input}
 use Rattle.tables.proofs.agreed.agreed_sound.Statement.{statement}
 use Rattle.tables.proofs.agreed.agreed_sound.Tie as tie
 
-input-refusal-requires : tie.Need-input-refusal-requires
-input-refusal-requires c κs = search needs
-
 returns : tie.Need-returns
 returns c =
     let k = c .before .before .args .k in
@@ -76,7 +73,7 @@ pub agreed-sound-spec : {M : Type 1} → statement M
 agreed-sound-spec =
     tie.close
     (tie.spec
-    input-refusal-requires
+    (λ c κs. search needs)
     returns
     windows-sound-requires
     returns-2

@@ -27,24 +27,6 @@ cells c = search (length-mapped, needs)
 loop-holds : tie.Need-loop-holds Inv-loop μ-loop
 loop-holds c = (search needs, refl, refl)
 
-mul-w : tie.Need-mul-w Inv-loop μ-loop
-mul-w c = search needs
-
-array-copy-out-w : tie.Need-array-copy-out-w Inv-loop μ-loop
-array-copy-out-w c = search needs
-
-mul-ends : tie.Need-mul-ends Inv-loop μ-loop
-mul-ends c = search needs
-
-array-write-ends : tie.Need-array-write-ends Inv-loop μ-loop
-array-write-ends c = search needs
-
-add-i : tie.Need-add-i Inv-loop μ-loop
-add-i c = search needs
-
-loop-less : tie.Need-loop-less Inv-loop μ-loop
-loop-less c = search needs
-
 loop-again : tie.Need-loop-again Inv-loop μ-loop
 loop-again c =
     let at = c .before .before in
@@ -68,11 +50,11 @@ ends-of-spec =
     Inv-loop
     μ-loop
     loop-holds
-    mul-w
-    array-copy-out-w
-    mul-ends
-    array-write-ends
-    add-i
-    loop-less
+    (λ c. search needs)
+    (λ c. search needs)
+    (λ c. search needs)
+    (λ c. search needs)
+    (λ c. search needs)
+    (λ c. search needs)
     loop-again
     returns)

@@ -10,19 +10,10 @@ started-requires c κs = (c .pre .0, rising (c .pre .1))
 returns : tie.Need-returns
 returns c = none-held (c .before .before .pre .1) (c .before .started .ensures) (c .if1 .taken)
 
-sub-at : tie.Need-sub-at
-sub-at c = search needs
-
-mul-result : tie.Need-mul-result
-mul-result c = search needs
-
-element-copy-out-result : tie.Need-element-copy-out-result
-element-copy-out-result c = search needs
-
 returns-2 : tie.Need-returns-2
 returns-2 c = last-holds (c .before .before .before .pre .1) (c .before .before .started .ensures) (omega arith)
 
 pub in-columns-spec : {M : Type 1} → statement M
 in-columns-spec =
     tie.close
-    (tie.spec started-requires returns sub-at mul-result element-copy-out-result returns-2)
+    (tie.spec started-requires returns (λ c. search needs) (λ c. search needs) (λ c. search needs) returns-2)

@@ -42,29 +42,8 @@ columns : (c : tie.After-span-of Inv-loop μ-loop)
 columns c =
     record { first = c .before .before .starts-of .ensures; last = c .before .ends-of .ensures; minutes = c .span-of .ensures; used = windowed (c .before .before .before) }
 
-starts-of-requires : tie.Need-starts-of-requires Inv-loop μ-loop
-starts-of-requires c κs = search needs
-
-ends-of-requires : tie.Need-ends-of-requires Inv-loop μ-loop
-ends-of-requires c κs = search needs
-
-span-of-requires : tie.Need-span-of-requires Inv-loop μ-loop
-span-of-requires c κs = search needs
-
 loop-holds : tie.Need-loop-holds Inv-loop μ-loop
 loop-holds c = (search needs, λ k ws t. refl)
-
-mul-d : tie.Need-mul-d Inv-loop μ-loop
-mul-d c = search needs
-
-array-copy-out-d : tie.Need-array-copy-out-d Inv-loop μ-loop
-array-copy-out-d c = search needs
-
-input-refusal-requires : tie.Need-input-refusal-requires Inv-loop μ-loop
-input-refusal-requires c κs = search needs
-
-cast-fits : tie.Need-cast-fits Inv-loop μ-loop
-cast-fits c = search needs
 
 in-columns-requires : tie.Need-in-columns-requires Inv-loop μ-loop
 in-columns-requires c κs =
@@ -92,12 +71,6 @@ returns c =
     all-fails (defaultSound k (take (b .args .w) ws)) (take (b .args .n) (b .args .t4)) 0 (at .loop .i) noDefault (at .loop .inv .1 k ws (columns (at .before)))
     (rw (length-take-le (b .args .n) (b .args .t4) (room b)) (omega arith)) (sym (fits (c .before) k ws (columns (at .before))) ∙ not-true _ (c .if1 .taken))
 
-add-i : tie.Need-add-i Inv-loop μ-loop
-add-i c = search needs
-
-loop-less : tie.Need-loop-less Inv-loop μ-loop
-loop-less c = search needs
-
 loop-again : tie.Need-loop-again Inv-loop μ-loop
 loop-again c =
     let at = c .before .before .before .before .before .before .before .before in
@@ -122,17 +95,17 @@ defaults-sound-spec =
     (tie.spec
     Inv-loop
     μ-loop
-    starts-of-requires
-    ends-of-requires
-    span-of-requires
+    (λ c κs. search needs)
+    (λ c κs. search needs)
+    (λ c κs. search needs)
     loop-holds
-    mul-d
-    array-copy-out-d
-    input-refusal-requires
-    cast-fits
+    (λ c. search needs)
+    (λ c. search needs)
+    (λ c κs. search needs)
+    (λ c. search needs)
     in-columns-requires
     returns
-    add-i
-    loop-less
+    (λ c. search needs)
+    (λ c. search needs)
     loop-again
     returns-2)

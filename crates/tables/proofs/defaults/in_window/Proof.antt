@@ -9,12 +9,6 @@ use Rattle.tables.proofs.Search.{ordered, in-table}
 use Rattle.tables.proofs.defaults.in_window.Statement.{statement}
 use Rattle.tables.proofs.defaults.in_window.Tie as tie
 
-starts-of-requires : tie.Need-starts-of-requires
-starts-of-requires c κs = search needs
-
-ends-of-requires : tie.Need-ends-of-requires
-ends-of-requires c κs = search needs
-
 -- the windows in use are of the table
 room : (c : tie.Start) → c .args .n ≤ length (c .args .windows)
 room c = let cells : length (c .args .windows) ≡ 128 = search (length-mapped, needs) in omega (arith, c .pre .0)
@@ -32,4 +26,4 @@ returns c =
 
 pub in-window-spec : {M : Type 1} → statement M
 in-window-spec =
-    tie.close (tie.spec starts-of-requires ends-of-requires in-columns-requires returns)
+    tie.close (tie.spec (λ c κs. search needs) (λ c κs. search needs) in-columns-requires returns)

@@ -18,13 +18,10 @@ cast-ramp-minutes c =
     let at = c .before .before in
     rw (toZ-ofZ (wide at)) (kw-unsigned (at .args .k) (ranges (at .args .k) (to-T (at .pre))))
 
-ramp-minutes-requires : tie.Need-ramp-minutes-requires
-ramp-minutes-requires c κs = search needs
-
 returns : tie.Need-returns
 unfolding downMinutes
 returns c = c .ramp-minutes .ensures ∙ rw (toZ-ofZ (wide (c .before .before .before)))
 
 pub down-minutes-spec : {M : Type 1} → statement M
 down-minutes-spec =
-    tie.close (tie.spec cast-ramp-minutes ramp-minutes-requires returns)
+    tie.close (tie.spec cast-ramp-minutes (λ c κs. search needs) returns)

@@ -27,12 +27,6 @@ down-minutes-requires c κs = c .pre .1
 loop-holds : tie.Need-loop-holds Inv-loop μ-loop
 loop-holds c = (search needs, refl)
 
-mul-i : tie.Need-mul-i Inv-loop μ-loop
-mul-i c = search needs
-
-array-copy-out-i : tie.Need-array-copy-out-i Inv-loop μ-loop
-array-copy-out-i c = search needs
-
 instruction-fits-requires : tie.Need-instruction-fits-requires Inv-loop μ-loop
 instruction-fits-requires c κs = c .before .before .before .down-minutes .ensures
 
@@ -42,27 +36,6 @@ returns c =
     let b = at .before .before .args in
     instructions-fail (b .k) (at .loop .ready) (b .t2) (at .loop .x) (b .n) (omega arith) (room (at .before .before)) (at .loop .inv .1)
     (sym (c .before .instruction-fits .ensures) ∙ not-true _ (c .if1 .taken))
-
-cast-ready : tie.Need-cast-ready Inv-loop μ-loop
-cast-ready c = search needs
-
-cast-ready-2 : tie.Need-cast-ready-2 Inv-loop μ-loop
-cast-ready-2 c = search needs
-
-add-ready : tie.Need-add-ready Inv-loop μ-loop
-add-ready c = search needs
-
-cast-ready-3 : tie.Need-cast-ready-3 Inv-loop μ-loop
-cast-ready-3 c = search needs
-
-add-ready-2 : tie.Need-add-ready-2 Inv-loop μ-loop
-add-ready-2 c = search needs
-
-add-x : tie.Need-add-x Inv-loop μ-loop
-add-x c = search needs
-
-loop-less : tie.Need-loop-less Inv-loop μ-loop
-loop-less c = search needs
 
 loop-again : tie.Need-loop-again Inv-loop μ-loop
 loop-again c =
@@ -90,16 +63,16 @@ instructions-sound-spec =
     μ-loop
     down-minutes-requires
     loop-holds
-    mul-i
-    array-copy-out-i
+    (λ c. search needs)
+    (λ c. search needs)
     instruction-fits-requires
     returns
-    cast-ready
-    cast-ready-2
-    add-ready
-    cast-ready-3
-    add-ready-2
-    add-x
-    loop-less
+    (λ c. search needs)
+    (λ c. search needs)
+    (λ c. search needs)
+    (λ c. search needs)
+    (λ c. search needs)
+    (λ c. search needs)
+    (λ c. search needs)
     loop-again
     returns-2)

@@ -24,22 +24,10 @@ cells c = search (length-mapped, needs)
 loop-holds : tie.Need-loop-holds Inv-loop μ-loop
 loop-holds c = (search needs, search needs, refl)
 
-mul-i : tie.Need-mul-i Inv-loop μ-loop
-mul-i c = search needs
-
-array-copy-out-i : tie.Need-array-copy-out-i Inv-loop μ-loop
-array-copy-out-i c = search needs
-
 returns : tie.Need-returns Inv-loop μ-loop
 returns c =
     let at = c .before .before .before .before .before in
     all-fails isNoInstruction (at .before .args .t1) (at .before .args .n) (at .loop .x) noInstruction (at .loop .inv .2) (rw (cells (at .before)) (search needs)) (not-true _ (c .if1 .taken))
-
-add-x : tie.Need-add-x Inv-loop μ-loop
-add-x c = search needs
-
-loop-less : tie.Need-loop-less Inv-loop μ-loop
-loop-less c = search needs
 
 loop-again : tie.Need-loop-again Inv-loop μ-loop
 loop-again c =
@@ -58,10 +46,10 @@ instructions-unused-spec =
     Inv-loop
     μ-loop
     loop-holds
-    mul-i
-    array-copy-out-i
+    (λ c. search needs)
+    (λ c. search needs)
     returns
-    add-x
-    loop-less
+    (λ c. search needs)
+    (λ c. search needs)
     loop-again
     returns-2)

@@ -5,15 +5,6 @@ use Rattle.tables.proofs.Walks.{window-input}
 use Rattle.tables.proofs.windows.window_fits.Statement.{statement}
 use Rattle.tables.proofs.windows.window_fits.Tie as tie
 
-span-of-requires : tie.Need-span-of-requires
-span-of-requires c κs = search needs
-
-input-refusal-requires : tie.Need-input-refusal-requires
-input-refusal-requires c κs = search needs
-
-cast-result : tie.Need-cast-result
-cast-result c = search needs
-
 returns : tie.Need-returns
 unfolding windowsSound
 returns c =
@@ -21,4 +12,4 @@ returns c =
     rw (c .before .before .before .before .before .input-refusal .ensures, window-input w, c .before .before .before .before .before .before .span-of .ensures, and-true)
 
 pub window-fits-spec : {M : Type 1} → statement M
-window-fits-spec = tie.close (tie.spec span-of-requires input-refusal-requires cast-result returns)
+window-fits-spec = tie.close (tie.spec (λ c κs. search needs) (λ c κs. search needs) (λ c. search needs) returns)

@@ -24,27 +24,12 @@ room c = let cells : length (c .args .t2) ≡ 128 = search (length-mapped, needs
 loop-holds : tie.Need-loop-holds Inv-loop μ-loop
 loop-holds c = (search needs, refl)
 
-mul-w : tie.Need-mul-w Inv-loop μ-loop
-mul-w c = search needs
-
-array-copy-out-w : tie.Need-array-copy-out-w Inv-loop μ-loop
-array-copy-out-w c = search needs
-
-window-fits-requires : tie.Need-window-fits-requires Inv-loop μ-loop
-window-fits-requires c κs = search needs
-
 returns : tie.Need-returns Inv-loop μ-loop
 returns c =
     let at = c .before .before .before .before in
     let b = at .before .args in
     windows-fail (b .k) (at .loop .end .0) (b .t2) (at .loop .i) (b .n) (omega arith) (room (at .before)) (at .loop .inv .1)
     (sym (c .before .window-fits .ensures) ∙ not-true _ (c .if1 .taken))
-
-add-i : tie.Need-add-i Inv-loop μ-loop
-add-i c = search needs
-
-loop-less : tie.Need-loop-less Inv-loop μ-loop
-loop-less c = search needs
 
 loop-again : tie.Need-loop-again Inv-loop μ-loop
 loop-again c =
@@ -69,11 +54,11 @@ windows-sound-spec =
     Inv-loop
     μ-loop
     loop-holds
-    mul-w
-    array-copy-out-w
-    window-fits-requires
+    (λ c. search needs)
+    (λ c. search needs)
+    (λ c κs. search needs)
     returns
-    add-i
-    loop-less
+    (λ c. search needs)
+    (λ c. search needs)
     loop-again
     returns-2)
