@@ -15,7 +15,7 @@ use lib.Seq.{drop-cons, drop-set-lt}
 use Rattle.energy.specs.Lists.{all, any, pass, isEmpty, concatMap}
 use Rattle.energy.proofs.Tests.{T-and}
 use Rattle.commands.specs.Input.{from-to, isReading}
-use Rattle.rules.specs.Ledger.{Ledger, ledgerOf, contractOf, spanOf, readingOf}
+use Rattle.rules.specs.Ledger.{Ledger, ledgerOf, contractOf, spanOf, spanIn, cellsIn, readingOf}
 use Rattle.rules.specs.Refusal.{refusal, joined, answerOf}
 use Rattle.rules.specs.Reached.{Reached, untouched, agreed, agreedTests}
 use Rattle.commands.specs.declared.contract.Contract.{Contract}
@@ -27,15 +27,16 @@ use Rattle.commands.specs.declared.entries.Command.{Command}
 use Rattle.commands.specs.declared.entries.Command.the-variants.{Contract as contractᶜ, Window as windowᶜ, Instruction as instructionᶜ, Default as defaultᶜ, Reading as readingᶜ, Close as closeᶜ}
 use Rattle.rules.proofs.Reached.{step, start}
 use Rattle.rules.proofs.Taken.{grown, ledgerOf-snoc, Allowed, allowed}
-use Rattle.rules.proofs.FileLength.{span-fits}
+use Rattle.rules.proofs.FileLength.{cells-fit}
 use Rattle.meter.specs.Meter.{putMeter, cell, missing}
-use Rattle.book.specs.Book.{emptyBook, ledgerIn, putBook}
+use Rattle.book.specs.Book.{emptyBook, bookSpan, bookCells, ledgerIn, putBook}
 use Rattle.tables.specs.Unused.{noContractTests, isNoWindow, isNoInstruction, isNoDefault}
 use Rattle.book.specs.Sound.{sound, Shaped, tableTests, emptyTests}
 use Rattle.book.specs.Enter.{enterBook, enteredBy}
 use Rattle.book.specs.declared.Book.{Book}
 use Rattle.tables.proofs.Tables.{has-room}
-use Rattle.book.proofs.Tested.{Tables, contents, sound-parts, is-sound, empty-contract}
+use Rattle.book.proofs.Tested.{Tables, contents, sound-parts, is-sound}
+use Rattle.book.proofs.Month.{span-cells, span-is, cells-is, span-empty}
 pub use Rattle.book.proofs.Tested.{contract-is}
 use Rattle.book.proofs.Holds.{holds-contract, holds-window, holds-instruction, holds-default, holds-reading, holds-close}
 
@@ -67,8 +68,9 @@ reached-sound b meter s t (agreed a) =
       tables = t;
       contents =
           subst⁻¹ (λ x. T (pass (contents b x))) s
-          (subst (λ k. T (pass (agreedTests k (take (b .nwindows) (b .windows)) (take (b .ninstructions) (b .instructions)) (take (b .ndefaults) (b .defaults)))))
-          (contract-is b meter s) (a .tests));
+          (subst (λ n. T (pass (agreedTests (b .contract) n (take (b .nwindows) (b .windows)) (take (b .ninstructions) (b .instructions)) (take (b .ndefaults) (b .defaults))))) (span-is b meter s)
+          (subst (λ k. T (pass (agreedTests k (spanIn (ledgerIn b meter)) (take (b .nwindows) (b .windows)) (take (b .ninstructions) (b .instructions)) (take (b .ndefaults) (b .defaults)))))
+          (contract-is b meter s) (a .tests)));
     })
 
 -- ---- the book and the commands taken
@@ -104,11 +106,11 @@ module _ {size : ℕ} {t : List Command} {b : Book} {meter : List ℤ} (f : Foll
   tables : Tables b
   tables = sound-parts b (f .left) .tables
 
-  -- meter memory holds the span
-  fits : b .agreed ≡ true → spanOf (b .contract) ≤ length meter
+  -- meter memory has the cells for the span
+  fits : b .agreed ≡ true → bookCells b ≤ length meter
   fits s =
-      subst (λ k. spanOf k ≤ length meter) (contract-is b meter s)
-      (subst⁻¹ (λ n. spanOf (contractOf g) ≤ n) (f .memory) (span-fits (subst⁻¹ (Reached size) (f .ledger) (f .reached))))
+      subst (λ n. n ≤ length meter) (cells-is b meter s)
+      (subst⁻¹ (λ n. cellsIn g ≤ n) (f .memory) (cells-fit (subst⁻¹ (Reached size) (f .ledger) (f .reached))))
 
   put-window : (w : Window) → Allowed size g (windowᶜ w) → Put (windowᶜ w) b meter
   unfolding ledgerIn
@@ -188,11 +190,10 @@ module _ {size : ℕ} {t : List Command} {b : Book} {meter : List ℤ} (f : Foll
   unfolding ledgerIn
   put-reading r a =
       let s : b .agreed ≡ true = was-agreed (b .agreed) (b .contract) (a .agreed) in
-      let below : r .minute .0 < spanOf (b .contract) =
-      leb-false (spanOf (b .contract)) (r .minute .0) (subst (λ k. leb (spanOf k) (r .minute .0) ≡ false) (contract-is b meter s) (a .inside)) in
+      let below : r .minute .0 < bookSpan b = leb-false (bookSpan b) (r .minute .0) (subst (λ n. leb n (r .minute .0) ≡ false) (span-is b meter s) (a .inside)) in
       let ranged : T (isReading (r .kw .0)) = T-and (from-to 0 44640 (r .minute .0)) (isReading (r .kw .0)) (a .operands) .1 in
       record {
-        holds = holds-reading b meter r below (fits s) ranged;
+        holds = holds-reading b meter r below (omega (arith, fits s, span-cells b)) ranged;
         agreed = s;
         tables = tables;
         shaped = f .shaped;
@@ -203,7 +204,7 @@ module _ {size : ℕ} {t : List Command} {b : Book} {meter : List ℤ} (f : Foll
   unfolding ledgerIn
   put-contract k a =
       let s : b .agreed ≡ false = not-agreed (b .agreed) (b .contract) (a .only) in
-      let none : b .contract .days ≡ 0 = ap (λ (x : Contract). x .days) (empty-contract b (f .left) s) in
+      let none : bookSpan b ≡ 0 = span-empty b (f .left) s in
       let span : spanOf k ≤ length meter = omega (arith, ltb-false size (spanOf k) (a .memory), f .memory) in
       record {
         holds = holds-contract b meter k s none;
@@ -268,7 +269,7 @@ answers {size} {t} {b} {meter} c f = ap (λ o. enteredBy o b meter c .entry .ans
 -- ---- the empty book
 
 pub starts : (meter : List ℤ) → Follows (length meter) [] emptyBook meter
-unfolding ledgerIn ledgerOf emptyBook sound pass emptyTests tableTests noContractTests all any concatMap readingOf
+unfolding ledgerIn bookSpan ledgerOf emptyBook sound pass emptyTests tableTests noContractTests all any concatMap readingOf
 starts meter =
     record {
       ledger = λ i.

@@ -23,7 +23,7 @@ use Rattle.commands.specs.declared.entries.Reading.{Reading}
 use Rattle.commands.specs.declared.entries.Command.the-variants.{Contract as contractᶜ, Window as windowᶜ, Instruction as instructionᶜ, Default as defaultᶜ, Reading as readingᶜ, Close as closeᶜ}
 use Rattle.rules.proofs.Taken.{grown}
 use Rattle.meter.specs.Meter.{putMeter, cell, missing}
-use Rattle.book.specs.Book.{ledgerIn, putBook}
+use Rattle.book.specs.Book.{bookSpan, ledgerIn, putBook}
 use Rattle.book.specs.declared.Book.{Book}
 
 -- the entries in use, with one more
@@ -36,7 +36,7 @@ or-true false = refl
 
 module _ (b : Book) (meter : List ℤ) where
   pub holds-window : (w : Window) → b .nwindows < length (b .windows) → ledgerIn (putBook b (windowᶜ w)) meter ≡ grown (ledgerIn b meter) (windowᶜ w)
-  unfolding ledgerIn later
+  unfolding ledgerIn bookSpan later
   holds-window w h i =
       record {
         contracts = sym (append-nil (cond (b .agreed) (b .contract ∷ []) [])) i;
@@ -49,7 +49,7 @@ module _ (b : Book) (meter : List ℤ) where
 
   pub holds-instruction : (x : Instruction) → b .ninstructions < length (b .instructions)
       → ledgerIn (putBook b (instructionᶜ x)) meter ≡ grown (ledgerIn b meter) (instructionᶜ x)
-  unfolding ledgerIn later
+  unfolding ledgerIn bookSpan later
   holds-instruction x h i =
       record {
         contracts = sym (append-nil (cond (b .agreed) (b .contract ∷ []) [])) i;
@@ -61,7 +61,7 @@ module _ (b : Book) (meter : List ℤ) where
       }
 
   pub holds-default : (d : Default) → b .ndefaults < length (b .defaults) → ledgerIn (putBook b (defaultᶜ d)) meter ≡ grown (ledgerIn b meter) (defaultᶜ d)
-  unfolding ledgerIn later
+  unfolding ledgerIn bookSpan later
   holds-default d h i =
       record {
         contracts = sym (append-nil (cond (b .agreed) (b .contract ∷ []) [])) i;
@@ -73,7 +73,7 @@ module _ (b : Book) (meter : List ℤ) where
       }
 
   pub holds-close : ledgerIn (putBook b closeᶜ) meter ≡ grown (ledgerIn b meter) closeᶜ
-  unfolding ledgerIn later
+  unfolding ledgerIn bookSpan later
   holds-close i =
       record {
         contracts = sym (append-nil (cond (b .agreed) (b .contract ∷ []) [])) i;
@@ -85,13 +85,13 @@ module _ (b : Book) (meter : List ℤ) where
       }
 
   -- a reading in a minute of the span gives that minute its kW, and leaves every other minute
-  reading-at : (r : Reading) → r .minute .0 < spanOf (b .contract) → spanOf (b .contract) ≤ length meter → T (isReading (r .kw .0)) → (m : ℕ)
+  reading-at : (r : Reading) → r .minute .0 < bookSpan b → bookSpan b ≤ length meter → T (isReading (r .kw .0)) → (m : ℕ)
       → ledgerIn b (set meter (r .minute .0) (r .kw .0)) .reading m ≡ later (ledgerIn b meter .reading m) (readingIn (readingᶜ r) m)
-  unfolding ledgerIn later
+  unfolding ledgerIn bookSpan later
   reading-at r h k ok m = go (eqb (r .minute .0) m) refl
     where
       span : ℕ
-      span = spanOf (b .contract)
+      span = bookSpan b
 
       after : List ℤ
       after = set meter (r .minute .0) (r .kw .0)
@@ -121,7 +121,7 @@ module _ (b : Book) (meter : List ℤ) where
         reading = λ m. at m i;
       }
 
-  pub holds-reading : (r : Reading) → r .minute .0 < spanOf (b .contract) → spanOf (b .contract) ≤ length meter → T (isReading (r .kw .0))
+  pub holds-reading : (r : Reading) → r .minute .0 < bookSpan b → bookSpan b ≤ length meter → T (isReading (r .kw .0))
       → ledgerIn b (putMeter meter (readingᶜ r)) ≡ grown (ledgerIn b meter) (readingᶜ r)
   holds-reading r h k ok = with-readings r (set meter (r .minute .0) (r .kw .0)) (reading-at r h k ok)
 
@@ -137,15 +137,15 @@ module _ (b : Book) (meter : List ℤ) where
           ∙ getD-replicate n m missing missing h)
       go false e = refl
 
-  -- without days there is no minute of the span
-  pub none-below : (m : ℕ) → b .contract .days ≡ 0 → ledgerIn b meter .reading m ≡ none
+  -- an empty span has no minute
+  pub none-below : (m : ℕ) → bookSpan b ≡ 0 → ledgerIn b meter .reading m ≡ none
   unfolding ledgerIn
   none-below m e =
-      ap (λ d. cond (ltb m (1440 * d)) (cell (getD meter m missing)) none) e ∙ ap (λ x. cond x (cell (getD meter m missing)) none) (leb·suc-zero m)
+      ap (λ n. cond (ltb m n) (cell (getD meter m missing)) none) e ∙ ap (λ x. cond x (cell (getD meter m missing)) none) (leb·suc-zero m)
 
-  pub holds-contract : (k : Contract) → b .agreed ≡ false → b .contract .days ≡ 0
+  pub holds-contract : (k : Contract) → b .agreed ≡ false → bookSpan b ≡ 0
       → ledgerIn (putBook b (contractᶜ k)) (putMeter meter (contractᶜ k)) ≡ grown (ledgerIn b meter) (contractᶜ k)
-  unfolding ledgerIn later
+  unfolding ledgerIn bookSpan later
   holds-contract k s z i =
       record {
         contracts = ap (λ x. cond x (b .contract ∷ []) [] ++ (k ∷ [])) (sym s) i;

@@ -12,7 +12,7 @@ use lib.ListN.{length, take, getD, replicate, length-replicate, length-take}
 use Rattle.energy.specs.Lists.{pass}
 use Rattle.energy.proofs.Tests.{to-T, of-T}
 use Rattle.commands.specs.Input.{isReading}
-use Rattle.rules.specs.Ledger.{Ledger, ledgerOf, contractOf, spanOf}
+use Rattle.rules.specs.Ledger.{Ledger, ledgerOf, contractOf, spanIn}
 use Rattle.rules.specs.Refusal.{refusal, joined, takenAfter, taken}
 use Rattle.rules.specs.Reached.{Reached, untouched, agreed, Untouched, Agreed, agreedTests}
 use Rattle.rules.specs.File.{written}
@@ -20,11 +20,12 @@ use Rattle.rules.specs.Rewritten.{Rewritten}
 use Rattle.commands.specs.declared.entries.Command.{Command}
 use Rattle.rules.proofs.Rewritten.{rewritten}
 use Rattle.meter.specs.Meter.{putMeter, cell, missing}
-use Rattle.book.specs.Book.{emptyBook, ledgerIn, putBook, putAll}
+use Rattle.book.specs.Book.{emptyBook, bookSpan, bookCells, ledgerIn, putBook, putAll}
 use Rattle.book.specs.Sound.{sound, Shaped, Left, Left·theorem}
 use Rattle.book.specs.declared.Book.{Book}
 use Rattle.book.proofs.Holds.{none-below}
 use Rattle.book.proofs.Tested.{Tables, contents, sound-parts, contract-is, Empty, sound-empty}
+use Rattle.book.proofs.Month.{span-is, cells-is, span-empty}
 use Rattle.book.proofs.Follow.{Follows, starts, put-follows}
 use Rattle.book.proofs.Determined.{determined}
 
@@ -71,19 +72,19 @@ short : {A : Type 0} (n : ℕ) (l : List A) {most : ℕ} → n ≤ most → leng
 short n l {most} h = subst⁻¹ (λ x. x ≤ most) (length-take n l) (omega arith)
 
 -- a reading is in the span and in range
-given : (b : Book) (meter : List ℤ) (m : ℕ) (kw : ℤ) → ledgerIn b meter .reading m ≡ some kw → (m < spanOf (b .contract)) × T (isReading kw)
+given : (b : Book) (meter : List ℤ) (m : ℕ) (kw : ℤ) → ledgerIn b meter .reading m ≡ some kw → (m < bookSpan b) × T (isReading kw)
 unfolding ledgerIn
-given b meter m kw e = in-span (ltb m (spanOf (b .contract))) refl e
+given b meter m kw e = in-span (ltb m (bookSpan b)) refl e
   where
     in-range : (z : ℤ) (t : Bool) → isReading z ≡ t → cond t (some z) none ≡ some kw → T (isReading kw)
     in-range z true i h = let same : z ≡ kw = cc in subst (λ x. T (isReading x)) same (to-T i)
     in-range z false i h = absurd (Option·none-ne-some kw h)
 
-    in-span : (t : Bool) → ltb m (spanOf (b .contract)) ≡ t → cond t (cell (getD meter m missing)) none ≡ some kw → (m < spanOf (b .contract)) × T (isReading kw)
-    in-span true l h = (ltb→lt m (spanOf (b .contract)) (to-T l), in-range (getD meter m missing) (isReading (getD meter m missing)) refl h)
+    in-span : (t : Bool) → ltb m (bookSpan b) ≡ t → cond t (cell (getD meter m missing)) none ≡ some kw → (m < bookSpan b) × T (isReading kw)
+    in-span true l h = (ltb→lt m (bookSpan b) (to-T l), in-range (getD meter m missing) (isReading (getD meter m missing)) refl h)
     in-span false l h = absurd (Option·none-ne-some kw h)
 
-with-contract : (b : Book) (meter : List ℤ) (size : ℕ) → sound b ≡ true → b .agreed ≡ true → spanOf (b .contract) ≤ size → Agreed size (ledgerIn b meter)
+with-contract : (b : Book) (meter : List ℤ) (size : ℕ) → sound b ≡ true → b .agreed ≡ true → bookCells b ≤ size → Agreed size (ledgerIn b meter)
 unfolding ledgerIn
 with-contract b meter size e s h =
     let t : Tables b = sound-parts b e .tables in
@@ -91,13 +92,14 @@ with-contract b meter size e s h =
     record {
       contract = ap (λ x. cond x (b .contract ∷ []) []) s ∙ ap (λ c. c ∷ []) (sym k);
       tests =
-          subst⁻¹ (λ c. T (pass (agreedTests c (take (b .nwindows) (b .windows)) (take (b .ninstructions) (b .instructions)) (take (b .ndefaults) (b .defaults))))) k
-          (subst (λ x. T (pass (contents b x))) s (sound-parts b e .contents));
+          subst⁻¹ (λ c. T (pass (agreedTests c (spanIn (ledgerIn b meter)) (take (b .nwindows) (b .windows)) (take (b .ninstructions) (b .instructions)) (take (b .ndefaults) (b .defaults))))) k
+          (subst⁻¹ (λ n. T (pass (agreedTests (b .contract) n (take (b .nwindows) (b .windows)) (take (b .ninstructions) (b .instructions)) (take (b .ndefaults) (b .defaults))))) (span-is b meter s)
+          (subst (λ x. T (pass (contents b x))) s (sound-parts b e .contents)));
       windows = short (b .nwindows) (b .windows) (t .windows);
       instructions = short (b .ninstructions) (b .instructions) (t .instructions);
       defaults = short (b .ndefaults) (b .defaults) (t .defaults);
-      span = subst⁻¹ (λ c. spanOf c ≤ size) k h;
-      readings = λ m kw r. subst⁻¹ (λ c. (m < spanOf c) × T (isReading kw)) k (given b meter m kw r);
+      cells = subst⁻¹ (λ n. n ≤ size) (cells-is b meter s) h;
+      readings = λ m kw r. subst⁻¹ (λ n. (m < n) × T (isReading kw)) (span-is b meter s) (given b meter m kw r);
     }
 
 without : (b : Book) (meter : List ℤ) → sound b ≡ true → b .agreed ≡ false → Untouched (ledgerIn b meter)
@@ -110,10 +112,10 @@ without b meter e s =
       instructions = ap (λ x. take x (b .instructions)) (n .instructions);
       defaults = ap (λ x. take x (b .defaults)) (n .defaults);
       notClosed = n .notClosed;
-      readings = λ m. none-below b meter m (ap (λ k. k .days) (n .contract));
+      readings = λ m. none-below b meter m (span-empty b e s);
     }
 
-pub book-reached : (b : Book) (meter : List ℤ) (size : ℕ) → sound b ≡ true → spanOf (b .contract) ≤ size → Reached size (ledgerIn b meter)
+pub book-reached : (b : Book) (meter : List ℤ) (size : ℕ) → sound b ≡ true → bookCells b ≤ size → Reached size (ledgerIn b meter)
 book-reached b meter size e h = go (b .agreed) refl
   where
     go : (x : Bool) → b .agreed ≡ x → Reached size (ledgerIn b meter)
@@ -137,7 +139,7 @@ same-book b c meter after s s′ e e′ l =
 
 sound-left : (b : Book) → Shaped b → T (sound b) → Left b
 sound-left b s t =
-    let size : ℕ = spanOf (b .contract) in
+    let size : ℕ = bookCells b in
     let e : sound b ≡ true = of-T (sound b) t in
     let g : Ledger = ledgerIn b [] in
     let w : Rewritten size g = rewritten size g (book-reached b [] size e (le-refl size)) in

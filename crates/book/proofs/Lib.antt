@@ -1,4 +1,5 @@
 pub mod Tested
+pub mod Month
 pub mod Numbers
 pub mod Entered
 pub mod Holds

@@ -14,7 +14,7 @@ use borrow.Author.Tests.{ne-eqb}
 use Rattle.energy.specs.Lists.{first, isEmpty, isSome}
 use Rattle.commands.specs.Command.{onContract, always}
 use Rattle.rules.specs.Ledger.{isContract, spanOf}
-use Rattle.rules.specs.Refusal.{spanFor, bookConditions, kindConditions, conditions, refusal}
+use Rattle.rules.specs.Refusal.{cellsFor, bookConditions, kindConditions, conditions, refusal}
 use Rattle.commands.specs.Input.{isReading, Condition, inputConditions, lowest, inputRefusal, orZero}
 use Rattle.commands.specs.declared.contract.Contract.{Contract}
 use Rattle.commands.specs.declared.entries.Window.{Window}
@@ -25,12 +25,13 @@ use Rattle.commands.specs.declared.entries.Command.{Command}
 use Rattle.commands.specs.declared.entries.Command.the-variants.{Contract as contractᶜ, Window as windowᶜ, Instruction as instructionᶜ, Default as defaultᶜ, Reading as readingᶜ, Close as closeᶜ}
 use Rattle.energy.proofs.Tests.{T-and}
 use Rattle.meter.specs.Meter.{missing}
-use Rattle.book.specs.Book.{ledgerIn}
+use Rattle.book.specs.Book.{bookSpan, bookCells, ledgerIn}
 use Rattle.entering.specs.Numbers.{firstNumber, windowNumber, instructionNumber, defaultNumber, readingNumber}
 use Rattle.book.specs.Numbers.{refusalOf}
 use Rattle.book.specs.Sound.{sound}
 use Rattle.book.specs.declared.Book.{Book}
 use Rattle.book.proofs.Tested.{contract-is}
+use Rattle.book.proofs.Month.{span-is, cells-is}
 
 -- ---- all conditions
 
@@ -60,7 +61,7 @@ laterConditions b meter c = kindConditions (ledgerIn b meter) c
 -- the number from 3 to 15, of any command to a book
 abbrev pub firstOf : Book → List ℤ → Command → ℕ
 firstOf b meter c =
-    firstNumber (inputRefusal c) (sound b) (b .closed) (b .agreed) (isContract c) (ltb (length meter) (onContract spanOf (always (spanOf (b .contract))) c))
+    firstNumber (inputRefusal c) (sound b) (b .closed) (b .agreed) (isContract c) (ltb (length meter) (onContract spanOf (always (bookCells b)) c))
 
 -- of two lists of conditions the first decides, and where none of it holds the second
 numbers-append : (xs ys : List Condition) → T (numbered xs) → numbers (xs ++ ys) ≡ cond (eqb (numbers xs) 0) (numbers ys) (numbers xs)
@@ -96,29 +97,29 @@ unfolding firstNumber
 from-input zero s z a f t rest = refl
 from-input (suc n) s z a f t rest = rw (ne-eqb (suc n) 0 (λ q. omega arith)) (rw (ne-eqb (suc n) 0 (λ q. omega arith)) refl)
 
--- the span that 15 asks for is the book's, or a contract's own
-span-asked : (b : Book) (meter : List ℤ) (c : Command) → isContract c ≡ true → spanFor (ledgerIn b meter) c ≡ onContract spanOf (always (spanOf (b .contract))) c
-span-asked b meter (contractᶜ k) e = refl
-span-asked b meter (windowᶜ w) e = absurd (false≢true e)
-span-asked b meter (instructionᶜ i) e = absurd (false≢true e)
-span-asked b meter (defaultᶜ d) e = absurd (false≢true e)
-span-asked b meter (readingᶜ r) e = absurd (false≢true e)
-span-asked b meter closeᶜ e = absurd (false≢true e)
+-- the cells that 15 asks for are the book's, or a contract's own
+cells-asked : (b : Book) (meter : List ℤ) (c : Command) → isContract c ≡ true → cellsFor (ledgerIn b meter) c ≡ onContract spanOf (always (bookCells b)) c
+cells-asked b meter (contractᶜ k) e = refl
+cells-asked b meter (windowᶜ w) e = absurd (false≢true e)
+cells-asked b meter (instructionᶜ i) e = absurd (false≢true e)
+cells-asked b meter (defaultᶜ d) e = absurd (false≢true e)
+cells-asked b meter (readingᶜ r) e = absurd (false≢true e)
+cells-asked b meter closeᶜ e = absurd (false≢true e)
 
 -- conditions up to 15 come first
 pub by-first : (b : Book) (meter : List ℤ) (c : Command)
     → refusalOf b meter c ≡ cond (eqb (firstOf b meter c) 0) (numbers (laterConditions b meter c)) (firstOf b meter c)
 unfolding refusalOf refusal conditions numbers ledgerIn inputRefusal
 by-first b meter c =
-    let short : Bool = ltb (length meter) (onContract spanOf (always (spanOf (b .contract))) c) in
+    let short : Bool = ltb (length meter) (onContract spanOf (always (bookCells b)) c) in
     let rest : ℕ = numbers (laterConditions b meter c) in
     lowest-number (conditions (not (sound b)) (length meter) (ledgerIn b meter) c)
     ∙ numbers-append (inputConditions c) (bookConditions (not (sound b)) (length meter) (ledgerIn b meter) c ++ laterConditions b meter c) tt
     ∙ ap (λ n. cond (eqb n 0) (numbers (bookConditions (not (sound b)) (length meter) (ledgerIn b meter) c ++ laterConditions b meter c)) n) (sym (lowest-number (inputConditions c)))
     ∙ ap (λ m. cond (eqb (inputRefusal c) 0) m (inputRefusal c))
-    (from-book (b .contract) (sound b) (b .closed) (b .agreed) (isContract c) short (ltb (length meter) (spanFor (ledgerIn b meter) c)) rest
-    (λ e. ap (λ k. ltb (length meter) (onContract spanOf (always (spanOf k)) c)) (contract-is b meter e))
-    (λ e. ap (ltb (length meter)) (span-asked b meter c e)))
+    (from-book (b .contract) (sound b) (b .closed) (b .agreed) (isContract c) short (ltb (length meter) (cellsFor (ledgerIn b meter) c)) rest
+    (λ e. ap (λ n. ltb (length meter) (onContract spanOf (always n) c)) (cells-is b meter e))
+    (λ e. ap (ltb (length meter)) (cells-asked b meter c e)))
     ∙ from-input (inputRefusal c) (sound b) (b .closed) (b .agreed) (isContract c) short rest
 
 -- ---- where no condition up to 15 holds
@@ -160,7 +161,7 @@ module _ (b : Book) (meter : List ℤ) (c : Command) where
   -- without one, the conditions after 15 decide
   pub met-late : (n : ℕ) → n ≡ firstOf b meter c → n ≡ 0 → Late b meter c
   met-late n e z =
-      let p = past (inputRefusal c) (sound b) (b .closed) (b .agreed) (isContract c) (ltb (length meter) (onContract spanOf (always (spanOf (b .contract))) c)) (sym e ∙ z) in
+      let p = past (inputRefusal c) (sound b) (b .closed) (b .agreed) (isContract c) (ltb (length meter) (onContract spanOf (always (bookCells b)) c)) (sym e ∙ z) in
       record { leaves = p .leaves; contracted = p .contracted; number = by-first b meter c ∙ rw (sym e ∙ z) }
 
   -- without such conditions, the number up to 15 does
@@ -176,23 +177,23 @@ read true false z = refl
 read false b z = refl
 
 module _ (b : Book) (meter : List ℤ) (s : b .agreed ≡ true) where
-  pub window-later : (w : Window) → numbers (laterConditions b meter (windowᶜ w)) ≡ windowNumber (b .contract) (take (b .nwindows) (b .windows)) w
+  pub window-later : (w : Window) → numbers (laterConditions b meter (windowᶜ w)) ≡ windowNumber (b .contract) (bookSpan b) (take (b .nwindows) (b .windows)) w
   unfolding numbers conditions ledgerIn windowNumber
-  window-later w = rw (contract-is b meter s)
+  window-later w = rw (contract-is b meter s, span-is b meter s)
 
   pub instruction-later : (i : Instruction)
-      → numbers (laterConditions b meter (instructionᶜ i)) ≡ instructionNumber (b .contract) (take (b .ninstructions) (b .instructions)) i
+      → numbers (laterConditions b meter (instructionᶜ i)) ≡ instructionNumber (b .contract) (bookSpan b) (take (b .ninstructions) (b .instructions)) i
   unfolding numbers conditions ledgerIn instructionNumber
-  instruction-later i = rw (contract-is b meter s)
+  instruction-later i = rw (contract-is b meter s, span-is b meter s)
 
   pub default-later : (d : Default) → b .ndefaults ≤ length (b .defaults)
-      → numbers (laterConditions b meter (defaultᶜ d)) ≡ defaultNumber (b .contract) (take (b .nwindows) (b .windows)) (b .ndefaults) d
+      → numbers (laterConditions b meter (defaultᶜ d)) ≡ defaultNumber (bookSpan b) (take (b .nwindows) (b .windows)) (b .ndefaults) d
   unfolding numbers conditions ledgerIn defaultNumber
-  default-later d h = rw (contract-is b meter s, length-take-le (b .ndefaults) (b .defaults) h)
+  default-later d h = rw (span-is b meter s, length-take-le (b .ndefaults) (b .defaults) h)
 
-  pub reading-later : (r : Reading) → numbers (laterConditions b meter (readingᶜ r)) ≡ readingNumber (b .contract) meter r
+  pub reading-later : (r : Reading) → numbers (laterConditions b meter (readingᶜ r)) ≡ readingNumber (bookSpan b) meter r
   unfolding numbers conditions ledgerIn readingNumber
-  reading-later r = rw (contract-is b meter s, read (ltb (r .minute .0) (spanOf (b .contract))) (isReading (getD meter (r .minute .0) missing)) (getD meter (r .minute .0) missing))
+  reading-later r = rw (span-is b meter s, read (ltb (r .minute .0) (bookSpan b)) (isReading (getD meter (r .minute .0) missing)) (getD meter (r .minute .0) missing))
 
 -- the others have none
 pub contract-later : (b : Book) (meter : List ℤ) (k : Contract) → numbers (laterConditions b meter (contractᶜ k)) ≡ 0

@@ -1,5 +1,5 @@
 -- A reading that is taken by its book's open span: what is known of it, and that entering it does the same.
-use mathlib.Core.Path.{_≡_, refl, sym, _∙_}
+use mathlib.Core.Path.{_≡_, ap, refl, sym, _∙_}
 use mathlib.Core.Bool.{Bool, true, false, not, _&&_, cond, false≢true}
 use mathlib.Core.List.{List}
 use Prim.Native.Nat.{ℕ, _≤_, _<_}
@@ -8,7 +8,7 @@ use lib.IntN.{ℤ}
 use lib.Dec.{eqb, leb, ltb}
 use lib.ListN.{length}
 use borrow.Author.Tests.{leb-true, lt-ltb, le-ltb, lt-leb}
-use Rattle.rules.specs.Ledger.{spanOf}
+use Rattle.book.specs.Book.{bookSpan, bookCells}
 use Rattle.commands.specs.Input.{inputRefusal}
 use Rattle.rules.specs.declared.answer.Answer.the-variants.{Taken}
 use Rattle.commands.specs.declared.entries.Reading.{Reading}
@@ -31,16 +31,21 @@ use Rattle.meter.proofs.Taking.{tests}
 record Open (b : Book) (room : ℕ) : Type 0 where
   agreed : b .agreed ≡ true
   unclosed : b .closed ≡ false
-  fits : spanOf (b .contract) ≤ room
-  whole : openSpan b room ≡ spanOf (b .contract)
+  fits : bookCells b ≤ room
+  whole : openSpan b room ≡ bookSpan b
 
 -- a span with a minute in it is the contract's
 opened : (b : Book) (room m : ℕ) → m < openSpan b room → Open b room
 unfolding openSpan
-opened b room m h = go (b .agreed) (b .closed) (leb (spanOf (b .contract)) room) refl refl refl h
+opened b room m h = go (b .agreed) (b .closed) (leb (bookCells b) room) refl refl refl h
   where
-    go : (a z l : Bool) → b .agreed ≡ a → b .closed ≡ z → leb (spanOf (b .contract)) room ≡ l → m < cond (a && not z && l) (spanOf (b .contract)) 0 → Open b room
-    go true false true p q r h = record { agreed = p; unclosed = q; fits = leb-true (spanOf (b .contract)) room r; whole = rw (p, q, r) }
+    whole : b .agreed ≡ true → b .closed ≡ false → leb (bookCells b) room ≡ true → openSpan b room ≡ bookSpan b
+    whole p q r =
+        ap (λ x. cond (x && not (b .closed) && leb (bookCells b) room) (bookSpan b) 0) p ∙ ap (λ x. cond (not x && leb (bookCells b) room) (bookSpan b) 0) q
+        ∙ ap (λ x. cond x (bookSpan b) 0) r
+
+    go : (a z l : Bool) → b .agreed ≡ a → b .closed ≡ z → leb (bookCells b) room ≡ l → m < cond (a && not z && l) (bookSpan b) 0 → Open b room
+    go true false true p q r h = record { agreed = p; unclosed = q; fits = leb-true (bookCells b) room r; whole = whole p q r }
     go true false false p q r h = absurd (omega arith)
     go true true l p q r h = absurd (omega arith)
     go false z l p q r h = absurd (omega arith)
@@ -60,10 +65,10 @@ module _ (b : Book) (meter : List ℤ) (s : sound b ≡ true) (r : Reading) (t :
       let p = tests (openSpan b (length meter)) meter r t in
       let o = opened b (length meter) (r .minute .0) (p .inside) in
       let first : firstOf b meter (readingᶜ r) ≡ 0 =
-      first-none (inputRefusal (readingᶜ r)) (sound b) (b .closed) (b .agreed) (ltb (length meter) (spanOf (b .contract))) (p .input) s (o .unclosed) (o .agreed) (le-ltb (length meter) (spanOf (b .contract)) (o .fits)) in
-      let below : r .minute .0 < spanOf (b .contract) = omega (arith, p .inside, o .whole) in
+      first-none (inputRefusal (readingᶜ r)) (sound b) (b .closed) (b .agreed) (ltb (length meter) (bookCells b)) (p .input) s (o .unclosed) (o .agreed) (le-ltb (length meter) (bookCells b) (o .fits)) in
+      let below : r .minute .0 < bookSpan b = omega (arith, p .inside, o .whole) in
       met-late b meter (readingᶜ r) 0 (sym first) refl .number ∙ reading-later b meter (o .agreed) r
-      ∙ rw (lt-leb (spanOf (b .contract)) (r .minute .0) below, lt-ltb (r .minute .0) (spanOf (b .contract)) below, p .unread)
+      ∙ rw (lt-leb (bookSpan b) (r .minute .0) below, lt-ltb (r .minute .0) (bookSpan b) below, p .unread)
 
 entered-is : (x : Entered) (e : Entry) (m : List ℤ) → e ≡ x .entry → m ≡ x .meter → x ≡ record { entry = e; meter = m }
 entered-is x e m p q i = record { entry = sym p i; meter = sym q i }

@@ -10,11 +10,11 @@ use lib.IntN.{ℤ, pos, negsuc, natAbs}
 use lib.ListN.{length, getD, take}
 use lib.Signed.{leZ}
 use borrow.Author.Tests.{leb-true, leb-false, ltb-true, eqb-true, ltb-false, not-true, not-false}
-use Rattle.energy.specs.Lists.{any, first, pass}
+use Rattle.energy.specs.Lists.{any, pass}
 use Rattle.energy.specs.Number.{ceiling}
 use Rattle.energy.proofs.Integers.{leZ-true}
 use Rattle.energy.proofs.Tests.{on-and}
-use Rattle.rules.specs.Ledger.{contractOf, noContract, spanOf, expiry, endOf, within}
+use Rattle.rules.specs.Ledger.{expiry, endOf, within}
 use Rattle.rules.specs.Reached.{windowsSound, instructionsSound, defaultSound, agreedTests}
 use Rattle.commands.specs.Input.{kwOf, upMinutes, downMinutes, from-to, from-toℤ, inRange, rampTooLong, badWindow}
 use Rattle.commands.specs.declared.contract.Contract.{Contract}
@@ -22,9 +22,10 @@ use Rattle.commands.specs.declared.entries.Default.{Default}
 use Rattle.commands.specs.declared.entries.Instruction.{Instruction}
 use Rattle.commands.specs.declared.entries.Window.{Window}
 use Rattle.commands.specs.declared.entries.Command.the-variants.{Contract as contractᶜ, Window as windowᶜ, Instruction as instructionᶜ, Default as defaultᶜ}
-use Rattle.book.specs.Book.{noWindow, noInstruction, noDefault, ledgerIn}
-use Rattle.book.specs.Sound.{noContractTests, tableTests, emptyTests, sound}
+use Rattle.book.specs.Book.{noWindow, noInstruction, noDefault, bookSpan, bookCells}
+use Rattle.book.specs.Sound.{tableTests, emptyTests, sound}
 use Rattle.book.specs.declared.Book.{Book}
+use Rattle.book.proofs.Month.{cells-most}
 use Rattle.book.proofs.Chains.{ands-hold, pass-hold, all-at, or-neither, in-range}
 
 -- ---- the contract
@@ -76,30 +77,30 @@ contract-sound k e f =
     }
 
 -- ---- windows
-pub record SoundWindow (k : Contract) (w : Window) : Type 0 where
+pub record SoundWindow (span : ℕ) (w : Window) : Type 0 where
   pub order : w .start .0 < w .end .0
   pub start : w .start .0 % 30 ≡ 0
   pub end : w .end .0 % 30 ≡ 0
-  pub inside : w .end .0 ≤ spanOf k
+  pub inside : w .end .0 ≤ span
 
-module _ (k : Contract) where
+module _ (k : Contract) (span : ℕ) where
   -- windows one after the other, the first not before minute e
   pub record SoundWindows (e : ℕ) (ws : List Window) : Type 0 where
-    pub window : (i : ℕ) → i < length ws → SoundWindow k (getD ws i noWindow)
+    pub window : (i : ℕ) → i < length ws → SoundWindow span (getD ws i noWindow)
     pub from : (i : ℕ) → i < length ws → e ≤ getD ws i noWindow .start .0
     pub apart : (i j : ℕ) → i < j → j < length ws → getD ws i noWindow .end .0 ≤ getD ws j noWindow .start .0
 
-  windows-sound : (e : ℕ) (ws : List Window) → windowsSound k e ws ≡ true → SoundWindows e ws
+  windows-sound : (e : ℕ) (ws : List Window) → windowsSound k span e ws ≡ true → SoundWindows e ws
   unfolding windowsSound
   windows-sound e [] h = record { window = λ i l. absurd (omega arith); from = λ i l. absurd (omega arith); apart = λ i j l m. absurd (omega arith) }
   windows-sound e (w ∷ ws) h =
       let (a, (b, (c, (d, (f, (r, q)))))) =
-      ands-hold (inRange (windowᶜ w)) (not (badWindow (windowᶜ w)) ∷ leb (w .end .0) (spanOf k) ∷ not (eqb (k .service) 0 && eqb (w .verdict) 1) ∷ leb e (w .start .0) ∷ windowsSound k (w .end .0) ws ∷ []) h in
+      ands-hold (inRange (windowᶜ w)) (not (badWindow (windowᶜ w)) ∷ leb (w .end .0) span ∷ not (eqb (k .service) 0 && eqb (w .verdict) 1) ∷ leb e (w .start .0) ∷ windowsSound k span (w .end .0) ws ∷ []) h in
       let rest = windows-sound (w .end .0) ws r in
       let one = first b c in
       record { window = window one rest; from = from one (leb-true e (w .start .0) f) rest; apart = apart rest }
     where
-      first : not (badWindow (windowᶜ w)) ≡ true → leb (w .end .0) (spanOf k) ≡ true → SoundWindow k w
+      first : not (badWindow (windowᶜ w)) ≡ true → leb (w .end .0) span ≡ true → SoundWindow span w
       first b c =
           let (o, z) = or-neither (leb (w .end .0) (w .start .0) || not (eqb (w .start .0 % 30) 0)) (not (eqb (w .end .0 % 30) 0)) b in
           let (x, y) = or-neither (leb (w .end .0) (w .start .0)) (not (eqb (w .start .0 % 30) 0)) (ap not o) in
@@ -107,14 +108,14 @@ module _ (k : Contract) where
             order = leb-false (w .end .0) (w .start .0) x;
             start = eqb-true (w .start .0 % 30) 0 (not-false (eqb (w .start .0 % 30) 0) y);
             end = eqb-true (w .end .0 % 30) 0 (not-false (eqb (w .end .0 % 30) 0) z);
-            inside = leb-true (w .end .0) (spanOf k) c;
+            inside = leb-true (w .end .0) span c;
           }
 
-      window : SoundWindow k w → SoundWindows (w .end .0) ws → (i : ℕ) → i < suc (length ws) → SoundWindow k (getD (w ∷ ws) i noWindow)
+      window : SoundWindow span w → SoundWindows (w .end .0) ws → (i : ℕ) → i < suc (length ws) → SoundWindow span (getD (w ∷ ws) i noWindow)
       window one rest zero l = one
       window one rest (suc i) l = rest .window i (omega arith)
 
-      from : SoundWindow k w → e ≤ w .start .0 → SoundWindows (w .end .0) ws → (i : ℕ) → i < suc (length ws) → e ≤ getD (w ∷ ws) i noWindow .start .0
+      from : SoundWindow span w → e ≤ w .start .0 → SoundWindows (w .end .0) ws → (i : ℕ) → i < suc (length ws) → e ≤ getD (w ∷ ws) i noWindow .start .0
       from one m rest zero l = m
       from one m rest (suc i) l = omega (arith, one .order, rest .from i (omega arith))
 
@@ -126,7 +127,7 @@ module _ (k : Contract) where
   -- ---- instructions
   pub record SoundCall (i : Instruction) : Type 0 where
     pub three : 3 ≤ i .issue .0
-    pub inside : endOf k i ≤ spanOf k
+    pub inside : endOf k i ≤ span
     pub steady : expiry k i ≤ i .cease .0
 
   -- instructions one after the other, the first not before minute e
@@ -135,15 +136,15 @@ module _ (k : Contract) where
     pub first : 0 < length is → e ≤ getD is 0 noInstruction .issue .0
     pub order : (j : ℕ) → j + 1 < length is → endOf k (getD is j noInstruction) + k .recovery .0 ≤ getD is (j + 1) noInstruction .issue .0
 
-  instructions-sound : (e : ℕ) (is : List Instruction) → instructionsSound k e is ≡ true → SoundCalls e is
+  instructions-sound : (e : ℕ) (is : List Instruction) → instructionsSound k span e is ≡ true → SoundCalls e is
   unfolding instructionsSound
   instructions-sound e [] h = record { call = λ j l. absurd (omega arith); first = λ l. absurd (omega arith); order = λ j l. absurd (omega arith) }
   instructions-sound e (i ∷ is) h =
       let (a, (b, (c, (d, (r, q))))) =
-      ands-hold (inRange (instructionᶜ i)) (leb (endOf k i) (spanOf k) ∷ leb (expiry k i) (i .cease .0) ∷ leb e (i .issue .0) ∷ instructionsSound k (endOf k i + k .recovery .0) is ∷ []) h in
+      ands-hold (inRange (instructionᶜ i)) (leb (endOf k i) span ∷ leb (expiry k i) (i .cease .0) ∷ leb e (i .issue .0) ∷ instructionsSound k span (endOf k i + k .recovery .0) is ∷ []) h in
       let rest = instructions-sound (endOf k i + k .recovery .0) is r in
       let (x, y) = on-and (from-to 3 44640 (i .issue .0)) (from-to 0 44640 (i .cease .0)) a in
-      let one : SoundCall i = record { three = in-range 3 44640 (i .issue .0) x .0; inside = leb-true (endOf k i) (spanOf k) b; steady = leb-true (expiry k i) (i .cease .0) c } in
+      let one : SoundCall i = record { three = in-range 3 44640 (i .issue .0) x .0; inside = leb-true (endOf k i) span b; steady = leb-true (expiry k i) (i .cease .0) c } in
       record { call = call one rest; first = λ l. leb-true e (i .issue .0) d; order = order rest }
     where
       call : SoundCall i → SoundCalls (endOf k i + k .recovery .0) is → (j : ℕ) → j < suc (length is) → SoundCall (getD (i ∷ is) j noInstruction)
@@ -156,43 +157,46 @@ module _ (k : Contract) where
 
   -- ---- defaults
   pub record SoundDefault (x : Default) : Type 0 where
-    pub inside : x .minute .0 < spanOf k
+    pub inside : x .minute .0 < span
     pub reach : (1 ≤ x .reach) × (x .reach ≤ 3)
 
-  default-sound : (ws : List Window) (x : Default) → defaultSound k ws x ≡ true → SoundDefault x
+  default-sound : (ws : List Window) (x : Default) → defaultSound k span ws x ≡ true → SoundDefault x
   default-sound ws x e =
-      let (a, (b, (c, q))) = ands-hold (inRange (defaultᶜ x)) (ltb (x .minute .0) (spanOf k) ∷ any (λ w. within w (x .minute .0)) ws ∷ []) e in
+      let (a, (b, (c, q))) = ands-hold (inRange (defaultᶜ x)) (ltb (x .minute .0) span ∷ any (λ w. within w (x .minute .0)) ws ∷ []) e in
       let (r, (s, (t, p))) = ands-hold (from-to 0 44640 (x .minute .0)) (from-to 1 4 (x .kind) ∷ from-to 1 3 (x .reach) ∷ []) a in
-      record { inside = ltb-true (x .minute .0) (spanOf k) b; reach = in-range 1 3 (x .reach) t }
+      record { inside = ltb-true (x .minute .0) span b; reach = in-range 1 3 (x .reach) t }
 
 -- ---- the book
 pub record SoundBook (b : Book) : Type 0 where
   pub counts : (b .nwindows ≤ 128) × (b .ninstructions ≤ 64) × (b .ndefaults ≤ 128)
   pub contract : SoundContract (b .contract)
-  pub windows : SoundWindows (b .contract) 0 (take (b .nwindows) (b .windows))
-  pub calls : SoundCalls (b .contract) 0 (take (b .ninstructions) (b .instructions))
-  pub defaults : (j : ℕ) → j < length (take (b .ndefaults) (b .defaults)) → SoundDefault (b .contract) (getD (take (b .ndefaults) (b .defaults)) j noDefault)
+  pub month : bookCells b ≤ 44640
+  pub windows : SoundWindows (b .contract) (bookSpan b) 0 (take (b .nwindows) (b .windows))
+  pub calls : SoundCalls (b .contract) (bookSpan b) 0 (take (b .ninstructions) (b .instructions))
+  pub defaults : (j : ℕ) → j < length (take (b .ndefaults) (b .defaults)) → SoundDefault (b .contract) (bookSpan b) (getD (take (b .ndefaults) (b .defaults)) j noDefault)
 
 -- the tests beside those of the tables
 abbrev rest : Book → Bool → List Bool
-rest b a = cond a (agreedTests (b .contract) (take (b .nwindows) (b .windows)) (take (b .ninstructions) (b .instructions)) (take (b .ndefaults) (b .defaults))) (emptyTests b)
+rest b a = cond a (agreedTests (b .contract) (bookSpan b) (take (b .nwindows) (b .windows)) (take (b .ninstructions) (b .instructions)) (take (b .ndefaults) (b .defaults))) (emptyTests b)
 
 pub sound-book : (b : Book) → sound b ≡ true → b .agreed ≡ true → SoundBook b
 unfolding sound tableTests agreedTests
 sound-book b e s =
     let k : Contract = b .contract in
+    let span : ℕ = bookSpan b in
     let ws : List Window = take (b .nwindows) (b .windows) in
     let is : List Instruction = take (b .ninstructions) (b .instructions) in
     let ds : List Default = take (b .ndefaults) (b .defaults) in
     let (x, y) = on-and (pass (tableTests b)) (pass (rest b (b .agreed))) e in
     let (n₁, (n₂, (n₃, q))) = pass-hold (tableTests b) x in
-    let (c, (r, (w, (i, (d, z))))) = pass-hold (agreedTests k ws is ds) (ap (λ v. pass (rest b v)) (sym s) ∙ y) in
+    let (c, (r, (w, (i, (d, z))))) = pass-hold (agreedTests k span ws is ds) (ap (λ v. pass (rest b v)) (sym s) ∙ y) in
     record {
       counts = (leb-true (b .nwindows) 128 n₁, leb-true (b .ninstructions) 64 n₂, leb-true (b .ndefaults) 128 n₃);
       contract = contract-sound k c r;
-      windows = windows-sound k 0 ws w;
-      calls = instructions-sound k 0 is i;
-      defaults = λ j h. default-sound k ws (getD ds j noDefault) (all-at (defaultSound k ws) noDefault ds d j h);
+      month = cells-most b e;
+      windows = windows-sound k span 0 ws w;
+      calls = instructions-sound k span 0 is i;
+      defaults = λ j h. default-sound k span ws (getD ds j noDefault) (all-at (defaultSound k span ws) noDefault ds d j h);
     }
 
 -- a closed book has a contract
@@ -203,15 +207,3 @@ closed-agreed b e c = let (x, y) = on-and (pass (tableTests b)) (pass (rest b (b
     go : (s : Bool) → pass (rest b s) ≡ true → s ≡ true
     go true y = refl
     go false y = let (k, (n, q)) = pass-hold (emptyTests b) y in sym (not-true (b .closed) n) ∙ c
-
--- the span of a sound book is its contract's, which without a contract is 0
-pub span-sound : (b : Book) (meter : List ℤ) → sound b ≡ true → spanOf (contractOf (ledgerIn b meter)) ≡ spanOf (b .contract)
-unfolding sound emptyTests noContractTests contractOf first ledgerIn
-span-sound b meter e = let (x, y) = on-and (pass (tableTests b)) (pass (rest b (b .agreed))) e in go (b .agreed) y
-  where
-    go : (s : Bool) → pass (rest b s) ≡ true → spanOf (first noContract (cond s (b .contract ∷ []) [])) ≡ spanOf (b .contract)
-    go true y = refl
-    go false y =
-        let (k, q) = pass-hold (emptyTests b) y in
-        let (d, r) = pass-hold (noContractTests (b .contract)) k in
-        omega (arith, eqb-true (b .contract .days) 0 d)

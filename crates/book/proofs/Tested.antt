@@ -16,7 +16,7 @@ use Rattle.commands.specs.declared.entries.Instruction.{Instruction}
 use Rattle.commands.specs.declared.entries.Default.{Default}
 use Rattle.commands.proofs.Chain.{not-on}
 use Rattle.rules.proofs.Reached.{Parts, parts}
-use Rattle.book.specs.Book.{ledgerIn}
+use Rattle.book.specs.Book.{bookSpan, ledgerIn}
 use Rattle.tables.specs.Unused.{isNoWindow, isNoInstruction, isNoDefault, isZero, noContractTests}
 use Rattle.book.specs.Sound.{emptyTests, tableTests, sound}
 use Rattle.book.specs.declared.Book.{Book}
@@ -63,7 +63,7 @@ tables-pass b t =
 -- the tests of what is in the tables, with a contract or without
 abbrev pub contents : Book → Bool → List Bool
 contents b c =
-    cond c (agreedTests (b .contract) (take (b .nwindows) (b .windows)) (take (b .ninstructions) (b .instructions)) (take (b .ndefaults) (b .defaults)))
+    cond c (agreedTests (b .contract) (bookSpan b) (take (b .nwindows) (b .windows)) (take (b .ninstructions) (b .instructions)) (take (b .ndefaults) (b .defaults)))
     (emptyTests b)
 
 pub record Sound (b : Book) : Type 0 where
@@ -84,9 +84,9 @@ is-sound b s = of-T (sound b) (and-T (pass (tableTests b)) (pass (contents b (b 
 
 -- what is in use could be entered under it
 pub sound-used : (b : Book) → sound b ≡ true → b .agreed ≡ true
-    → Parts (b .contract) (take (b .nwindows) (b .windows)) (take (b .ninstructions) (b .instructions)) (take (b .ndefaults) (b .defaults))
+    → Parts (b .contract) (bookSpan b) (take (b .nwindows) (b .windows)) (take (b .ninstructions) (b .instructions)) (take (b .ndefaults) (b .defaults))
 sound-used b e s =
-    parts (b .contract) (take (b .nwindows) (b .windows)) (take (b .ninstructions) (b .instructions)) (take (b .ndefaults) (b .defaults))
+    parts (b .contract) (bookSpan b) (take (b .nwindows) (b .windows)) (take (b .ninstructions) (b .instructions)) (take (b .ndefaults) (b .defaults))
     (subst (λ x. T (pass (contents b x))) s (sound-parts b e .contents))
 
 -- what the ledger calls its contract

@@ -2,7 +2,7 @@
 use mathlib.Core.Bool.{true, false, cond}
 use mathlib.Core.List.{List, [], _∷_}
 use mathlib.Core.Option.{none}
-use Prim.Native.Nat.{_+_}
+use Prim.Native.Nat.{ℕ, _+_}
 use lib.IntN.{ℤ}
 use lib.Dec.{ltb}
 use lib.ListN.{getD, take, set, replicate}
@@ -30,6 +30,14 @@ emptyBook =
 
 -- ---- what a book and meter memory hold
 
+-- the span of a book: the minutes of its month
+unfoldable pub bookSpan : Book → ℕ
+bookSpan b = spanOf (b .contract)
+
+-- 15: the cells that meter memory must have for it
+unfoldable pub bookCells : Book → ℕ
+bookCells b = spanOf (b .contract)
+
 -- the ledger of a book and meter memory. Cells past the span are no readings
 unfoldable pub ledgerIn : Book → List ℤ → Ledger
 ledgerIn b meter =
@@ -39,7 +47,7 @@ ledgerIn b meter =
       instructions = take (b .ninstructions) (b .instructions);
       defaults = take (b .ndefaults) (b .defaults);
       closed = b .closed;
-      reading = λ m. cond (ltb m (spanOf (b .contract))) (cell (getD meter m missing)) none;
+      reading = λ m. cond (ltb m (bookSpan b)) (cell (getD meter m missing)) none;
     }
 
 -- ---- a taken command put into the book

@@ -2,9 +2,9 @@
 use mathlib.Core.Bool.{not, _&&_, cond}
 use Prim.Native.Nat.{ℕ}
 use lib.Dec.{leb}
-use Rattle.rules.specs.Ledger.{spanOf}
+use Rattle.book.specs.Book.{bookSpan, bookCells}
 use Rattle.book.specs.declared.Book.{Book}
 
 -- the span in which a book takes readings into meter memory of so many cells: 0 where 12, 13 or 15 holds
 unfoldable pub openSpan : Book → ℕ → ℕ
-openSpan b room = cond (b .agreed && not (b .closed) && leb (spanOf (b .contract)) room) (spanOf (b .contract)) 0
+openSpan b room = cond (b .agreed && not (b .closed) && leb (bookCells b) room) (bookSpan b) 0

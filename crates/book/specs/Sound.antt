@@ -11,7 +11,7 @@ use Rattle.rules.specs.Refusal.{taken}
 use Rattle.rules.specs.Reached.{agreedTests}
 use Rattle.tables.specs.Unused.{isNoWindow, isNoInstruction, isNoDefault}
 unfoldable pub use Rattle.tables.specs.Unused.{noContractTests}
-use Rattle.book.specs.Book.{emptyBook, putAll}
+use Rattle.book.specs.Book.{emptyBook, bookSpan, putAll}
 use Rattle.commands.specs.declared.entries.Command.{Command}
 use Rattle.book.specs.declared.Book.{Book}
 
@@ -51,7 +51,7 @@ sound b =
     pass (tableTests b)
     && pass
     (cond (b .agreed)
-    (agreedTests (b .contract) (take (b .nwindows) (b .windows)) (take (b .ninstructions) (b .instructions)) (take (b .ndefaults) (b .defaults)))
+    (agreedTests (b .contract) (bookSpan b) (take (b .nwindows) (b .windows)) (take (b .ninstructions) (b .instructions)) (take (b .ndefaults) (b .defaults)))
     (emptyTests b))
 
 -- the test is what document 01 words

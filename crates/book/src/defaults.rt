@@ -43,7 +43,8 @@ impl Book {
             return first;
         }
         let k = self.contract;
+        let span = self.span();
         let windows = self.windows;
-        default_number(k, windows, self.nwindows, self.ndefaults, d)
+        default_number(k, span, windows, self.nwindows, self.ndefaults, d)
     }
 }

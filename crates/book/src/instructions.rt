@@ -43,7 +43,8 @@ impl Book {
             return first;
         }
         let k = self.contract;
+        let span = self.span();
         let instructions = self.instructions;
-        instruction_number(k, instructions, self.ninstructions, i)
+        instruction_number(k, span, instructions, self.ninstructions, i)
     }
 }

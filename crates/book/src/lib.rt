@@ -11,6 +11,7 @@ mod instructions;
 mod reading;
 mod refusals;
 mod sound;
+mod span;
 mod windows;
 
 use commands::contract::Contract;

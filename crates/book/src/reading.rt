@@ -10,7 +10,6 @@ use commands::entries::Command;
 use commands::entries::Reading;
 use entering::readings::reading_number;
 use meter::put_reading;
-use tables::agreement::span_of;
 
 impl Book {
     // Enters a reading.
@@ -43,17 +42,16 @@ impl Book {
         if first != 0 {
             return first;
         }
-        let k = self.contract;
-        reading_number(k, r, meter)
+        reading_number(self.span(), r, meter)
     }
 
     // The span in which readings are taken into meter memory of `room` cells, 0 where none is. Only a contract and a close change it.
     pub fn open_span(self, room: usize) -> usize
         ensures { λ r. ⌜ r ≡ openSpan self room ⌝ }
     {
-        let k = self.contract;
-        let span = span_of(k);
-        if self.agreed & !self.closed & (span <= room) {
+        let span = self.span();
+        let cells = self.cells();
+        if self.agreed & !self.closed & (cells <= room) {
             span
         } else {
             0

@@ -3,27 +3,25 @@ ghost use mathlib.Core.Path.{_≡_};
 ghost use mathlib.Core.Bool.{false};
 ghost use lib.Dec.{ltb};
 ghost use lib.ListN.{length};
-ghost use Rattle.rules.specs.Ledger.{spanOf};
 ghost use Rattle.entering.specs.Numbers.{firstNumber};
+ghost use Rattle.book.specs.Book.{bookCells};
 use crate::Book;
 use crate::Entry;
 use entering::first::first_number;
 use rules::answer::Answer;
-use tables::agreement::span_of;
 
 impl Book {
     // What a command that is no contract meets up to 15.
     pub(crate) fn first_refusal(self, left: bool, input: u8, meter: &[i32]) -> u8
-        ensures { λ r. ⌜ r ≡ firstNumber input left (self .closed) (self .agreed) false (ltb (length (now (meter .entry))) (spanOf (self .contract))) ⌝ }
+        ensures { λ r. ⌜ r ≡ firstNumber input left (self .closed) (self .agreed) false (ltb (length (now (meter .entry))) (bookCells self)) ⌝ }
     {
-        let k = self.contract;
         first_number(
             input,
             left,
             self.closed,
             self.agreed,
             false,
-            meter.len() < span_of(k),
+            meter.len() < self.cells(),
         )
     }
 

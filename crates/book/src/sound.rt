@@ -23,11 +23,13 @@ impl Book {
             return self.empty_sound();
         }
         let k = self.contract;
+        let span = self.span();
         let windows = self.windows;
         let instructions = self.instructions;
         let defaults = self.defaults;
         agreed_sound(
             k,
+            span,
             windows,
             self.nwindows,
             instructions,

@@ -43,7 +43,8 @@ impl Book {
             return first;
         }
         let k = self.contract;
+        let span = self.span();
         let windows = self.windows;
-        window_number(k, windows, self.nwindows, w)
+        window_number(k, span, windows, self.nwindows, w)
     }
 }

@@ -9,17 +9,22 @@ use commands::checks::pick;
 use commands::contract::Contract;
 use commands::entries::Default;
 use commands::entries::Window;
-use tables::agreement::span_of;
 use tables::defaults::in_window;
 
 // 16, 21 and 23, beside the first w windows and after n defaults.
-pub fn default_number(k: Contract, windows: [Window; 128], w: usize, n: usize, d: Default) -> u8
-    requires { ⌜ (w ≤ 128) × (windowsSound k 0 (take w windows) ≡ true) ⌝ }
-    ensures { λ r. ⌜ r ≡ defaultNumber k (take w windows) n d ⌝ }
+pub fn default_number(
+    k: Contract,
+    span: usize,
+    windows: [Window; 128],
+    w: usize,
+    n: usize,
+    d: Default,
+) -> u8
+    requires { ⌜ (w ≤ 128) × (windowsSound k span 0 (take w windows) ≡ true) ⌝ }
+    ensures { λ r. ⌜ r ≡ defaultNumber span (take w windows) n d ⌝ }
 {
-    let span = span_of(k);
     let minute = d.minute;
-    let inside = in_window(k, windows, w, minute);
+    let inside = in_window(k, span, windows, w, minute);
     let beyond = span <= minute.0 as usize;
     let full = Contract::DEFAULTS_MOST <= n;
     let r23 = pick(full, 23, 0);

@@ -4,7 +4,7 @@ ghost use Rattle.entering.specs.Numbers.{firstNumber};
 use commands::checks::pick;
 
 // The number from a command's input, then 11 to 15.
-// left: commands leave the book; first: the command is a contract; short: meter memory is shorter than the span.
+// left: commands leave the book; first: the command is a contract; short: meter memory has too few cells.
 pub fn first_number(
     input: u8,
     left: bool,

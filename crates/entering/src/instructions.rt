@@ -10,20 +10,19 @@ use commands::checks::pick;
 use commands::contract::Contract;
 use commands::entries::Command;
 use commands::entries::Instruction;
-use tables::agreement::span_of;
 use tables::instructions::down_minutes;
 
 // 16, 19, 20 and 23, after the first n instructions.
 pub fn instruction_number(
     k: Contract,
+    span: usize,
     instructions: [Instruction; 64],
     n: usize,
     i: Instruction,
 ) -> u8
     requires { ⌜ (n ≤ 64) × (inRange (Command.Contract k) ≡ true) ⌝ }
-    ensures { λ r. ⌜ r ≡ instructionNumber k (take n instructions) i ⌝ }
+    ensures { λ r. ⌜ r ≡ instructionNumber k span (take n instructions) i ⌝ }
 {
-    let span = span_of(k);
     let down = down_minutes(k);
     let ready = ready(k, down, instructions, n);
     let beyond = span < i.cease.0 as usize + down as usize;

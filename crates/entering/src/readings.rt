@@ -6,13 +6,11 @@ use commands::checks::pick;
 use commands::contract::Contract;
 use commands::entries::Reading;
 use meter::cell;
-use tables::agreement::span_of;
 
 // 16 and 22.
-pub fn reading_number(k: Contract, r: Reading, meter: &[i32]) -> u8
-    ensures { λ n. ⌜ n ≡ readingNumber k (now (meter .entry)) r ⌝ }
+pub fn reading_number(span: usize, r: Reading, meter: &[i32]) -> u8
+    ensures { λ n. ⌜ n ≡ readingNumber span (now (meter .entry)) r ⌝ }
 {
-    let span = span_of(k);
     let minute = r.minute;
     let at = minute.0 as usize;
     let held = cell(meter, minute);

@@ -9,14 +9,12 @@ use commands::checks::pick;
 use commands::contract::Contract;
 use commands::entries::Window;
 use energy::units::Minutes;
-use tables::agreement::span_of;
 
 // 16, 17, 18 and 23, after the first n windows.
-pub fn window_number(k: Contract, windows: [Window; 128], n: usize, w: Window) -> u8
+pub fn window_number(k: Contract, span: usize, windows: [Window; 128], n: usize, w: Window) -> u8
     requires { ⌜ n ≤ 128 ⌝ }
-    ensures { λ r. ⌜ r ≡ windowNumber k (take n windows) w ⌝ }
+    ensures { λ r. ⌜ r ≡ windowNumber k span (take n windows) w ⌝ }
 {
-    let span = span_of(k);
     let end = last_end(windows, n);
     let beyond = span < w.end.0 as usize;
     let rejected = (k.service == Contract::COMMITTED) & (w.verdict == Contract::REJECTED);

@@ -12,7 +12,7 @@ use lib.IntN.{ℤ}
 use lib.ListN.{length, length-append}
 use Rattle.energy.specs.Lists.{concatMap, count, first, isEmpty, isSome, later, run, between, any}
 use Rattle.energy.proofs.Tests.{to-T}
-use Rattle.rules.specs.Ledger.{Ledger, ledgerOf, noContract, contractOf, spanOf, readingIn, readingOf}
+use Rattle.rules.specs.Ledger.{Ledger, ledgerOf, spanIn, cellsIn, readingIn, readingOf}
 use Rattle.rules.specs.Refusal.{refusal, joined, takenAfter, taken}
 use Rattle.rules.specs.File.{total, table, widthsOf, write}
 use Rattle.rules.specs.Reached.{Reached, untouched, agreed}
@@ -22,6 +22,7 @@ use Rattle.commands.specs.declared.entries.Command.{Command}
 use Rattle.commands.specs.declared.entries.Command.the-variants.{Contract as contractᶜ, Window as windowᶜ, Instruction as instructionᶜ, Default as defaultᶜ, Reading as readingᶜ, Close as closeᶜ}
 use Rattle.rules.proofs.Reached.{step as keeps, start}
 use Rattle.rules.proofs.Operands.{write-long}
+use Rattle.rules.proofs.Span.{span-cells, cells-none}
 use Rattle.rules.proofs.Taken.{grown, ledgerOf-snoc, concatMap-append, Allowed, allowed}
 
 -- ---- fewer minutes pass a test
@@ -116,7 +117,7 @@ module _ (g : Ledger) (r : Reading) (new : isSome (g .reading (r .minute .0)) �
   unfolding between
   fewer-bare size l = one-fewer (bare g) (bare (grown g (readingᶜ r))) read-more (size - 0) 0 (r .minute .0) (omega arith) (omega arith) (ap not new) read-now
 
-step : (size : ℕ) (g : Ledger) (c : Command) → spanOf (contractOf g) ≤ size → Allowed size g c → length (write c) + room size (grown g c) ≤ room size g
+step : (size : ℕ) (g : Ledger) (c : Command) → spanIn g ≤ size → Allowed size g c → length (write c) + room size (grown g c) ≤ room size g
 unfolding room later table widthsOf total
 step size g (contractᶜ k) s a =
     let cost : length (write (contractᶜ k)) ≡ 32 = write-long (contractᶜ k) in
@@ -132,7 +133,7 @@ step size g (defaultᶜ d) s a =
     simp (append-nil, length-append, or-false) (omega (arith, leb-false 128 (length (g .defaults)) (a .room)))
 step size g (readingᶜ r) s a =
     let cost : length (write (readingᶜ r)) ≡ 7 = write-long (readingᶜ r) in
-    let inside : r .minute .0 < size = omega (arith, leb-false (spanOf (contractOf g)) (r .minute .0) (a .inside)) in
+    let inside : r .minute .0 < size = omega (arith, leb-false (spanIn g) (r .minute .0) (a .inside)) in
     let less : suc (count (bare (grown g (readingᶜ r))) (between 0 size)) ≤ count (bare g) (between 0 size) = fewer-bare g r (a .unread) size inside in
     simp (append-nil, or-false) (omega arith)
 step size g closeᶜ s a =
@@ -141,11 +142,14 @@ step size g closeᶜ s a =
 
 -- ---- a list
 
--- meter memory holds the span
-pub span-fits : {size : ℕ} {g : Ledger} → Reached size g → spanOf (contractOf g) ≤ size
-unfolding contractOf first
-span-fits {size} (untouched u) = subst⁻¹ (λ ks. spanOf (first noContract ks) ≤ size) (u .contracts) (omega arith)
-span-fits (agreed a) = a .span
+-- meter memory has the cells for the span
+pub cells-fit : {size : ℕ} {g : Ledger} → Reached size g → cellsIn g ≤ size
+cells-fit {g = g} (untouched u) = omega (arith, cells-none g (u .contracts))
+cells-fit (agreed a) = a .cells
+
+-- and so holds it
+pub span-fits : {size : ℕ} {g : Ledger} → Reached size g → spanIn g ≤ size
+span-fits {g = g} r = omega (arith, cells-fit r, span-cells g)
 
 -- at most all of some numbers pass a test
 count-most : (f : ℕ → Bool) (n a : ℕ) → count f (run a n) ≤ n

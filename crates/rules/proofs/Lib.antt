@@ -1,6 +1,7 @@
 pub mod Lists
 pub mod Taken
 pub mod Tables
+pub mod Span
 pub mod Reached
 pub mod Replay
 pub mod Cuts

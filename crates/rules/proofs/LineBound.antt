@@ -7,7 +7,7 @@ use native.Mathlib.Omega.{arith}
 use lib.Dec.{T}
 use lib.ListN.{length, length-append, length-map}
 use Rattle.energy.specs.Lists.{sumℕ}
-use Rattle.rules.specs.Ledger.{Ledger, ledgerOf, contractOf, spanOf, expiry, rise, endOf}
+use Rattle.rules.specs.Ledger.{Ledger, ledgerOf, contractOf, spanIn, expiry, rise, endOf}
 use Rattle.rules.specs.Refusal.{taken}
 use Rattle.rules.specs.Segment.{segmentsOf, segmentsFrom, segments}
 use Rattle.rules.specs.Statement.{lineOf, lines}
@@ -28,34 +28,34 @@ touches k i = touched (rise k i) (expiry k i) + touched (expiry k i) (i .cease .
 
 -- ---- the segments of one instruction
 
-module _ (k : Contract) (t : Terms k) where
-  timed : {e : ℕ} {i : Instruction} → InstructionFits k e i → Timed k i
+module _ (k : Contract) (span : ℕ) (t : Terms k) where
+  timed : {e : ℕ} {i : Instruction} → InstructionFits k span e i → Timed k i
   timed f = record { starts = omega arith; steady = f .ceased }
 
-  count-of : (n : ℕ) {e : ℕ} (i : Instruction) → InstructionFits k e i → length (segmentsOf k n i) ≡ touches k i
+  count-of : (n : ℕ) {e : ℕ} (i : Instruction) → InstructionFits k span e i → length (segmentsOf k n i) ≡ touches k i
   count-of n i f = count-segments k n i (timed f) (omega arith)
 
-  touches-most : {e : ℕ} (i : Instruction) → InstructionFits k e i → touches k i + rise k i / 30 ≤ 3 + (endOf k i - 1) / 30
+  touches-most : {e : ℕ} (i : Instruction) → InstructionFits k span e i → touches k i + rise k i / 30 ≤ 3 + (endOf k i - 1) / 30
   touches-most i f = stages-most (rise k i) (expiry k i) (i .cease .0) (endOf k i) (omega arith) (f .ceased) (omega arith)
 
   -- over all instructions after minute e: p is a minute before them, 0 or the last active one
-  segments-most : (is : List Instruction) (n e p : ℕ) → T (instructionsSound k e is) → p ≤ e → p < spanOf k
-      → length (segmentsFrom k n is) + p / 30 ≤ 3 * length is + (spanOf k - 1) / 30
+  segments-most : (is : List Instruction) (n e p : ℕ) → T (instructionsSound k span e is) → p ≤ e → p < span
+      → length (segmentsFrom k n is) + p / 30 ≤ 3 * length is + (span - 1) / 30
   unfolding segmentsFrom
   segments-most [] n e p s h l = omega arith
   segments-most (i ∷ is) n e p s h l =
-      let (f, s′) = instructions-cons k e i is s in
+      let (f, s′) = instructions-cons k span e i is s in
       let here : length (segmentsOf k n i) + rise k i / 30 ≤ 3 + (endOf k i - 1) / 30 = rw (count-of n i f) (touches-most i f) in
-      let rest : length (segmentsFrom k (suc n) is) + (endOf k i - 1) / 30 ≤ 3 * length is + (spanOf k - 1) / 30 =
+      let rest : length (segmentsFrom k (suc n) is) + (endOf k i - 1) / 30 ≤ 3 * length is + (span - 1) / 30 =
       segments-most is (suc n) (endOf k i + k .recovery .0) (endOf k i - 1) s′ (omega arith) (omega arith) in
       omega (arith, length-append (segmentsOf k n i) (segmentsFrom k (suc n) is))
 
   -- and how many there are
-  segments-count : (is : List Instruction) (n e : ℕ) → T (instructionsSound k e is) → length (segmentsFrom k n is) ≡ sumℕ (touches k) is
+  segments-count : (is : List Instruction) (n e : ℕ) → T (instructionsSound k span e is) → length (segmentsFrom k n is) ≡ sumℕ (touches k) is
   unfolding segmentsFrom sumℕ
   segments-count [] n e s = refl
   segments-count (i ∷ is) n e s =
-      let (f, s′) = instructions-cons k e i is s in
+      let (f, s′) = instructions-cons k span e i is s in
       length-append (segmentsOf k n i) (segmentsFrom k (suc n) is)
       ∙ ap₂ _+_ (count-of n i f) (segments-count is (suc n) (endOf k i + k .recovery .0) s′)
 
@@ -74,21 +74,22 @@ none k is e = (ap (λ is. length (segmentsFrom k 1 is)) e, ap (sumℕ (touches k
 pub lines-count : {size : ℕ} (g : Ledger) → Reached size g → length (lines g) ≡ sumℕ (touches (contractOf g)) (g .instructions)
 unfolding segments
 lines-count g (untouched u) = let z = none (contractOf g) (g .instructions) (u .instructions) in lines-segments g ∙ z .0 ∙ sym (z .1)
-lines-count g (agreed a) = lines-segments g ∙ segments-count (contractOf g) (terms-of a) (g .instructions) 1 0 (parts-of a .instructions)
+lines-count g (agreed a) = lines-segments g ∙ segments-count (contractOf g) (spanIn g) (terms-of a) (g .instructions) 1 0 (parts-of a .instructions)
 
 -- and its bound
 bound : {size : ℕ} (g : Ledger) → Reached size g → LineBound g
-unfolding segments
+unfolding segments spanIn
 bound g (untouched u) =
     let z : length (lines g) ≡ 0 = lines-segments g ∙ none (contractOf g) (g .instructions) (u .instructions) .0 in
     record { most = omega arith; elevenDays = λ h. omega arith; inAll = omega arith }
 bound g (agreed a) =
     let k : Contract = contractOf g in
+    let span : ℕ = spanIn g in
     let t : Terms k = terms-of a in
     let days : (1 ≤ k .days) × (k .days ≤ 31) = t .ranges .days in
     let few : length (g .instructions) ≤ 64 = a .instructions in
-    let most : length (segmentsFrom k 1 (g .instructions)) + 0 / 30 ≤ 3 * length (g .instructions) + (spanOf k - 1) / 30 =
-    segments-most k t (g .instructions) 1 0 0 (parts-of a .instructions) (le-refl 0) (omega arith) in
+    let most : length (segmentsFrom k 1 (g .instructions)) + 0 / 30 ≤ 3 * length (g .instructions) + (span - 1) / 30 =
+    segments-most k span t (g .instructions) 1 0 0 (parts-of a .instructions) (le-refl 0) (omega arith) in
     let same : length (lines g) ≡ length (segmentsFrom k 1 (g .instructions)) = lines-segments g in
     record { most = omega arith; elevenDays = λ h. omega arith; inAll = omega arith }
 

@@ -1,5 +1,5 @@
 -- A ledger that commands leave is untouched, or has one contract and entries that could be taken under it: by induction over the commands.
-use mathlib.Core.Path.{_≡_, refl, sym, ap, _∙_, subst}
+use mathlib.Core.Path.{_≡_, refl, sym, ap, _∙_, subst, subst⁻¹}
 use mathlib.Core.Bool.{Bool, true, false, cond, not, _&&_, true≢false}
 use mathlib.Core.List.{List, [], _∷_, _++_, append-nil}
 use mathlib.Core.Option.{Option, none, some, Option·none-ne-some, Option·some-injective}
@@ -12,7 +12,7 @@ use borrow.Author.Tests.{leb-false, ltb-false}
 use Rattle.energy.specs.Lists.{all, any, concatMap, first, isEmpty, later, pass}
 use Rattle.energy.proofs.Tests.{T-and, and-T, to-T, off-T, off-not, passes, passed, all-snoc}
 use Rattle.commands.specs.Input.{from-to, inRange, rampTooLong, isReading}
-use Rattle.rules.specs.Ledger.{Ledger, ledgerOf, contractOf, noContract, contractIn, windowIn, instructionIn, defaultIn, readingIn, readingOf, isContract, spanOf, within}
+use Rattle.rules.specs.Ledger.{Ledger, ledgerOf, contractOf, noContract, contractIn, windowIn, instructionIn, defaultIn, readingIn, readingOf, isContract, spanOf, spanIn, cellsIn, within}
 use Rattle.rules.specs.Refusal.{refusal, joined, takenAfter, taken}
 use Rattle.rules.specs.Reached.{windowsSound, instructionsSound, defaultSound, agreedTests, Untouched, Agreed, Reached, Reached·theorem}
 use Rattle.rules.specs.Reached.Reached.{untouched, agreed}
@@ -25,39 +25,40 @@ use Rattle.commands.specs.declared.entries.Command.{Command}
 use Rattle.commands.specs.declared.entries.Command.the-variants.{Contract as contractᶜ, Window as windowᶜ, Instruction as instructionᶜ, Default as defaultᶜ, Reading as readingᶜ, Close as closeᶜ}
 use Rattle.commands.proofs.Terms.{Terms, terms}
 use Rattle.rules.proofs.Taken.{grown, ledgerOf-snoc, Allowed, allowed}
+use Rattle.rules.proofs.Span.{span-kept, cells-kept, cells-new}
 use Rattle.rules.proofs.Tables.{lastEnd, last-end, one-window, windows-snoc, ready, ready-recovered, one-instruction, instructions-snoc, defaults-more}
 
 -- ---- the parts of a ledger under a contract
 
 -- the tests of a contract k and its tables, by name
-pub record Parts (k : Contract) (ws : List Window) (is : List Instruction) (ds : List Default) : Type 0 where
+pub record Parts (k : Contract) (span : ℕ) (ws : List Window) (is : List Instruction) (ds : List Default) : Type 0 where
   pub operands : T (inRange (contractᶜ k))
   pub ramps : T (not (rampTooLong (contractᶜ k)))
-  pub windows : T (windowsSound k 0 ws)
-  pub instructions : T (instructionsSound k 0 is)
-  pub defaults : T (all (defaultSound k ws) ds)
+  pub windows : T (windowsSound k span 0 ws)
+  pub instructions : T (instructionsSound k span 0 is)
+  pub defaults : T (all (defaultSound k span ws) ds)
 
-pub parts : (k : Contract) (ws : List Window) (is : List Instruction) (ds : List Default) → T (pass (agreedTests k ws is ds)) → Parts k ws is ds
+pub parts : (k : Contract) (span : ℕ) (ws : List Window) (is : List Instruction) (ds : List Default) → T (pass (agreedTests k span ws is ds)) → Parts k span ws is ds
 unfolding agreedTests
-parts k ws is ds t =
-    let p = passes (agreedTests k ws is ds) t in
+parts k span ws is ds t =
+    let p = passes (agreedTests k span ws is ds) t in
     record { operands = p .0; ramps = p .1 .0; windows = p .1 .1 .0; instructions = p .1 .1 .1 .0; defaults = p .1 .1 .1 .1 .0 }
 
-pub tested : {k : Contract} {ws : List Window} {is : List Instruction} {ds : List Default} → Parts k ws is ds → T (pass (agreedTests k ws is ds))
+pub tested : {k : Contract} {span : ℕ} {ws : List Window} {is : List Instruction} {ds : List Default} → Parts k span ws is ds → T (pass (agreedTests k span ws is ds))
 unfolding agreedTests
-tested {k} {ws} {is} {ds} p =
-    passed (agreedTests k ws is ds) (p .operands, (p .ramps, (p .windows, (p .instructions, (p .defaults, tt)))))
+tested {k} {span} {ws} {is} {ds} p =
+    passed (agreedTests k span ws is ds) (p .operands, (p .ramps, (p .windows, (p .instructions, (p .defaults, tt)))))
 
-pub parts-of : {size : ℕ} {g : Ledger} → Agreed size g → Parts (contractOf g) (g .windows) (g .instructions) (g .defaults)
-parts-of {g = g} a = parts (contractOf g) (g .windows) (g .instructions) (g .defaults) (a .tests)
+pub parts-of : {size : ℕ} {g : Ledger} → Agreed size g → Parts (contractOf g) (spanIn g) (g .windows) (g .instructions) (g .defaults)
+parts-of {g = g} a = parts (contractOf g) (spanIn g) (g .windows) (g .instructions) (g .defaults) (a .tests)
 
 -- the contract of a ledger, in numbers
 pub terms-of : {size : ℕ} {g : Ledger} → Agreed size g → Terms (contractOf g)
 terms-of {g = g} a = let p = parts-of a in terms (contractOf g) (p .operands) (p .ramps)
 
--- readings of a contract's span
-abbrev Readings : Contract → Ledger → Type 0
-Readings k g = (m : ℕ) (kw : ℤ) → g .reading m ≡ some kw → (m < spanOf k) × T (isReading kw)
+-- readings of a span
+abbrev Readings : ℕ → Ledger → Type 0
+Readings span g = (m : ℕ) (kw : ℤ) → g .reading m ≡ some kw → (m < span) × T (isReading kw)
 
 -- tables with room for what they hold
 record Fits (ws : List Window) (is : List Instruction) (ds : List Default) : Type 0 where
@@ -66,19 +67,19 @@ record Fits (ws : List Window) (is : List Instruction) (ds : List Default) : Typ
   defaults : length ds ≤ 128
 
 -- a ledger whose one contract is k
-under : (size : ℕ) (k : Contract) (g : Ledger) → g .contracts ≡ k ∷ [] → Parts k (g .windows) (g .instructions) (g .defaults)
-    → Fits (g .windows) (g .instructions) (g .defaults) → spanOf k ≤ size → Readings k g → Agreed size g
+under : (size : ℕ) (k : Contract) (g : Ledger) → g .contracts ≡ k ∷ [] → Parts k (spanIn g) (g .windows) (g .instructions) (g .defaults)
+    → Fits (g .windows) (g .instructions) (g .defaults) → cellsIn g ≤ size → Readings (spanIn g) g → Agreed size g
 unfolding contractOf first
 under size k g e p f s r =
     let same : k ≡ contractOf g = sym (ap (first noContract) e) in
     record {
       contract = e ∙ ap (λ x. x ∷ []) same;
-      tests = subst (λ x. T (pass (agreedTests x (g .windows) (g .instructions) (g .defaults)))) same (tested p);
+      tests = subst (λ x. T (pass (agreedTests x (spanIn g) (g .windows) (g .instructions) (g .defaults)))) same (tested p);
       windows = f .windows;
       instructions = f .instructions;
       defaults = f .defaults;
-      span = subst (λ x. spanOf x ≤ size) same s;
-      readings = subst (λ x. Readings x g) same r;
+      cells = s;
+      readings = r;
     }
 
 -- ---- which of the two kinds a command meets
@@ -110,28 +111,35 @@ module _ {size : ℕ} {g : Ledger} (a : Agreed size g) where
   abbrev k : Contract
   k = contractOf g
 
-  abbrev p : Parts k (g .windows) (g .instructions) (g .defaults)
+  abbrev span : ℕ
+  span = spanIn g
+
+  abbrev p : Parts k span (g .windows) (g .instructions) (g .defaults)
   p = parts-of a
 
   -- no contract: the contract stays
-  keep : (c : Command) → contractIn c ≡ [] → Parts k (g .windows ++ windowIn c) (g .instructions ++ instructionIn c) (g .defaults ++ defaultIn c)
-      → Fits (g .windows ++ windowIn c) (g .instructions ++ instructionIn c) (g .defaults ++ defaultIn c) → Readings k (grown g c) → Agreed size (grown g c)
-  keep c e q f r = under size k (grown g c) (ap (λ l. g .contracts ++ l) e ∙ append-nil (g .contracts) ∙ a .contract) q f (a .span) r
+  keep : (c : Command) → contractIn c ≡ [] → Parts k span (g .windows ++ windowIn c) (g .instructions ++ instructionIn c) (g .defaults ++ defaultIn c)
+      → Fits (g .windows ++ windowIn c) (g .instructions ++ instructionIn c) (g .defaults ++ defaultIn c) → Readings span (grown g c) → Agreed size (grown g c)
+  keep c e q f r =
+      let s : spanIn (grown g c) ≡ span = span-kept g c e in
+      under size k (grown g c) (ap (λ l. g .contracts ++ l) e ∙ append-nil (g .contracts) ∙ a .contract)
+      (subst⁻¹ (λ n. Parts k n (g .windows ++ windowIn c) (g .instructions ++ instructionIn c) (g .defaults ++ defaultIn c)) s q) f
+      (omega (arith, cells-kept g c e, a .cells)) (subst⁻¹ (λ n. Readings n (grown g c)) s r)
 
   -- no reading: the readings stay
-  read : (c : Command) → ((m : ℕ) → readingIn c m ≡ none) → Readings k (grown g c)
+  read : (c : Command) → ((m : ℕ) → readingIn c m ≡ none) → Readings span (grown g c)
   unfolding later
   read c n m kw q = a .readings m kw (ap (λ o. later (g .reading m) o) (sym (n m)) ∙ q)
 
   -- no new entry: the tables stay
-  still : Parts k (g .windows ++ []) (g .instructions ++ []) (g .defaults ++ [])
+  still : Parts k span (g .windows ++ []) (g .instructions ++ []) (g .defaults ++ [])
   still =
       record {
         operands = p .operands;
         ramps = p .ramps;
-        windows = kept (λ l. T (windowsSound k 0 l)) (g .windows) (p .windows);
-        instructions = kept (λ l. T (instructionsSound k 0 l)) (g .instructions) (p .instructions);
-        defaults = kept (λ ds. T (all (defaultSound k (g .windows ++ [])) ds)) (g .defaults) (kept (λ ws. T (all (defaultSound k ws) (g .defaults))) (g .windows) (p .defaults));
+        windows = kept (λ l. T (windowsSound k span 0 l)) (g .windows) (p .windows);
+        instructions = kept (λ l. T (instructionsSound k span 0 l)) (g .instructions) (p .instructions);
+        defaults = kept (λ ds. T (all (defaultSound k span (g .windows ++ [])) ds)) (g .defaults) (kept (λ ws. T (all (defaultSound k span ws) (g .defaults))) (g .windows) (p .defaults));
       }
 
   few : Fits (g .windows ++ []) (g .instructions ++ []) (g .defaults ++ [])
@@ -144,31 +152,31 @@ module _ {size : ℕ} {g : Ledger} (a : Agreed size g) where
 
   with-window : (w : Window) → Allowed size g (windowᶜ w) → Agreed size (grown g (windowᶜ w))
   with-window w h =
-      let one : T (windowsSound k (lastEnd 0 (g .windows)) (w ∷ [])) =
-      one-window k (lastEnd 0 (g .windows)) w (h .operands) (h .shape) (h .inside) (h .verdict)
+      let one : T (windowsSound k span (lastEnd 0 (g .windows)) (w ∷ [])) =
+      one-window k span (lastEnd 0 (g .windows)) w (h .operands) (h .shape) (h .inside) (h .verdict)
       (subst (λ x. ltb (w .start .0) x ≡ false) (last-end (record { start = record { 0 = 0 }; end = record { 0 = 0 }; verdict = 0 }) (g .windows)) (h .after)) in
       keep (windowᶜ w) refl
       (record {
         operands = still .operands;
         ramps = still .ramps;
-        windows = windows-snoc k 0 (g .windows) w (p .windows) one;
+        windows = windows-snoc k span 0 (g .windows) w (p .windows) one;
         instructions = still .instructions;
-        defaults = kept (λ l. T (all (defaultSound k (g .windows ++ (w ∷ []))) l)) (g .defaults) (defaults-more k (g .windows) w (g .defaults) (p .defaults));
+        defaults = kept (λ l. T (all (defaultSound k span (g .windows ++ (w ∷ []))) l)) (g .defaults) (defaults-more k span (g .windows) w (g .defaults) (p .defaults));
       })
       (record { windows = fits 128 (g .windows) w (h .room); instructions = few .instructions; defaults = few .defaults })
       (read (windowᶜ w) (λ m. refl))
 
   with-instruction : (i : Instruction) → Allowed size g (instructionᶜ i) → Agreed size (grown g (instructionᶜ i))
   with-instruction i h =
-      let one : T (instructionsSound k (ready k 0 (g .instructions)) (i ∷ [])) =
-      one-instruction k (ready k 0 (g .instructions)) i (h .operands) (h .inside) (h .ceased)
+      let one : T (instructionsSound k span (ready k 0 (g .instructions)) (i ∷ [])) =
+      one-instruction k span (ready k 0 (g .instructions)) i (h .operands) (h .inside) (h .ceased)
       (subst (λ x. ltb (i .issue .0) x ≡ false) (sym (ready-recovered k (g .instructions))) (h .recovered)) in
       keep (instructionᶜ i) refl
       (record {
         operands = still .operands;
         ramps = still .ramps;
         windows = still .windows;
-        instructions = instructions-snoc k 0 (g .instructions) i (p .instructions) one;
+        instructions = instructions-snoc k span 0 (g .instructions) i (p .instructions) one;
         defaults = still .defaults;
       })
       (record { windows = few .windows; instructions = fits 64 (g .instructions) i (h .room); defaults = few .defaults })
@@ -177,11 +185,11 @@ module _ {size : ℕ} {g : Ledger} (a : Agreed size g) where
   with-default : (d : Default) → Allowed size g (defaultᶜ d) → Agreed size (grown g (defaultᶜ d))
   with-default d h =
       let ok : Bool = inRange (defaultᶜ d) in
-      let below : Bool = ltb (d .minute .0) (spanOf k) in
+      let below : Bool = ltb (d .minute .0) span in
       let windowed : Bool = any (λ w. within w (d .minute .0)) (g .windows) in
-      let one : T (defaultSound k (g .windows) d) =
+      let one : T (defaultSound k span (g .windows) d) =
       and-T (ok && below) windowed
-      (and-T ok below (h .operands) (lt→ltb (d .minute .0) (spanOf k) (leb-false (spanOf k) (d .minute .0) (h .inside))))
+      (and-T ok below (h .operands) (lt→ltb (d .minute .0) span (leb-false span (d .minute .0) (h .inside))))
       (off-not windowed (h .windowed)) in
       keep (defaultᶜ d) refl
       (record {
@@ -190,8 +198,8 @@ module _ {size : ℕ} {g : Ledger} (a : Agreed size g) where
         windows = still .windows;
         instructions = still .instructions;
         defaults =
-            kept (λ ws. T (all (defaultSound k ws) (g .defaults ++ (d ∷ [])))) (g .windows)
-            (all-snoc (defaultSound k (g .windows)) (g .defaults) d (p .defaults) one);
+            kept (λ ws. T (all (defaultSound k span ws) (g .defaults ++ (d ∷ [])))) (g .windows)
+            (all-snoc (defaultSound k span (g .windows)) (g .defaults) d (p .defaults) one);
       })
       (record { windows = few .windows; instructions = few .instructions; defaults = fits 128 (g .defaults) d (h .room) })
       (read (defaultᶜ d) (λ m. refl))
@@ -203,11 +211,11 @@ module _ {size : ℕ} {g : Ledger} (a : Agreed size g) where
       (λ m kw q. go (eqb (r .minute .0) m) refl kw q)
     where
       go : {m : ℕ} (b : Bool) → eqb (r .minute .0) m ≡ b → (kw : ℤ) → later (g .reading m) (cond b (some (r .kw .0)) none) ≡ some kw
-          → (m < spanOf k) × T (isReading kw)
+          → (m < span) × T (isReading kw)
       go {m} true e kw q =
           let same : r .minute .0 ≡ m = eqb→eq (r .minute .0) m (to-T e) in
           let range = T-and (from-to 0 44640 (r .minute .0)) (isReading (r .kw .0)) (h .operands) in (
-            subst (λ x. x < spanOf k) same (leb-false (spanOf k) (r .minute .0) (h .inside)),
+            subst (λ x. x < span) same (leb-false span (r .minute .0) (h .inside)),
             subst (λ x. T (isReading x)) (Option·some-injective (r .kw .0) kw q) (range .1),
           )
       go {m} false e kw q = a .readings m kw q
@@ -227,7 +235,7 @@ with-contract {size} {g} k u h =
     under size k (grown g (contractᶜ k)) (ap (λ l. l ++ (k ∷ [])) (u .contracts))
     (rw (ws, is, ds) (record { operands = h .operands; ramps = off-T (rampTooLong (contractᶜ k)) (h .ramps); windows = tt; instructions = tt; defaults = tt }))
     (record { windows = omega (arith, ap length ws); instructions = omega (arith, ap length is); defaults = omega (arith, ap length ds) })
-    (ltb-false size (spanOf k) (h .memory))
+    (omega (arith, cells-new g k (u .contracts), ltb-false size (spanOf k) (h .memory)))
     (λ m kw q. absurd (Option·none-ne-some kw (sym (u .readings m) ∙ q)))
 
 -- ---- any command

@@ -13,7 +13,7 @@ use lib.Seq.{append-snoc}
 use Rattle.energy.specs.Lists.{all, any, concatMap, first, isEmpty, later}
 use Rattle.energy.proofs.Tests.{T-and, of-T}
 use Rattle.commands.specs.Input.{lowest, inRange, rampTooLong, badWindow}
-use Rattle.rules.specs.Ledger.{Ledger, ledgerOf, contractOf, spanOf, expiry, endOf, within, readingOf}
+use Rattle.rules.specs.Ledger.{Ledger, ledgerOf, contractOf, spanOf, spanIn, cellsIn, expiry, endOf, within, readingOf}
 use Rattle.rules.specs.Refusal.{conditions, refusal, joined, takenAfter}
 use Rattle.rules.specs.Reached.{windowsSound, instructionsSound, defaultSound}
 use Rattle.commands.specs.declared.contract.Contract.{Contract}
@@ -122,9 +122,9 @@ module _ (size : ℕ) (k : Contract) (fit : spanOf k ≤ size) where
   contract-replay t s = replay-cons (contract-taken t s) refl (replay-none refl)
 
   -- a window that could be taken next is taken, and leaves the rest so
-  window-taken : (ws : List Window) (w : Window) (rest : List Window) → T (windowsSound k (lastEnd 0 ws) (w ∷ rest)) → length ws < 128
-      → (refusal false size (held k ws [] [] false unread) (windowᶜ w) ≡ none) × T (windowsSound k (lastEnd 0 (ws ++ (w ∷ []))) rest)
-  unfolding refusal conditions lowest contractOf first isEmpty windowsSound
+  window-taken : (ws : List Window) (w : Window) (rest : List Window) → T (windowsSound k (spanOf k) (lastEnd 0 ws) (w ∷ rest)) → length ws < 128
+      → (refusal false size (held k ws [] [] false unread) (windowᶜ w) ≡ none) × T (windowsSound k (spanOf k) (lastEnd 0 (ws ++ (w ∷ []))) rest)
+  unfolding refusal conditions lowest spanIn cellsIn contractOf first isEmpty windowsSound
   window-taken ws w rest t l =
       let rejected : Bool = eqb (k .service) 0 && eqb (w .verdict) 1 in
       let p = apart (inRange (windowᶜ w))
@@ -132,7 +132,7 @@ module _ (size : ℕ) (k : Contract) (fit : spanOf k ≤ size) where
       ∷ leb (w .end .0) (spanOf k)
       ∷ not rejected
       ∷ leb (lastEnd 0 ws) (w .start .0)
-      ∷ windowsSound k (w .end .0) rest
+      ∷ windowsSound k (spanOf k) (w .end .0) rest
       ∷ [])
       t in (
         rw (
@@ -145,28 +145,28 @@ module _ (size : ℕ) (k : Contract) (fit : spanOf k ≤ size) where
           le-ltb (w .start .0) (lastEnd 0 ws) (leb→le (lastEnd 0 ws) (w .start .0) (p .1 .1 .1 .1 .0)),
           lt-leb 128 (length ws) l,
         ),
-        subst (λ e. T (windowsSound k e rest)) (sym (last-added 0 ws w)) (p .1 .1 .1 .1 .1 .0),
+        subst (λ e. T (windowsSound k (spanOf k) e rest)) (sym (last-added 0 ws w)) (p .1 .1 .1 .1 .1 .0),
       )
 
   -- all windows
-  pub windows-replay : (ws : List Window) → T (windowsSound k 0 ws) → length ws ≤ 128
+  pub windows-replay : (ws : List Window) → T (windowsSound k (spanOf k) 0 ws) → length ws ≤ 128
       → Replays size (held k [] [] [] false unread) (map windowᶜ ws) (held k ws [] [] false unread)
   unfolding lastEnd later
   windows-replay ws t l =
-      table-replay size 128 windowᶜ (λ ws. held k ws [] [] false unread) (λ ws rest. T (windowsSound k (lastEnd 0 ws) rest)) (λ ws w. refl) window-taken
+      table-replay size 128 windowᶜ (λ ws. held k ws [] [] false unread) (λ ws rest. T (windowsSound k (spanOf k) (lastEnd 0 ws) rest)) (λ ws w. refl) window-taken
       [] ws t (omega arith)
 
   -- an instruction
   instruction-taken : (ws : List Window) (is : List Instruction) (i : Instruction) (rest : List Instruction)
-      → T (instructionsSound k (ready k 0 is) (i ∷ rest)) → length is < 64
-      → (refusal false size (held k ws is [] false unread) (instructionᶜ i) ≡ none) × T (instructionsSound k (ready k 0 (is ++ (i ∷ []))) rest)
-  unfolding refusal conditions lowest contractOf first isEmpty instructionsSound
+      → T (instructionsSound k (spanOf k) (ready k 0 is) (i ∷ rest)) → length is < 64
+      → (refusal false size (held k ws is [] false unread) (instructionᶜ i) ≡ none) × T (instructionsSound k (spanOf k) (ready k 0 (is ++ (i ∷ []))) rest)
+  unfolding refusal conditions lowest spanIn cellsIn contractOf first isEmpty instructionsSound
   instruction-taken ws is i rest t l =
       let p = apart (inRange (instructionᶜ i))
       (leb (endOf k i) (spanOf k)
       ∷ leb (expiry k i) (i .cease .0)
       ∷ leb (ready k 0 is) (i .issue .0)
-      ∷ instructionsSound k (endOf k i + k .recovery .0) rest
+      ∷ instructionsSound k (spanOf k) (endOf k i + k .recovery .0) rest
       ∷ [])
       t in (
         rw (
@@ -178,25 +178,25 @@ module _ (size : ℕ) (k : Contract) (fit : spanOf k ≤ size) where
           le-ltb (i .issue .0) (ready k 0 is) (leb→le (ready k 0 is) (i .issue .0) (p .1 .1 .1 .0)),
           lt-leb 64 (length is) l,
         ),
-        subst (λ e. T (instructionsSound k e rest)) (sym (ready-added k 0 is i)) (p .1 .1 .1 .1 .0),
+        subst (λ e. T (instructionsSound k (spanOf k) e rest)) (sym (ready-added k 0 is i)) (p .1 .1 .1 .1 .0),
       )
 
   -- all instructions
-  pub instructions-replay : (ws : List Window) (is : List Instruction) → T (instructionsSound k 0 is) → length is ≤ 64
+  pub instructions-replay : (ws : List Window) (is : List Instruction) → T (instructionsSound k (spanOf k) 0 is) → length is ≤ 64
       → Replays size (held k ws [] [] false unread) (map instructionᶜ is) (held k ws is [] false unread)
   unfolding ready later
   instructions-replay ws is t l =
-      table-replay size 64 instructionᶜ (λ is. held k ws is [] false unread) (λ is rest. T (instructionsSound k (ready k 0 is) rest))
+      table-replay size 64 instructionᶜ (λ is. held k ws is [] false unread) (λ is rest. T (instructionsSound k (spanOf k) (ready k 0 is) rest))
       (λ is i j. held k (append-nil ws j) (is ++ (i ∷ [])) [] false unread) (instruction-taken ws)
       [] is t (omega arith)
 
   -- a default
   default-taken : (ws : List Window) (is : List Instruction) (ds : List Default) (d : Default) (rest : List Default)
-      → T (all (defaultSound k ws) (d ∷ rest)) → length ds < 128
-      → (refusal false size (held k ws is ds false unread) (defaultᶜ d) ≡ none) × T (all (defaultSound k ws) rest)
-  unfolding refusal conditions lowest contractOf first isEmpty all
+      → T (all (defaultSound k (spanOf k) ws) (d ∷ rest)) → length ds < 128
+      → (refusal false size (held k ws is ds false unread) (defaultᶜ d) ≡ none) × T (all (defaultSound k (spanOf k) ws) rest)
+  unfolding refusal conditions lowest spanIn cellsIn contractOf first isEmpty all
   default-taken ws is ds d rest t l =
-      let q = T-and (defaultSound k ws d) (all (defaultSound k ws) rest) t in
+      let q = T-and (defaultSound k (spanOf k) ws d) (all (defaultSound k (spanOf k) ws) rest) t in
       let windowed : Bool = any (λ w. within w (d .minute .0)) ws in
       let p = apart (inRange (defaultᶜ d)) (ltb (d .minute .0) (spanOf k) ∷ windowed ∷ []) (q .0) in (
         rw (
@@ -210,10 +210,10 @@ module _ (size : ℕ) (k : Contract) (fit : spanOf k ≤ size) where
       )
 
   -- all defaults
-  pub defaults-replay : (ws : List Window) (is : List Instruction) (ds : List Default) → T (all (defaultSound k ws) ds) → length ds ≤ 128
+  pub defaults-replay : (ws : List Window) (is : List Instruction) (ds : List Default) → T (all (defaultSound k (spanOf k) ws) ds) → length ds ≤ 128
       → Replays size (held k ws is [] false unread) (map defaultᶜ ds) (held k ws is ds false unread)
   unfolding later
   defaults-replay ws is ds t l =
-      table-replay size 128 defaultᶜ (λ ds. held k ws is ds false unread) (λ ds rest. T (all (defaultSound k ws) rest))
+      table-replay size 128 defaultᶜ (λ ds. held k ws is ds false unread) (λ ds rest. T (all (defaultSound k (spanOf k) ws) rest))
       (λ ds d j. held k (append-nil ws j) (append-nil is j) (ds ++ (d ∷ [])) false unread) (default-taken ws is)
       [] ds t (omega arith)

@@ -13,7 +13,7 @@ use lib.IntN.{ℤ}
 use Rattle.energy.specs.Lists.{all, any, between, concatMap, first, isEmpty, isSome, later, run}
 use Rattle.energy.proofs.Tests.{and-T, of-T}
 use Rattle.commands.specs.Input.{isReading, lowest}
-use Rattle.rules.specs.Ledger.{Ledger, ledgerOf, contractOf, spanOf, readingOf}
+use Rattle.rules.specs.Ledger.{Ledger, ledgerOf, contractOf, spanIn, cellsIn, readingOf}
 use Rattle.rules.specs.Refusal.{conditions, refusal, taken}
 use Rattle.rules.specs.Reached.{Untouched, Agreed, Reached}
 use Rattle.rules.specs.Reached.Reached.{untouched, agreed}
@@ -26,6 +26,7 @@ use Rattle.commands.specs.declared.entries.Command.the-variants.{Close as close
 use Rattle.commands.proofs.Terms.{Terms}
 use Rattle.rules.proofs.Taken.{later-none, grown, allowed}
 use Rattle.rules.proofs.Reached.{Parts, parts-of, terms-of}
+use Rattle.rules.proofs.Span.{span-cells, cells-most}
 use Rattle.rules.proofs.Reread.{reread}
 use Rattle.rules.proofs.Replay.{Accepted, all-taken, ledger-grown, Replays, replay-none, replay-cons, replay-append, held, unread, contract-replay, windows-replay, instructions-replay, defaults-replay}
 
@@ -67,7 +68,7 @@ module _ {size : ℕ} {g : Ledger} (a : Agreed size g) where
   -- the reading of a minute, if it has one
   minute-replay : (m : ℕ)
       → Replays size (tablesOf g false (before (g .reading) m)) (readingAt (g .reading m) m) (tablesOf g false (before (g .reading) (suc m)))
-  unfolding refusal conditions lowest contractOf first isEmpty isSome later
+  unfolding refusal conditions lowest spanIn cellsIn contractOf first isEmpty isSome later
   minute-replay m = go (g .reading m) refl
     where
       f : ℕ → Option ℤ
@@ -81,14 +82,14 @@ module _ {size : ℕ} {g : Ledger} (a : Agreed size g) where
       go (some kw) e =
           let t : Terms k = terms-of a in
           let r = a .readings m kw e in
-          let l : m < spanOf k = r .0 in
+          let l : m < spanIn g = r .0 in
           replay-cons
           (rw (
             le-leb 0 m (omega arith),
-            le-leb m 44640 (omega arith),
+            le-leb m 44640 (omega (arith, span-cells g, cells-most g t)),
             of-T (isReading kw) (r .1),
-            le-ltb size (spanOf k) (a .span),
-            lt-leb (spanOf k) m l,
+            le-ltb size (cellsIn g) (a .cells),
+            lt-leb (spanIn g) m l,
             le-ltb m m (le-refl m),
           ))
           (tables-kept g false (with-next f m (some kw) e))
@@ -101,28 +102,28 @@ module _ {size : ℕ} {g : Ledger} (a : Agreed size g) where
   run-replay (suc n) m b e = replay-append (minute-replay m) (run-replay n (suc m) b (omega arith))
 
   -- every reading is in the span
-  all-before : (m : ℕ) → before (g .reading) (spanOf (contractOf g)) m ≡ g .reading m
-  all-before m = go (ltb m (spanOf (contractOf g))) refl (g .reading m) refl
+  all-before : (m : ℕ) → before (g .reading) (spanIn g) m ≡ g .reading m
+  all-before m = go (ltb m (spanIn g)) refl (g .reading m) refl
     where
-      go : (b : Bool) → ltb m (spanOf (contractOf g)) ≡ b → (o : Option ℤ) → g .reading m ≡ o → cond b o none ≡ o
+      go : (b : Bool) → ltb m (spanIn g) ≡ b → (o : Option ℤ) → g .reading m ≡ o → cond b o none ≡ o
       go true e o q = refl
       go false e none q = refl
-      go false e (some kw) q = absurd (omega (arith, a .readings m kw q .0, ltb-false m (spanOf (contractOf g)) e))
+      go false e (some kw) q = absurd (omega (arith, a .readings m kw q .0, ltb-false m (spanIn g) e))
 
   -- the readings
-  readings-replay : Replays size (tablesOf g false unread) (concatMap (λ m. readingAt (g .reading m) m) (between 0 (spanOf (contractOf g)))) (tablesOf g false (g .reading))
+  readings-replay : Replays size (tablesOf g false unread) (concatMap (λ m. readingAt (g .reading m) m) (between 0 (spanIn g))) (tablesOf g false (g .reading))
   unfolding between
   readings-replay =
-      let n : ℕ = spanOf (contractOf g) in
+      let n : ℕ = spanIn g in
       let start : before (g .reading) 0 ≡ unread = fun-ext (λ m. ap (λ b. cond b (g .reading m) none) (le-ltb m 0 (omega arith))) in
       let end : before (g .reading) n ≡ g .reading = fun-ext all-before in
       rw (start, end) at (run-replay (n - 0) 0 n (omega arith))
 
   -- the close
   close-replay : (z : Bool) → Replays size (tablesOf g false (g .reading)) (cond z (closeᶜ ∷ []) []) (tablesOf g z (g .reading))
-  unfolding refusal conditions lowest contractOf first isEmpty later
+  unfolding refusal conditions lowest spanIn cellsIn contractOf first isEmpty later
   close-replay false = replay-none refl
-  close-replay true = replay-cons (rw (le-ltb size (spanOf (contractOf g)) (a .span))) (tables-kept g true (λ m. refl)) (replay-none refl)
+  close-replay true = replay-cons (rw (le-ltb size (cellsIn g) (a .cells))) (tables-kept g true (λ m. refl)) (replay-none refl)
 
   -- g is its contract and tables, its close and its readings
   whole : tablesOf g (g .closed) (g .reading) ≡ g
@@ -138,14 +139,14 @@ module _ {size : ℕ} {g : Ledger} (a : Agreed size g) where
 
   -- all that it is written as
   agreed-replay : Replays size (ledgerOf []) (written g) g
-  unfolding written contractOf first
+  unfolding written spanIn cellsIn contractOf first
   agreed-replay =
       let k : Contract = contractOf g in
-      let p : Parts k (g .windows) (g .instructions) (g .defaults) = parts-of a in
-      let contract = contract-replay size k (a .span) (p .operands) (p .ramps) in
-      let windows = windows-replay size k (a .span) (g .windows) (p .windows) (a .windows) in
-      let instructions = instructions-replay size k (a .span) (g .windows) (g .instructions) (p .instructions) (a .instructions) in
-      let defaults = defaults-replay size k (a .span) (g .windows) (g .instructions) (g .defaults) (p .defaults) (a .defaults) in
+      let p : Parts k (spanIn g) (g .windows) (g .instructions) (g .defaults) = parts-of a in
+      let contract = contract-replay size k (a .cells) (p .operands) (p .ramps) in
+      let windows = windows-replay size k (a .cells) (g .windows) (p .windows) (a .windows) in
+      let instructions = instructions-replay size k (a .cells) (g .windows) (g .instructions) (p .instructions) (a .instructions) in
+      let defaults = defaults-replay size k (a .cells) (g .windows) (g .instructions) (g .defaults) (p .defaults) (a .defaults) in
       subst (λ h. Replays size (ledgerOf []) (written h) h) whole
       (replay-append (replay-append (replay-append (replay-append (replay-append contract windows) instructions) defaults) readings-replay) (close-replay (g .closed)))
 
@@ -164,7 +165,7 @@ nothing u j =
     }
 
 untouched-replay : (size : ℕ) {g : Ledger} → Untouched g → Replays size (ledgerOf []) (written g) g
-unfolding written ledgerOf concatMap any contractOf first between run
+unfolding written ledgerOf concatMap any spanIn contractOf first between run
 untouched-replay size u = subst (λ h. Replays size (ledgerOf []) (written h) h) (nothing u) (replay-none refl)
 
 -- ---- every ledger that commands leave

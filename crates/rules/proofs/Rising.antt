@@ -11,7 +11,7 @@ use lib.Dec.{T, eqb→eq}
 use borrow.Author.Tests.{eq-eqb, ne-eqb}
 use Rattle.energy.specs.Lists.{filter, run, between}
 use Rattle.commands.specs.Input.{upMinutes}
-use Rattle.rules.specs.Ledger.{Ledger, ledgerOf, contractOf, rise, endOf}
+use Rattle.rules.specs.Ledger.{Ledger, ledgerOf, contractOf, spanIn, rise, endOf}
 use Rattle.rules.specs.Refusal.{taken}
 use Rattle.rules.specs.Segment.{alike, heads, active, Segment, segmentsOf, segmentsFrom, segments}
 use Rattle.rules.specs.Reached.{instructionsSound, Reached}
@@ -121,22 +121,22 @@ minutes-of k n i s h m q =
     let a = in-segment k i x m (subst (λ (s : Segment). List·Memᴰ m (s .minutes)) (sym e) q) in
     (a .1, a .2)
 
-module _ (k : Contract) (u : upMinutes k ≤ k .response .0) where
+module _ (k : Contract) (span : ℕ) (u : upMinutes k ≤ k .response .0) where
   -- instructions after minute e have their minutes after it
-  minutes-after : (is : List Instruction) (n e : ℕ) → T (instructionsSound k e is) → (s : Segment) → List·Memᴰ s (segmentsFrom k n is)
+  minutes-after : (is : List Instruction) (n e : ℕ) → T (instructionsSound k span e is) → (s : Segment) → List·Memᴰ s (segmentsFrom k n is)
       → (m : ℕ) → List·Memᴰ m (s .minutes) → e ≤ m
   unfolding segmentsFrom
   minutes-after [] n e t s h m q = absurd (List·Memᴰ·not-nil h)
   minutes-after (i ∷ is) n e t s h m q =
-      let (f, rest) = instructions-cons k e i is t in
+      let (f, rest) = instructions-cons k span e i is t in
       ⊎-elim (λ r. omega (arith, minutes-of k n i s r m q)) (λ r. omega (arith, minutes-after is (suc n) (endOf k i + k .recovery .0) rest s r m q))
       (List·Memᴰ·append-cases (segmentsOf k n i) h)
 
-  order-from : (is : List Instruction) (n e : ℕ) → T (instructionsSound k e is) → InOrder (segmentsFrom k n is)
+  order-from : (is : List Instruction) (n e : ℕ) → T (instructionsSound k span e is) → InOrder (segmentsFrom k n is)
   unfolding segmentsFrom InOrder
   order-from [] n e t = tt
   order-from (i ∷ is) n e t =
-      let (f, rest) = instructions-cons k e i is t in
+      let (f, rest) = instructions-cons k span e i is t in
       order-append (segmentsOf k n i) (segmentsFrom k (suc n) is) (order-of k n i) (order-from is (suc n) (endOf k i + k .recovery .0) rest)
       (λ s p t q x y a b. omega (arith, minutes-of k n i s p x a, minutes-after is (suc n) (endOf k i + k .recovery .0) rest t q y b))
 
@@ -150,7 +150,7 @@ none-rise g e = subst (λ is. InOrder (segmentsFrom (contractOf g) 1 is)) (sym e
 in-order : {size : ℕ} (g : Ledger) → Reached size g → InOrder (segments g)
 unfolding segments
 in-order g (untouched u) = none-rise g (u .instructions)
-in-order g (agreed a) = order-from (contractOf g) (terms-of a .up .1) (g .instructions) 1 0 (parts-of a .instructions)
+in-order g (agreed a) = order-from (contractOf g) (spanIn g) (terms-of a .up .1) (g .instructions) 1 0 (parts-of a .instructions)
 
 pub rising : Rising·theorem
 unfolding segments

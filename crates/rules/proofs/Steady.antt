@@ -7,7 +7,7 @@ use native.Mathlib.Omega.{arith}
 use lib.Dec.{T, leb, ltb, eqb, leb→le, le→leb, ltb→lt, lt→ltb, eqb→eq}
 use Rattle.energy.specs.Lists.{any}
 use Rattle.energy.proofs.Tests.{of-T, T-and}
-use Rattle.rules.specs.Ledger.{Ledger, ledgerOf, contractOf, within}
+use Rattle.rules.specs.Ledger.{Ledger, ledgerOf, contractOf, spanIn, within}
 use Rattle.rules.specs.Refusal.{taken}
 use Rattle.rules.specs.Segment.{periodOf, stageOf, sameStage, alike, active, live, inLive, anchor, rateAt, Segment, segments}
 use Rattle.rules.specs.Reached.{windowsSound, Reached}
@@ -84,17 +84,17 @@ whole-rate g w s h m q =
 
 -- ---- every window taken is of whole periods
 
-whole-sound : (k : Contract) (e : ℕ) (ws : List Window) → T (windowsSound k e ws) → Whole ws
+whole-sound : (k : Contract) (span e : ℕ) (ws : List Window) → T (windowsSound k span e ws) → Whole ws
 unfolding Whole
-whole-sound k e [] t = tt
-whole-sound k e (w ∷ ws) t =
-    let q = windows-cons k e w ws t in
-    (q .0 .start, q .0 .end, whole-sound k (w .end .0) ws (q .1))
+whole-sound k span e [] t = tt
+whole-sound k span e (w ∷ ws) t =
+    let q = windows-cons k span e w ws t in
+    (q .0 .start, q .0 .end, whole-sound k span (w .end .0) ws (q .1))
 
 pub whole : {size : ℕ} (g : Ledger) → Reached size g → Whole (g .windows)
 unfolding Whole
 whole g (untouched u) = subst Whole (sym (u .windows)) tt
-whole g (agreed a) = whole-sound (contractOf g) 0 (g .windows) (parts-of a .windows)
+whole g (agreed a) = whole-sound (contractOf g) (spanIn g) 0 (g .windows) (parts-of a .windows)
 
 pub one-rate : OneRate·theorem
 one-rate size cs = whole-rate (ledgerOf (taken size cs)) (whole (ledgerOf (taken size cs)) (reached size cs))

@@ -8,7 +8,7 @@ use borrow.Author.Tests.{leb-false, ltb-false}
 use Rattle.energy.specs.Lists.{all, any, last}
 use Rattle.energy.proofs.Tests.{T-and, and-T, off-T, off-not, off-or, all-mono, any-snoc}
 use Rattle.commands.specs.Input.{from-to, inRange, badWindow}
-use Rattle.rules.specs.Ledger.{spanOf, expiry, endOf, within}
+use Rattle.rules.specs.Ledger.{expiry, endOf, within}
 use Rattle.rules.specs.Refusal.{recovered}
 use Rattle.rules.specs.Reached.{windowsSound, instructionsSound, defaultSound}
 use Rattle.commands.specs.declared.contract.Contract.{Contract}
@@ -22,30 +22,30 @@ use Rattle.commands.proofs.Terms.{bounds}
 -- ---- windows
 
 -- the tests of one window after minute e
-abbrev windowTests : Contract → ℕ → Window → List Bool
-windowTests k e w =
+abbrev windowTests : Contract → ℕ → ℕ → Window → List Bool
+windowTests k span e w =
     not (badWindow (windowᶜ w))
-    ∷ leb (w .end .0) (spanOf k)
+    ∷ leb (w .end .0) span
     ∷ not (eqb (k .service) 0 && eqb (w .verdict) 1)
     ∷ leb e (w .start .0)
     ∷ []
 
 -- what they come to
-pub record WindowFits (k : Contract) (e : ℕ) (w : Window) : Type 0 where
+pub record WindowFits (k : Contract) (span e : ℕ) (w : Window) : Type 0 where
   pub start : w .start .0 % 30 ≡ 0
   pub end : w .end .0 % 30 ≡ 0
   pub order : w .start .0 < w .end .0
-  pub inside : w .end .0 ≤ spanOf k
+  pub inside : w .end .0 ≤ span
   pub after : e ≤ w .start .0
   pub verdict : w .verdict ≤ 1
 
 -- a table of windows taken apart at its first
-pub windows-cons : (k : Contract) (e : ℕ) (w : Window) (ws : List Window) → T (windowsSound k e (w ∷ ws))
-    → WindowFits k e w × T (windowsSound k (w .end .0) ws)
+pub windows-cons : (k : Contract) (span e : ℕ) (w : Window) (ws : List Window) → T (windowsSound k span e (w ∷ ws))
+    → WindowFits k span e w × T (windowsSound k span (w .end .0) ws)
 unfolding windowsSound
-windows-cons k e w ws t =
-    let q = T-and (chain (inRange (windowᶜ w)) (windowTests k e w)) (windowsSound k (w .end .0) ws) t in
-    let p = apart (inRange (windowᶜ w)) (windowTests k e w) (q .0) in
+windows-cons k span e w ws t =
+    let q = T-and (chain (inRange (windowᶜ w)) (windowTests k span e w)) (windowsSound k span (w .end .0) ws) t in
+    let p = apart (inRange (windowᶜ w)) (windowTests k span e w) (q .0) in
     let r = apart (from-to 0 44640 (w .start .0)) (from-to 0 44640 (w .end .0) ∷ from-to 0 1 (w .verdict) ∷ []) (p .0) in
     let wrong = off-or (leb (w .end .0) (w .start .0) || not (eqb (w .start .0 % 30) 0)) (not (eqb (w .end .0 % 30) 0)) (not-on (badWindow (windowᶜ w)) (p .1 .0)) in
     let wrong′ = off-or (leb (w .end .0) (w .start .0)) (not (eqb (w .start .0 % 30) 0)) (wrong .0) in (
@@ -53,7 +53,7 @@ windows-cons k e w ws t =
         start = eqb→eq (w .start .0 % 30) 0 (off-not (eqb (w .start .0 % 30) 0) (wrong′ .1));
         end = eqb→eq (w .end .0 % 30) 0 (off-not (eqb (w .end .0 % 30) 0) (wrong .1));
         order = leb-false (w .end .0) (w .start .0) (wrong′ .0);
-        inside = leb→le (w .end .0) (spanOf k) (p .1 .1 .0);
+        inside = leb→le (w .end .0) span (p .1 .1 .0);
         after = leb→le e (w .start .0) (p .1 .1 .1 .1 .0);
         verdict = bounds 0 1 (w .verdict) (r .1 .1 .0) .1;
       },
@@ -71,15 +71,15 @@ last-end d [] = refl
 last-end d (w ∷ ws) = last-end w ws
 
 -- one window, by the conditions that do not turn it down
-pub one-window : (k : Contract) (e : ℕ) (w : Window) → T (inRange (windowᶜ w)) → badWindow (windowᶜ w) ≡ false → ltb (spanOf k) (w .end .0) ≡ false
-    → (eqb (k .service) 0 && eqb (w .verdict) 1) ≡ false → ltb (w .start .0) e ≡ false → T (windowsSound k e (w ∷ []))
+pub one-window : (k : Contract) (span e : ℕ) (w : Window) → T (inRange (windowᶜ w)) → badWindow (windowᶜ w) ≡ false → ltb span (w .end .0) ≡ false
+    → (eqb (k .service) 0 && eqb (w .verdict) 1) ≡ false → ltb (w .start .0) e ≡ false → T (windowsSound k span e (w ∷ []))
 unfolding windowsSound
-one-window k e w operands shape inside verdict after =
-    and-T (chain (inRange (windowᶜ w)) (windowTests k e w)) true
-    (together (inRange (windowᶜ w)) (windowTests k e w) operands (
+one-window k span e w operands shape inside verdict after =
+    and-T (chain (inRange (windowᶜ w)) (windowTests k span e w)) true
+    (together (inRange (windowᶜ w)) (windowTests k span e w) operands (
       off-T (badWindow (windowᶜ w)) shape,
       (
-        le→leb (w .end .0) (spanOf k) (ltb-false (spanOf k) (w .end .0) inside),
+        le→leb (w .end .0) span (ltb-false span (w .end .0) inside),
         (
           off-T (eqb (k .service) 0 && eqb (w .verdict) 1) verdict,
           (le→leb e (w .start .0) (ltb-false (w .start .0) e after), tt),
@@ -89,41 +89,41 @@ one-window k e w operands shape inside verdict after =
     tt
 
 -- one window more, after the last
-pub windows-snoc : (k : Contract) (e : ℕ) (ws : List Window) (w : Window) → T (windowsSound k e ws) → T (windowsSound k (lastEnd e ws) (w ∷ []))
-    → T (windowsSound k e (ws ++ (w ∷ [])))
+pub windows-snoc : (k : Contract) (span e : ℕ) (ws : List Window) (w : Window) → T (windowsSound k span e ws) → T (windowsSound k span (lastEnd e ws) (w ∷ []))
+    → T (windowsSound k span e (ws ++ (w ∷ [])))
 unfolding windowsSound lastEnd
-windows-snoc k e [] w t s = s
-windows-snoc k e (x ∷ ws) w t s =
-    let here : Bool = chain (inRange (windowᶜ x)) (windowTests k e x) in
-    let q = T-and here (windowsSound k (x .end .0) ws) t in
-    and-T here (windowsSound k (x .end .0) (ws ++ (w ∷ []))) (q .0) (windows-snoc k (x .end .0) ws w (q .1) s)
+windows-snoc k span e [] w t s = s
+windows-snoc k span e (x ∷ ws) w t s =
+    let here : Bool = chain (inRange (windowᶜ x)) (windowTests k span e x) in
+    let q = T-and here (windowsSound k span (x .end .0) ws) t in
+    and-T here (windowsSound k span (x .end .0) (ws ++ (w ∷ []))) (q .0) (windows-snoc k span (x .end .0) ws w (q .1) s)
 
 -- ---- instructions
 
 -- the tests of one instruction after minute e
-abbrev instructionTests : Contract → ℕ → Instruction → List Bool
-instructionTests k e i = leb (endOf k i) (spanOf k) ∷ leb (expiry k i) (i .cease .0) ∷ leb e (i .issue .0) ∷ []
+abbrev instructionTests : Contract → ℕ → ℕ → Instruction → List Bool
+instructionTests k span e i = leb (endOf k i) span ∷ leb (expiry k i) (i .cease .0) ∷ leb e (i .issue .0) ∷ []
 
 -- what they come to
-pub record InstructionFits (k : Contract) (e : ℕ) (i : Instruction) : Type 0 where
+pub record InstructionFits (k : Contract) (span e : ℕ) (i : Instruction) : Type 0 where
   pub issue : (3 ≤ i .issue .0) × (i .issue .0 ≤ 44640)
   pub cease : i .cease .0 ≤ 44640
-  pub inside : endOf k i ≤ spanOf k
+  pub inside : endOf k i ≤ span
   pub ceased : expiry k i ≤ i .cease .0
   pub after : e ≤ i .issue .0
 
 -- a table of instructions taken apart at its first
-pub instructions-cons : (k : Contract) (e : ℕ) (i : Instruction) (is : List Instruction) → T (instructionsSound k e (i ∷ is))
-    → InstructionFits k e i × T (instructionsSound k (endOf k i + k .recovery .0) is)
+pub instructions-cons : (k : Contract) (span e : ℕ) (i : Instruction) (is : List Instruction) → T (instructionsSound k span e (i ∷ is))
+    → InstructionFits k span e i × T (instructionsSound k span (endOf k i + k .recovery .0) is)
 unfolding instructionsSound
-instructions-cons k e i is t =
-    let q = T-and (chain (inRange (instructionᶜ i)) (instructionTests k e i)) (instructionsSound k (endOf k i + k .recovery .0) is) t in
-    let p = apart (inRange (instructionᶜ i)) (instructionTests k e i) (q .0) in
+instructions-cons k span e i is t =
+    let q = T-and (chain (inRange (instructionᶜ i)) (instructionTests k span e i)) (instructionsSound k span (endOf k i + k .recovery .0) is) t in
+    let p = apart (inRange (instructionᶜ i)) (instructionTests k span e i) (q .0) in
     let r = T-and (from-to 3 44640 (i .issue .0)) (from-to 0 44640 (i .cease .0)) (p .0) in (
       record {
         issue = bounds 3 44640 (i .issue .0) (r .0);
         cease = bounds 0 44640 (i .cease .0) (r .1) .1;
-        inside = leb→le (endOf k i) (spanOf k) (p .1 .0);
+        inside = leb→le (endOf k i) span (p .1 .0);
         ceased = leb→le (expiry k i) (i .cease .0) (p .1 .1 .0);
         after = leb→le e (i .issue .0) (p .1 .1 .1 .0);
       },
@@ -146,13 +146,13 @@ ready-recovered k [] = refl
 ready-recovered k (i ∷ is) = ready-last k i is
 
 -- one instruction, by the conditions that do not turn it down
-pub one-instruction : (k : Contract) (e : ℕ) (i : Instruction) → T (inRange (instructionᶜ i)) → ltb (spanOf k) (endOf k i) ≡ false
-    → ltb (i .cease .0) (expiry k i) ≡ false → ltb (i .issue .0) e ≡ false → T (instructionsSound k e (i ∷ []))
+pub one-instruction : (k : Contract) (span e : ℕ) (i : Instruction) → T (inRange (instructionᶜ i)) → ltb span (endOf k i) ≡ false
+    → ltb (i .cease .0) (expiry k i) ≡ false → ltb (i .issue .0) e ≡ false → T (instructionsSound k span e (i ∷ []))
 unfolding instructionsSound
-one-instruction k e i operands inside ceased after =
-    and-T (chain (inRange (instructionᶜ i)) (instructionTests k e i)) true
-    (together (inRange (instructionᶜ i)) (instructionTests k e i) operands (
-      le→leb (endOf k i) (spanOf k) (ltb-false (spanOf k) (endOf k i) inside),
+one-instruction k span e i operands inside ceased after =
+    and-T (chain (inRange (instructionᶜ i)) (instructionTests k span e i)) true
+    (together (inRange (instructionᶜ i)) (instructionTests k span e i) operands (
+      le→leb (endOf k i) span (ltb-false span (endOf k i) inside),
       (
         le→leb (expiry k i) (i .cease .0) (ltb-false (i .cease .0) (expiry k i) ceased),
         (le→leb e (i .issue .0) (ltb-false (i .issue .0) e after), tt),
@@ -161,25 +161,25 @@ one-instruction k e i operands inside ceased after =
     tt
 
 -- one instruction more, after the last
-pub instructions-snoc : (k : Contract) (e : ℕ) (is : List Instruction) (i : Instruction) → T (instructionsSound k e is)
-    → T (instructionsSound k (ready k e is) (i ∷ [])) → T (instructionsSound k e (is ++ (i ∷ [])))
+pub instructions-snoc : (k : Contract) (span e : ℕ) (is : List Instruction) (i : Instruction) → T (instructionsSound k span e is)
+    → T (instructionsSound k span (ready k e is) (i ∷ [])) → T (instructionsSound k span e (is ++ (i ∷ [])))
 unfolding instructionsSound ready
-instructions-snoc k e [] i t s = s
-instructions-snoc k e (x ∷ is) i t s =
-    let here : Bool = chain (inRange (instructionᶜ x)) (instructionTests k e x) in
-    let q = T-and here (instructionsSound k (endOf k x + k .recovery .0) is) t in
-    and-T here (instructionsSound k (endOf k x + k .recovery .0) (is ++ (i ∷ []))) (q .0)
-    (instructions-snoc k (endOf k x + k .recovery .0) is i (q .1) s)
+instructions-snoc k span e [] i t s = s
+instructions-snoc k span e (x ∷ is) i t s =
+    let here : Bool = chain (inRange (instructionᶜ x)) (instructionTests k span e x) in
+    let q = T-and here (instructionsSound k span (endOf k x + k .recovery .0) is) t in
+    and-T here (instructionsSound k span (endOf k x + k .recovery .0) (is ++ (i ∷ []))) (q .0)
+    (instructions-snoc k span (endOf k x + k .recovery .0) is i (q .1) s)
 
 -- ---- defaults
 
 -- a default stays in a window of the table when there is one window more
-pub defaults-more : (k : Contract) (ws : List Window) (w : Window) (ds : List Default) → T (all (defaultSound k ws) ds)
-    → T (all (defaultSound k (ws ++ (w ∷ []))) ds)
-defaults-more k ws w ds t = all-mono (defaultSound k ws) (defaultSound k (ws ++ (w ∷ []))) ds one t
+pub defaults-more : (k : Contract) (span : ℕ) (ws : List Window) (w : Window) (ds : List Default) → T (all (defaultSound k span ws) ds)
+    → T (all (defaultSound k span (ws ++ (w ∷ []))) ds)
+defaults-more k span ws w ds t = all-mono (defaultSound k span ws) (defaultSound k span (ws ++ (w ∷ []))) ds one t
   where
-    one : (d : Default) → T (defaultSound k ws d) → T (defaultSound k (ws ++ (w ∷ [])) d)
+    one : (d : Default) → T (defaultSound k span ws d) → T (defaultSound k span (ws ++ (w ∷ [])) d)
     one d q =
-        let a : Bool = inRange (defaultᶜ d) && ltb (d .minute .0) (spanOf k) in
+        let a : Bool = inRange (defaultᶜ d) && ltb (d .minute .0) span in
         let r = T-and a (any (λ w. within w (d .minute .0)) ws) q in
         and-T a (any (λ w. within w (d .minute .0)) (ws ++ (w ∷ []))) (r .0) (any-snoc (λ w. within w (d .minute .0)) ws w (r .1))

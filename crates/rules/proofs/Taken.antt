@@ -9,7 +9,7 @@ use Rattle.energy.specs.Lists.{any, concatMap, isEmpty, later}
 use Rattle.energy.proofs.Tests.{off-not}
 use Rattle.commands.specs.Input.{Condition, lowest, inRange, rampTooLong, badWindow}
 use Rattle.rules.specs.Ledger.{Ledger, ledgerOf, contractIn, windowIn, instructionIn, defaultIn, isClose, isContract, readingIn, readingOf}
-use Rattle.rules.specs.Refusal.{conditions, refusal, spanFor, beyondSpan, rejectedCommitted, windowOverlaps, ceaseEarly, issueEarly, outsideWindows, hasReading, tableFull}
+use Rattle.rules.specs.Refusal.{conditions, refusal, cellsFor, beyondSpan, rejectedCommitted, windowOverlaps, ceaseEarly, issueEarly, outsideWindows, hasReading, tableFull}
 use Rattle.commands.specs.declared.entries.Command.{Command}
 
 -- ---- the ledger of one command more
@@ -90,7 +90,7 @@ pub record Allowed (size : ℕ) (g : Ledger) (c : Command) : Type 0 where
   pub notClosed : g .closed ≡ false
   pub agreed : (isEmpty (g .contracts) && not (isContract c)) ≡ false
   pub only : (not (isEmpty (g .contracts)) && isContract c) ≡ false
-  pub memory : ltb size (spanFor g c) ≡ false
+  pub memory : ltb size (cellsFor g c) ≡ false
   pub inside : beyondSpan g c ≡ false
   pub verdict : rejectedCommitted g c ≡ false
   pub after : windowOverlaps g c ≡ false

@@ -8,7 +8,7 @@ use lib.IntN.{ℤ, pos, negsuc, natAbs}
 use lib.Dec.{eqb, leb, ltb}
 use lib.ListN.{length, getD, take, drop}
 use Rattle.energy.specs.Lists.{concatMap, between}
-use Rattle.rules.specs.Ledger.{Ledger, contractOf, spanOf}
+use Rattle.rules.specs.Ledger.{Ledger, spanIn}
 use Rattle.commands.specs.declared.entries.Command.{Command}
 use Rattle.commands.specs.declared.entries.Command.the-variants.{Contract as contractᶜ, Window as windowᶜ, Instruction as instructionᶜ, Default as defaultᶜ, Reading as readingᶜ, Close as closeᶜ}
 use Rattle.rules.specs.declared.file.Read.{Read}
@@ -164,7 +164,7 @@ readingAt (some z) m = readingᶜ (record { minute = record { 0 = m }; kw = reco
 unfoldable pub written : Ledger → List Command
 written g =
     map contractᶜ (g .contracts) ++ map windowᶜ (g .windows) ++ map instructionᶜ (g .instructions) ++ map defaultᶜ (g .defaults)
-    ++ concatMap (λ m. readingAt (g .reading m) m) (between 0 (spanOf (contractOf g)))
+    ++ concatMap (λ m. readingAt (g .reading m) m) (between 0 (spanIn g))
     ++ cond (g .closed) (closeᶜ ∷ []) []
 
 -- the bytes that a book is written as

@@ -94,9 +94,17 @@ noContract =
 unfoldable pub contractOf : Ledger → Contract
 contractOf g = first noContract (g .contracts)
 
--- the minutes of the month
+-- the minutes of a contract's month
 abbrev pub spanOf : Contract → ℕ
 spanOf k = 1440 * k .days
+
+-- the span: the minutes of a ledger's month
+unfoldable pub spanIn : Ledger → ℕ
+spanIn g = spanOf (contractOf g)
+
+-- 15: the cells that meter memory must have for it
+unfoldable pub cellsIn : Ledger → ℕ
+cellsIn g = spanOf (contractOf g)
 
 -- in place of a window that is not there, and in an unused entry of a table: zeros; so for the two below
 abbrev pub noWindow : Window

@@ -9,7 +9,7 @@ use lib.Dec.{T, eqb, leb, ltb}
 use lib.ListN.{length}
 use Rattle.energy.specs.Lists.{all, any, pass}
 use Rattle.commands.specs.Input.{inRange, rampTooLong, badWindow, isReading}
-use Rattle.rules.specs.Ledger.{Ledger, ledgerOf, contractOf, spanOf, expiry, endOf, within}
+use Rattle.rules.specs.Ledger.{Ledger, ledgerOf, contractOf, spanIn, cellsIn, expiry, endOf, within}
 use Rattle.rules.specs.Refusal.{taken}
 use Rattle.commands.specs.declared.contract.Contract.{Contract}
 use Rattle.commands.specs.declared.entries.Window.{Window}
@@ -18,33 +18,33 @@ use Rattle.commands.specs.declared.entries.Default.{Default}
 use Rattle.commands.specs.declared.entries.Command.{Command}
 use Rattle.commands.specs.declared.entries.Command.the-variants.{Contract as contractᶜ, Window as windowᶜ, Instruction as instructionᶜ, Default as defaultᶜ}
 
--- windows that could be entered one after the other, the first not before minute e
-unfoldable pub windowsSound : Contract → ℕ → List Window → Bool
-windowsSound k e [] = true
-windowsSound k e (w ∷ ws) =
-    inRange (windowᶜ w) && not (badWindow (windowᶜ w)) && leb (w .end .0) (spanOf k) && not (eqb (k .service) 0 && eqb (w .verdict) 1)
+-- windows that could be entered one after the other under a contract with this span, the first not before minute e; so below
+unfoldable pub windowsSound : Contract → ℕ → ℕ → List Window → Bool
+windowsSound k span e [] = true
+windowsSound k span e (w ∷ ws) =
+    inRange (windowᶜ w) && not (badWindow (windowᶜ w)) && leb (w .end .0) span && not (eqb (k .service) 0 && eqb (w .verdict) 1)
     && leb e (w .start .0)
-    && windowsSound k (w .end .0) ws
+    && windowsSound k span (w .end .0) ws
 
 -- instructions that could be entered one after the other, the first not before minute e
-unfoldable pub instructionsSound : Contract → ℕ → List Instruction → Bool
-instructionsSound k e [] = true
-instructionsSound k e (i ∷ is) =
-    inRange (instructionᶜ i) && leb (endOf k i) (spanOf k) && leb (expiry k i) (i .cease .0) && leb e (i .issue .0)
-    && instructionsSound k (endOf k i + k .recovery .0) is
+unfoldable pub instructionsSound : Contract → ℕ → ℕ → List Instruction → Bool
+instructionsSound k span e [] = true
+instructionsSound k span e (i ∷ is) =
+    inRange (instructionᶜ i) && leb (endOf k i) span && leb (expiry k i) (i .cease .0) && leb e (i .issue .0)
+    && instructionsSound k span (endOf k i + k .recovery .0) is
 
 -- a default that could be entered beside these windows
-abbrev pub defaultSound : Contract → List Window → Default → Bool
-defaultSound k ws d = inRange (defaultᶜ d) && ltb (d .minute .0) (spanOf k) && any (λ w. within w (d .minute .0)) ws
+abbrev pub defaultSound : Contract → ℕ → List Window → Default → Bool
+defaultSound k span ws d = inRange (defaultᶜ d) && ltb (d .minute .0) span && any (λ w. within w (d .minute .0)) ws
 
 -- beside a contract: each entry could be taken
-unfoldable pub agreedTests : Contract → List Window → List Instruction → List Default → List Bool
-agreedTests k ws is ds =
+unfoldable pub agreedTests : Contract → ℕ → List Window → List Instruction → List Default → List Bool
+agreedTests k span ws is ds =
     inRange (contractᶜ k)
     ∷ not (rampTooLong (contractᶜ k))
-    ∷ windowsSound k 0 ws
-    ∷ instructionsSound k 0 is
-    ∷ all (defaultSound k ws) ds
+    ∷ windowsSound k span 0 ws
+    ∷ instructionsSound k span 0 is
+    ∷ all (defaultSound k span ws) ds
     ∷ []
 
 -- ---- what commands leave
@@ -58,15 +58,15 @@ pub record Untouched (g : Ledger) : Type 0 where
   pub notClosed : g .closed ≡ false
   pub readings : (m : ℕ) → g .reading m ≡ none
 
--- one contract, entries that could be taken under it and fit their tables, and meter memory of this size that holds the span
+-- one contract, entries that could be taken under it and fit their tables, and meter memory of this size with the cells for it
 pub record Agreed (size : ℕ) (g : Ledger) : Type 0 where
   pub contract : g .contracts ≡ contractOf g ∷ []
-  pub tests : T (pass (agreedTests (contractOf g) (g .windows) (g .instructions) (g .defaults)))
+  pub tests : T (pass (agreedTests (contractOf g) (spanIn g) (g .windows) (g .instructions) (g .defaults)))
   pub windows : length (g .windows) ≤ 128
   pub instructions : length (g .instructions) ≤ 64
   pub defaults : length (g .defaults) ≤ 128
-  pub span : spanOf (contractOf g) ≤ size
-  pub readings : (m : ℕ) (kw : ℤ) → g .reading m ≡ some kw → (m < spanOf (contractOf g)) × T (isReading kw)
+  pub cells : cellsIn g ≤ size
+  pub readings : (m : ℕ) (kw : ℤ) → g .reading m ≡ some kw → (m < spanIn g) × T (isReading kw)
 
 -- a ledger of one of these two kinds
 pub data Reached (size : ℕ) (g : Ledger) : Type 0 where

@@ -8,7 +8,7 @@ use lib.ListN.{length}
 use Rattle.energy.specs.Lists.{any, last, isEmpty, isSome}
 use Rattle.commands.specs.Command.{onContract, onWindow, onInstruction, onDefault, onReading, always}
 use Rattle.commands.specs.Input.{Condition, _when_, inputConditions, lowest}
-use Rattle.rules.specs.Ledger.{Ledger, ledgerOf, contractOf, isContract, spanOf, expiry, endOf, within, noWindow}
+use Rattle.rules.specs.Ledger.{Ledger, ledgerOf, contractOf, isContract, spanOf, spanIn, cellsIn, expiry, endOf, within, noWindow}
 use Rattle.commands.specs.declared.contract.Contract.{Contract}
 use Rattle.commands.specs.declared.entries.Instruction.{Instruction}
 use Rattle.commands.specs.declared.entries.Command.{Command}
@@ -17,17 +17,17 @@ use Rattle.rules.specs.declared.answer.Answer.the-variants.{Taken, Refus
 
 -- ---- from the state
 
--- 15: the span that meter memory must hold: a contract's own, or the book's
-abbrev pub spanFor : Ledger → Command → ℕ
-spanFor g c = onContract spanOf (always (spanOf (contractOf g))) c
+-- 15: the cells that meter memory must have: for a contract its own span, or what the book needs
+abbrev pub cellsFor : Ledger → Command → ℕ
+cellsFor g c = onContract spanOf (always (cellsIn g)) c
 
 -- 16: window end or instruction end above the span, or default or reading minute not below it
 abbrev pub beyondSpan : Ledger → Command → Bool
 beyondSpan g c =
-    onWindow (λ w. ltb (spanOf (contractOf g)) (w .end .0))
-    (onInstruction (λ i. ltb (spanOf (contractOf g)) (endOf (contractOf g) i))
-    (onDefault (λ d. leb (spanOf (contractOf g)) (d .minute .0))
-    (onReading (λ r. leb (spanOf (contractOf g)) (r .minute .0))
+    onWindow (λ w. ltb (spanIn g) (w .end .0))
+    (onInstruction (λ i. ltb (spanIn g) (endOf (contractOf g) i))
+    (onDefault (λ d. leb (spanIn g) (d .minute .0))
+    (onReading (λ r. leb (spanIn g) (r .minute .0))
     (always false))))
     c
 
@@ -82,7 +82,7 @@ bookConditions unleft size g c =
     ∷ (12 when g .closed)
     ∷ (13 when isEmpty (g .contracts) && not (isContract c))
     ∷ (14 when not (isEmpty (g .contracts)) && isContract c)
-    ∷ (15 when ltb size (spanFor g c))
+    ∷ (15 when ltb size (cellsFor g c))
     ∷ []
 
 -- what a command meets for its own kind

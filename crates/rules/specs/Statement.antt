@@ -8,7 +8,7 @@ use lib.Dec.{eqb, leb, ltb}
 use lib.ListN.{length, replicate}
 use Rattle.energy.specs.Lists.{any, filter, count, sum, sumℕ, between, else}
 use Rattle.energy.specs.Energy.{steadyQuarters, rampQuarters, delivers, kwh, capped, payment, periodParts, penceOfParts}
-use Rattle.rules.specs.Ledger.{Ledger, contractOf, spanOf, within}
+use Rattle.rules.specs.Ledger.{Ledger, contractOf, cellsIn, within}
 use Rattle.commands.specs.Input.{kwOf, Condition, _when_, lowest}
 use Rattle.rules.specs.Segment.{periodOf, baseMinutes, complete, stageOf, live, rateAt, price, Segment, segments}
 use Rattle.commands.specs.declared.contract.Contract.{Contract}
@@ -171,7 +171,7 @@ Differ a b d = natAbs (a -ℤ b) ≤ d
 unfoldable pub settleConditions : Bool → ℕ → ℕ → Ledger → List Condition
 settleConditions unleft size room g =
     (11 when unleft)
-    ∷ (15 when ltb size (spanOf (contractOf g)))
+    ∷ (15 when ltb size (cellsIn g))
     ∷ (24 when not (g .closed))
     ∷ (25 when not (complete g))
     ∷ (26 when ltb room (length (segments g)))

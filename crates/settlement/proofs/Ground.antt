@@ -16,7 +16,7 @@ use Rattle.energy.specs.Lists.{all, first, isSome, else, run, between}
 use Rattle.energy.specs.Number.{Within}
 use Rattle.energy.proofs.Integers.{leZ-true, leZ-yes}
 use Rattle.energy.proofs.Tests.{on-and}
-use Rattle.rules.specs.Ledger.{Ledger, contractOf, spanOf}
+use Rattle.rules.specs.Ledger.{Ledger, contractOf, spanIn}
 use Rattle.commands.specs.Input.{kwOf, upMinutes, downMinutes, isReading}
 use Rattle.rules.specs.Segment.{complete}
 use Rattle.rules.specs.Statement.{reads}
@@ -25,7 +25,7 @@ use Rattle.commands.specs.declared.entries.Default.{Default}
 use Rattle.commands.specs.declared.entries.Instruction.{Instruction}
 use Rattle.commands.specs.declared.entries.Window.{Window}
 use Rattle.meter.specs.Meter.{missing, cell as reading}
-use Rattle.book.specs.Book.{noWindow, noInstruction, noDefault, ledgerIn}
+use Rattle.book.specs.Book.{noWindow, noInstruction, noDefault, bookSpan, bookCells, ledgerIn}
 use Rattle.book.specs.Sound.{Shaped}
 use Rattle.book.specs.declared.Book.{Book}
 use Rattle.terms.specs.declared.Terms.{Terms}
@@ -34,6 +34,7 @@ use Rattle.survey.specs.Survey.{LaidAt, Laid, has, surveyOf, surveyTo}
 use Rattle.live.specs.Live.{Cleared, Windows, isLive, Lit}
 use Rattle.availability.specs.Paid.{numberOf, windowOf, Placed, Spans}
 use Rattle.lines.specs.Cursor.{Planned}
+use Rattle.book.proofs.Month.{span-cells, span-is as book-span}
 use Rattle.book.proofs.SoundBook.{SoundBook, SoundCall, SoundWindow, SoundDefault}
 use Rattle.settlement.proofs.Surveyed.{Surveyed, survey-complete}
 use Rattle.settlement.proofs.Lights.{Shown, lights-tied, number-at, number-small}
@@ -94,7 +95,7 @@ pub record Grounds (b : Book) (times : List ℕ) (meter : List ℤ) : Type 0 whe
   pub sound : SoundBook b
   pub agreed : b .agreed ≡ true
   pub shape : Shaped b
-  pub room : spanOf (b .contract) ≤ length meter
+  pub room : bookCells b ≤ length meter
   pub timed : Timed (b .instructions) 64 times
 
 module _ (b : Book) (times : List ℕ) (meter : List ℤ) (G : Grounds b times meter) where
@@ -114,11 +115,17 @@ module _ (b : Book) (times : List ℕ) (meter : List ℤ) (G : Grounds b times m
   unfolding contractOf first ledgerIn
   contract-is = rw (G .agreed) refl
 
-  span-is : spanOf (contractOf g) ≡ spanOf k
-  span-is = ap spanOf contract-is
+  abbrev span : ℕ
+  span = bookSpan b
 
-  span-small : spanOf k ≤ 44640
-  span-small = omega (arith, S .contract .days)
+  span-is : spanIn g ≡ span
+  span-is = book-span b meter (G .agreed)
+
+  span-small : span ≤ 44640
+  span-small = omega (arith, span-cells b, S .month)
+
+  span-held : span ≤ length meter
+  span-held = omega (arith, span-cells b, G .room)
 
   -- ---- the tables
   calls-are : b .ninstructions ≡ length (g .instructions)
@@ -151,11 +158,11 @@ module _ (b : Book) (times : List ℕ) (meter : List ℤ) (G : Grounds b times m
   cease-is : (j : ℕ) → j < b .ninstructions → ceaseOf times j ≡ instructionAt g j .cease .0
   cease-is j h = G .timed .cease j (omega (arith, S .counts .1)) ∙ ap (λ (i : Instruction). i .cease .0) (instruction-is j h)
 
-  call-sound : (j : ℕ) → j < b .ninstructions → SoundCall k (instructionAt g j)
+  call-sound : (j : ℕ) → j < b .ninstructions → SoundCall k span (instructionAt g j)
   unfolding ledgerIn
   call-sound j h = S .calls .call j (omega (arith, calls-are))
 
-  window-sound : (i : ℕ) → i < b .nwindows → SoundWindow k (getD (g .windows) i noWindow)
+  window-sound : (i : ℕ) → i < b .nwindows → SoundWindow span (getD (g .windows) i noWindow)
   unfolding ledgerIn
   window-sound i h = S .windows .window i (omega (arith, windows-are))
 
@@ -163,16 +170,16 @@ module _ (b : Book) (times : List ℕ) (meter : List ℤ) (G : Grounds b times m
   unfolding ledgerIn
   windows-apart i j l h = rw (window-is i (omega arith), window-is j h) (S .windows .apart i j l (omega (arith, windows-are)))
 
-  default-sound : (j : ℕ) → j < b .ndefaults → SoundDefault k (getD (g .defaults) j noDefault)
+  default-sound : (j : ℕ) → j < b .ndefaults → SoundDefault k span (getD (g .defaults) j noDefault)
   unfolding ledgerIn
   default-sound j h = S .defaults j (omega (arith, defaults-are))
 
-  reading-is : (m : ℕ) → m < spanOf (contractOf g) → g .reading m ≡ cond (has meter m) (some (cell meter m)) none
+  reading-is : (m : ℕ) → m < spanIn g → g .reading m ≡ cond (has meter m) (some (cell meter m)) none
   unfolding ledgerIn
   reading-is m h =
-      let l : m < spanOf k = omega (arith, span-is) in
-      let e : getD meter m missing ≡ cell meter m = getD-any meter m missing (pos 0) (omega (arith, G .room)) in
-      rw (lt-ltb m (spanOf k) l, e) refl
+      let l : m < span = omega (arith, span-is) in
+      let e : getD meter m missing ≡ cell meter m = getD-any meter m missing (pos 0) (omega (arith, span-held)) in
+      rw (lt-ltb m span l, e) refl
 
   -- ---- the survey
   laid-at : (j : ℕ) → j < b .ninstructions → LaidAt t times meter j
@@ -182,7 +189,7 @@ module _ (b : Book) (times : List ℕ) (meter : List ℤ) (G : Grounds b times m
       record {
         three = omega (arith, issue-is j h, q .three);
         steady = omega (arith, issue-is j h, cease-is j h, q .steady);
-        inside = omega (arith, cease-is j h, q .inside, G .room);
+        inside = omega (arith, cease-is j h, q .inside, span-held);
         small = omega (arith, cease-is j h, q .inside, span-small);
       }
 
@@ -198,7 +205,7 @@ module _ (b : Book) (times : List ℕ) (meter : List ℤ) (G : Grounds b times m
         call = laid-at;
       }
 
-  spanned : (j : ℕ) → j < b .ninstructions → ceaseOf times j + downMinutes k ≤ spanOf (contractOf g)
+  spanned : (j : ℕ) → j < b .ninstructions → ceaseOf times j + downMinutes k ≤ spanIn g
   spanned j h = omega (arith, cease-is j h, call-sound j h .inside, span-is)
 
   pub surveyed : Surveyed g t times meter
@@ -287,7 +294,7 @@ module _ (b : Book) (times : List ℕ) (meter : List ℤ) (G : Grounds b times m
     placed j h =
         let x : Default = getD (b .defaults) j noDefault in
         let s = default-sound j h in
-        let m : x .minute .0 < spanOf k = rw (default-is j h) (s .inside) in
+        let m : x .minute .0 < span = rw (default-is j h) (s .inside) in
         let n : numberOf live x ≤ b .nwindows = omega (arith, L .period (x .minute .0 / 30), number-small chosen (b .windows) (b .nwindows) (x .minute .0 / 30)) in
         record {
           inside = omega (arith, size, span-small);

@@ -10,12 +10,12 @@ use lib.IntN.{ℤ}
 use lib.ListN.{length, replicate, length-replicate}
 use borrow.Author.Tests.{lt-ltb, le-ltb}
 use Rattle.energy.specs.Number.{Within}
-use Rattle.rules.specs.Ledger.{Ledger, contractOf, spanOf}
+use Rattle.rules.specs.Ledger.{Ledger, cellsIn}
 use Rattle.commands.specs.Input.{lowest, _when_}
 use Rattle.rules.specs.Segment.{complete, segments}
 use Rattle.rules.specs.Statement.{settleConditions, settleRefusal}
 use Rattle.rules.specs.declared.answer.Answer.the-variants.{Refused}
-use Rattle.book.specs.Book.{ledgerIn}
+use Rattle.book.specs.Book.{bookCells, ledgerIn}
 use Rattle.book.specs.Sound.{sound}
 use Rattle.book.specs.declared.Book.{Book}
 use Rattle.lines.specs.declared.cursor.Cursor.{Cursor}
@@ -23,7 +23,7 @@ use Rattle.terms.specs.Terms.{noTerms}
 use Rattle.lines.specs.Cursor.{startOf, enterOf}
 use Rattle.settlement.specs.Settle.{noStatement, settledBy, settleBook}
 use Rattle.settlement.specs.Prepared.{summed, refusalOf, lastCursor, settledWith, Prepares}
-use Rattle.book.proofs.SoundBook.{span-sound}
+use Rattle.book.proofs.Month.{cells-sound}
 
 -- ---- the refusals in their order
 abbrev by : Bool → Bool → Bool → Bool → Bool → Option ℕ
@@ -37,7 +37,7 @@ module _ (b : Book) (meter : List ℤ) (room : ℕ) where
   abbrev pub refusalFor : Option ℕ
   refusalFor = settleRefusal (not (sound b)) (length meter) room g
 
-  by-is : refusalFor ≡ by (not (sound b)) (ltb (length meter) (spanOf (contractOf g))) (not (b .closed)) (not (complete g)) (ltb room (length (segments g)))
+  by-is : refusalFor ≡ by (not (sound b)) (ltb (length meter) (cellsIn g)) (not (b .closed)) (not (complete g)) (ltb room (length (segments g)))
   unfolding settleRefusal settleConditions ledgerIn
   by-is = refl
 
@@ -69,12 +69,12 @@ module _ (b : Book) (meter : List ℤ) (room : ℕ) where
   is-11 e = by-is ∙ first-11 _ _ _ _ _ (ap not e)
 
   module _ (e : sound b ≡ true) where
-    pub is-15 : length meter < spanOf (b .contract) → refusalFor ≡ some 15
-    is-15 h = by-is ∙ first-15 _ _ _ _ _ (ap not e) (lt-ltb (length meter) (spanOf (contractOf g)) (omega (arith, span-sound b meter e)))
+    pub is-15 : length meter < bookCells b → refusalFor ≡ some 15
+    is-15 h = by-is ∙ first-15 _ _ _ _ _ (ap not e) (lt-ltb (length meter) (cellsIn g) (omega (arith, cells-sound b meter e)))
 
-    module _ (h : spanOf (b .contract) ≤ length meter) where
-      long : ltb (length meter) (spanOf (contractOf g)) ≡ false
-      long = le-ltb (length meter) (spanOf (contractOf g)) (omega (arith, span-sound b meter e))
+    module _ (h : bookCells b ≤ length meter) where
+      long : ltb (length meter) (cellsIn g) ≡ false
+      long = le-ltb (length meter) (cellsIn g) (omega (arith, cells-sound b meter e))
 
       pub is-24 : b .closed ≡ false → refusalFor ≡ some 24
       is-24 c = by-is ∙ first-24 _ _ _ _ _ (ap not e) long (ap not c)

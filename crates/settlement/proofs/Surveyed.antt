@@ -11,7 +11,7 @@ use lib.Seq.{take-suc, take-length}
 use Rattle.energy.specs.Lists.{all, concatMap, between, isSome}
 use Rattle.energy.proofs.Sums.{all-append, all-ext}
 use Rattle.commands.specs.Input.{upMinutes, downMinutes}
-use Rattle.rules.specs.Ledger.{Ledger, contractOf, spanOf, expiry, rise, endOf}
+use Rattle.rules.specs.Ledger.{Ledger, contractOf, spanIn, expiry, rise, endOf}
 use Rattle.rules.specs.Segment.{baseMinutes, active, needed, complete, segmentsOf, segmentsFrom, segments}
 use Rattle.commands.specs.declared.contract.Contract.{Contract}
 use Rattle.commands.specs.declared.entries.Instruction.{Instruction}
@@ -33,8 +33,8 @@ pub record Surveyed (g : Ledger) (t : Terms) (times : List ℕ) (meter : List �
   pub calls : t .calls ≡ length (g .instructions)
   pub issue : (j : ℕ) → j < t .calls → issueOf times j ≡ instructionAt g j .issue .0
   pub cease : (j : ℕ) → j < t .calls → ceaseOf times j ≡ instructionAt g j .cease .0
-  pub spanned : (j : ℕ) → j < t .calls → ceaseOf times j + t .fall ≤ spanOf (contractOf g)
-  pub reading : (m : ℕ) → m < spanOf (contractOf g) → isSome (g .reading m) ≡ has meter m
+  pub spanned : (j : ℕ) → j < t .calls → ceaseOf times j + t .fall ≤ spanIn g
+  pub reading : (m : ℕ) → m < spanIn g → isSome (g .reading m) ≡ has meter m
 
 from-snoc : (k : Contract) (n : ℕ) (xs : List Instruction) (x : Instruction) → length (segmentsFrom k n (xs ++ (x ∷ []))) ≡ length (segmentsFrom k n xs) + length (segmentsOf k (n + length xs) x)
 unfolding segmentsFrom

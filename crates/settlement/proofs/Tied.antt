@@ -13,7 +13,7 @@ use Rattle.energy.specs.Lists.{sum, between}
 use Rattle.energy.specs.Number.{Within}
 use Rattle.energy.proofs.Sums.{sum-same, sum-ext}
 use Rattle.commands.specs.Input.{kwOf, upMinutes, downMinutes}
-use Rattle.rules.specs.Ledger.{Ledger, contractOf, spanOf, expiry, endOf}
+use Rattle.rules.specs.Ledger.{Ledger, contractOf, spanIn, expiry, endOf}
 use Rattle.rules.specs.Segment.{baseMinutes, stageOf, inLive, anchor, rateAt, price, Segment}
 use Rattle.rules.specs.Statement.{expects, reads, baseLoad, expectedOf, deliveredOf, lineOf}
 use Rattle.commands.specs.declared.contract.Contract.{Contract}
@@ -49,9 +49,9 @@ pub record Tied (g : Ledger) (t : Terms) (times live : List ℕ) (meter : List �
   pub calls : t .calls ≡ length (g .instructions)
   pub issue : (j : ℕ) → j < t .calls → issueOf times j ≡ instructionAt g j .issue .0
   pub cease : (j : ℕ) → j < t .calls → ceaseOf times j ≡ instructionAt g j .cease .0
-  pub spanned : (j : ℕ) → j < t .calls → ceaseOf times j + t .fall ≤ spanOf (contractOf g)
+  pub spanned : (j : ℕ) → j < t .calls → ceaseOf times j + t .fall ≤ spanIn g
   pub lights : (m : ℕ) → lit live m ≡ inLive g m
-  pub reading : (m : ℕ) → m < spanOf (contractOf g) → Within 500000 (cell meter m) → reads g m ≡ cell meter m
+  pub reading : (m : ℕ) → m < spanIn g → Within 500000 (cell meter m) → reads g m ≡ cell meter m
 
 -- ---- the rate: by the minute itself, or by the ramp's anchor
 or-false : (a : Bool) → (a || false) ≡ a

@@ -4,7 +4,7 @@ ghost use mathlib.Core.Bool.{true};
 ghost use Prim.Native.Nat.{_≤_};
 ghost use lib.ListN.{length};
 ghost use Rattle.energy.specs.Number.{Within};
-ghost use Rattle.rules.specs.Ledger.{spanOf};
+ghost use Rattle.book.specs.Book.{bookCells};
 ghost use Rattle.book.specs.Sound.{sound};
 ghost use Rattle.settlement.specs.Prepared.{LaidOut, Prepares, refusalOf, summed, unsummed};
 ghost use Rattle.terms.specs.Terms.{Timed, termsOf};
@@ -126,7 +126,7 @@ fn lay_out(b: Book, t: Terms, times: [u16; 128], n: usize) -> Prepared
 
 // 25, 26, or what the lines of a sound and closed book need.
 fn check_lines(b: Book, meter: &[i32], room: usize) -> Prepared
-    requires { ⌜ (sound b ≡ true) × (b .closed ≡ true) × (spanOf (b .contract) ≤ length (now meter)) ⌝ }
+    requires { ⌜ (sound b ≡ true) × (b .closed ≡ true) × (bookCells b ≤ length (now meter)) ⌝ }
     ensures { λ r. ⌜ Prepares b (now (meter .entry)) room r ⌝ }
 {
     let k = b.contract;
@@ -152,9 +152,7 @@ fn check_book(b: Book, left: bool, meter: &[i32], room: usize) -> Prepared
     if !left {
         return refuse(11);
     }
-    let k = b.contract;
-    let span = k.days as usize * 1440;
-    if meter.len() < span {
+    if meter.len() < b.cells() {
         return refuse(15);
     }
     let closed = b.closed;

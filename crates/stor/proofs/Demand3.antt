@@ -13,7 +13,7 @@ use lib.ListN.{length, take, drop, getElem?, length-map, replicate}
 use lib.Seq.{take-append-seam, drop-append-seam}
 use Rattle.energy.specs.Lists.{all, isSome}
 use Rattle.commands.specs.Input.{Condition, lowest}
-use Rattle.rules.specs.Ledger.{Ledger, ledgerOf, contractOf, spanOf}
+use Rattle.rules.specs.Ledger.{Ledger, ledgerOf, contractOf, cellsIn}
 use Rattle.rules.specs.Refusal.{refusal, taken, takenAfter, joined}
 use Rattle.rules.specs.Segment.{needed, complete, segments}
 use Rattle.rules.specs.Statement.{lines, lineOf, statementOf, settleRefusal, settleConditions}
@@ -32,7 +32,7 @@ use Rattle.rules.specs.declared.file.Read.the-variants.{Refused as refusedʳ}
 use Rattle.rules.specs.declared.statement.Line.{Line}
 use Rattle.rules.specs.declared.answer.Answer.the-variants.{Taken, Refused}
 use Rattle.rules.proofs.Taken.{Clear, clear}
-use Rattle.rules.proofs.FileLength.{span-fits}
+use Rattle.rules.proofs.FileLength.{cells-fit}
 use Rattle.book.proofs.Follow.{Follows, follow, answers, starts}
 use Rattle.rules.proofs.Partition.{partition}
 use Rattle.rules.proofs.Bounds.{bounds}
@@ -140,7 +140,7 @@ lines-length : (g : Ledger) → length (lines g) ≡ length (segments g)
 unfolding lines
 lines-length g = length-map (segments g) (lineOf g)
 
-settledRight : (size : ℕ) (t : List Command) (memory : List Line) → spanOf (contractOf (ledgerOf t)) ≤ size → Right (ledgerOf t)
+settledRight : (size : ℕ) (t : List Command) (memory : List Line) → cellsIn (ledgerOf t) ≤ size → Right (ledgerOf t)
     → SettlementRight t memory (settledBy (settleRefusal false size (length memory) (ledgerOf t)) (ledgerOf t) memory)
 unfolding settleRefusal Right statementOf settleConditions
 settledRight size t memory fits ok = go (settleRefusal false size (length memory) (ledgerOf t)) refl
@@ -177,7 +177,7 @@ settledRight size t memory fits ok = go (settleRefusal false size (length memory
                 (unclear conds (
                   refl,
                   (
-                    ltn size (spanOf (contractOf g)) fits,
+                    ltn size (cellsIn g) fits,
                     (
                       false-not (g .closed) (h .0),
                       (
@@ -209,7 +209,7 @@ right g =
 pub settlement-right : {size : ℕ} (t : List Command) (b : Book) (meter : List ℤ) (memory : List Line) → Follows size t b meter
     → SettlementRight t memory (settleBook b meter memory)
 unfolding settleBook
-settlement-right {size} t b meter memory f = subst⁻¹ (λ r. SettlementRight t memory r) same (settledRight size t memory (span-fits (f .reached)) (right (ledgerOf t)))
+settlement-right {size} t b meter memory f = subst⁻¹ (λ r. SettlementRight t memory r) same (settledRight size t memory (cells-fit (f .reached)) (right (ledgerOf t)))
   where
     same : settledBy (settleRefusal (not (sound b)) (length meter) (length memory) (ledgerIn b meter)) (ledgerIn b meter) memory
         ≡ settledBy (settleRefusal false size (length memory) (ledgerOf t)) (ledgerOf t) memory

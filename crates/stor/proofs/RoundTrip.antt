@@ -13,7 +13,7 @@ use lib.ListN.{length, take, drop}
 use lib.Seq.{take-append-seam}
 use Rattle.energy.proofs.Tests.{of-T, off-not}
 use Rattle.commands.specs.Input.{lowest}
-use Rattle.rules.specs.Ledger.{Ledger, contractOf, spanOf}
+use Rattle.rules.specs.Ledger.{Ledger, cellsIn}
 use Rattle.rules.specs.Refusal.{takenAfter, taken}
 use Rattle.rules.specs.File.{written, fileOf, commandsIn}
 use Rattle.rules.specs.Reached.{Reached}
@@ -22,21 +22,21 @@ use Rattle.commands.specs.declared.entries.Command.{Command}
 use Rattle.rules.specs.declared.answer.Answer.the-variants.{Taken}
 use Rattle.rules.proofs.Rewritten.{rewritten, file-commands}
 use Rattle.rules.proofs.Taken.{Clear, clear}
-use Rattle.book.specs.Book.{emptyBook, ledgerIn}
+use Rattle.book.specs.Book.{emptyBook, bookCells, ledgerIn}
 use Rattle.book.specs.Sound.{sound, Shaped}
 use Rattle.book.specs.declared.Book.{Book}
-use Rattle.book.proofs.Follow.{Follows, follow, starts, contract-is}
-use Rattle.book.proofs.Determined.{empty-contract}
+use Rattle.book.proofs.Follow.{Follows, follow, starts}
+use Rattle.book.proofs.Month.{cells-sound}
 use Rattle.book.proofs.Left.{book-reached, same-book}
 use Rattle.writer.specs.Write.{writeConditions, writtenBy, writeBook}
 use Rattle.stor.specs.RoundTrip.{enterAll, bytesIn, SameAgain, RoundTrip·theorem}
 
 -- ---- what was written
 
--- the conditions under which a book is written: it is sound, meter memory holds its span, and the lent bytes hold its file
+-- the conditions under which a book is written: it is sound, meter memory has the cells for it, and the lent bytes hold its file
 record Writable (b : Book) (meter : List ℤ) (memory : List ℕ) : Type 0 where
   left : sound b ≡ true
-  span : spanOf (contractOf (ledgerIn b meter)) ≤ length meter
+  cells : cellsIn (ledgerIn b meter) ≤ length meter
   bytes : bytesIn (writeBook b meter memory) ≡ fileOf (ledgerIn b meter)
 
 writable : (b : Book) (meter : List ℤ) (memory : List ℕ) → writeBook b meter memory .written .answer ≡ Taken → Writable b meter memory
@@ -48,7 +48,7 @@ writable b meter memory e = go (lowest (writeConditions (not (sound b)) (length 
         let c : Clear (writeConditions (not (sound b)) (length meter) (length memory) (ledgerIn b meter)) = clear (writeConditions (not (sound b)) (length meter) (length memory) (ledgerIn b meter)) q in
         record {
           left = of-T (sound b) (off-not (sound b) (c .0));
-          span = ltb-false (length meter) (spanOf (contractOf (ledgerIn b meter))) (c .1 .0);
+          cells = ltb-false (length meter) (cellsIn (ledgerIn b meter)) (c .1 .0);
           bytes = ap (λ o. bytesIn (writtenBy o (ledgerIn b meter) memory)) q ∙ take-append-seam (fileOf (ledgerIn b meter)) (drop (length (fileOf (ledgerIn b meter))) memory);
         }
     go (some n) q h = absurd (let z : _≡_ {A = ℕ} 0 1 = cc in omega arith)
@@ -62,7 +62,7 @@ unfolding takenAfter enterAll
 follow-all [] f = f
 follow-all (c ∷ cs) f = follow-all cs (follow c f)
 
-again : (b : Book) (meter fresh : List ℤ) → Shaped b → sound b ≡ true → spanOf (b .contract) ≤ length fresh → SameAgain b meter fresh (fileOf (ledgerIn b meter))
+again : (b : Book) (meter fresh : List ℤ) → Shaped b → sound b ≡ true → bookCells b ≤ length fresh → SameAgain b meter fresh (fileOf (ledgerIn b meter))
 unfolding taken
 again b meter fresh s e h =
     let g : Ledger = ledgerIn b meter in
@@ -84,8 +84,4 @@ pub round-trip : RoundTrip·theorem
 unfolding RoundTrip·theorem
 round-trip b meter fresh memory s n e =
     let w : Writable b meter memory = writable b meter memory e in
-    subst⁻¹ (λ bytes. SameAgain b meter fresh bytes) (w .bytes) (again b meter fresh s (w .left) (fits (w .left) (b .agreed) refl (w .span)))
-  where
-    fits : sound b ≡ true → (x : Bool) → b .agreed ≡ x → spanOf (contractOf (ledgerIn b meter)) ≤ length meter → spanOf (b .contract) ≤ length fresh
-    fits e true q h = subst (λ k. spanOf k ≤ length fresh) (contract-is b meter q) (subst⁻¹ (λ size. spanOf (contractOf (ledgerIn b meter)) ≤ size) n h)
-    fits e false q h = subst⁻¹ (λ k. spanOf k ≤ length fresh) (empty-contract b e q) (omega arith)
+    subst⁻¹ (λ bytes. SameAgain b meter fresh bytes) (w .bytes) (again b meter fresh s (w .left) (omega (arith, n, w .cells, cells-sound b meter (w .left))))

@@ -87,8 +87,8 @@ record InOrder (e : ℕ) (ws : List Window) : Type 0 where
   apart : (i j : ℕ) → i < j → j < length ws → getD ws i noWindow .end .0 ≤ getD ws j noWindow .start .0
 
 -- one window before windows in order
-before-all : (k : Contract) (e : ℕ) (w : Window) (ws : List Window) → WindowFits k e w → InOrder (w .end .0) ws → InOrder e (w ∷ ws)
-before-all k e w ws f r = record { some = some; after = after; apart = apart }
+before-all : (k : Contract) (span e : ℕ) (w : Window) (ws : List Window) → WindowFits k span e w → InOrder (w .end .0) ws → InOrder e (w ∷ ws)
+before-all k span e w ws f r = record { some = some; after = after; apart = apart }
   where
     some : (i : ℕ) → i < suc (length ws) → getD (w ∷ ws) i noWindow .start .0 < getD (w ∷ ws) i noWindow .end .0
     some zero h = f .order
@@ -103,9 +103,9 @@ before-all k e w ws f r = record { some = some; after = after; apart = apart }
     apart zero (suc j) h l = r .after j (omega arith)
     apart (suc i) (suc j) h l = r .apart i j (omega arith) (omega arith)
 
-in-order : (k : Contract) (e : ℕ) (ws : List Window) → T (windowsSound k e ws) → InOrder e ws
-in-order k e [] t = record { some = λ i h. absurd (omega arith); after = λ i h. absurd (omega arith); apart = λ i j h l. absurd (omega arith) }
-in-order k e (w ∷ ws) t = let (f, rest) = windows-cons k e w ws t in before-all k e w ws f (in-order k (w .end .0) ws rest)
+in-order : (k : Contract) (span e : ℕ) (ws : List Window) → T (windowsSound k span e ws) → InOrder e ws
+in-order k span e [] t = record { some = λ i h. absurd (omega arith); after = λ i h. absurd (omega arith); apart = λ i j h l. absurd (omega arith) }
+in-order k span e (w ∷ ws) t = let (f, rest) = windows-cons k span e w ws t in before-all k span e w ws f (in-order k span (w .end .0) ws rest)
 
 abbrev pub startOf : Window → ℕ
 startOf w = w .start .0
@@ -119,9 +119,9 @@ module _ (ws : List Window) (n : ℕ) (fits : n ≤ length ws) where
   at-column f z i h = ap (λ x. getD (map f ws) i x) (sym z) ∙ List·getD-map f ws i noWindow ∙ ap f (sym (getD-take n ws i noWindow h))
 
   -- the columns of windows that could be entered
-  pub ordered : (k : Contract) → T (windowsSound k 0 (take n ws)) → Ordered (map startOf ws) (map endsAt ws) n
-  ordered k t =
-      let o : InOrder 0 (take n ws) = in-order k 0 (take n ws) t in
+  pub ordered : (k : Contract) (span : ℕ) → T (windowsSound k span 0 (take n ws)) → Ordered (map startOf ws) (map endsAt ws) n
+  ordered k span t =
+      let o : InOrder 0 (take n ws) = in-order k span 0 (take n ws) t in
       let m : length (take n ws) ≡ n = length-take-le n ws fits in
       record {
         some = λ i h. rw (at-column startOf refl i h, at-column endsAt refl i h) (o .some i (omega arith));

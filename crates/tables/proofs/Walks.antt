@@ -9,7 +9,7 @@ use lib.Dec.{T, eqb, ltb}
 use lib.ListN.{length, getD, take}
 use lib.Seq.{slice}
 use Rattle.energy.specs.Lists.{last}
-use Rattle.rules.specs.Ledger.{spanOf, endOf, noWindow, noInstruction}
+use Rattle.rules.specs.Ledger.{endOf, noWindow, noInstruction}
 use Rattle.rules.specs.Refusal.{recovered}
 use Rattle.commands.specs.Input.{inRange, rampTooLong, badWindow, inputRefusal}
 use Rattle.rules.specs.Reached.{windowsSound, instructionsSound, defaultSound}
@@ -39,41 +39,41 @@ default-input d = input-none (defaultᶜ d) ∙ and-true (inRange (defaultᶜ d)
 
 -- ---- a table is sound where its first entry is, and the rest after it
 
-windows-first : (k : Contract) (e : ℕ) (w : Window) (ws : List Window) → windowsSound k e (w ∷ ws) ≡ (windowsSound k e (w ∷ []) && windowsSound k (w .end .0) ws)
+windows-first : (k : Contract) (span e : ℕ) (w : Window) (ws : List Window) → windowsSound k span e (w ∷ ws) ≡ (windowsSound k span e (w ∷ []) && windowsSound k span (w .end .0) ws)
 unfolding windowsSound
-windows-first k e w ws = rw and-true
+windows-first k span e w ws = rw and-true
 
-instructions-first : (k : Contract) (e : ℕ) (i : Instruction) (is : List Instruction)
-    → instructionsSound k e (i ∷ is) ≡ (instructionsSound k e (i ∷ []) && instructionsSound k (endOf k i + k .recovery .0) is)
+instructions-first : (k : Contract) (span e : ℕ) (i : Instruction) (is : List Instruction)
+    → instructionsSound k span e (i ∷ is) ≡ (instructionsSound k span e (i ∷ []) && instructionsSound k span (endOf k i + k .recovery .0) is)
 unfolding instructionsSound
-instructions-first k e i is = rw and-true
+instructions-first k span e i is = rw and-true
 
 -- ---- a walk at entry i of the first n: what it has still to find is what it was asked
 
-module _ {a : Bool} (k : Contract) (e : ℕ) (ws : List Window) (i n : ℕ) (h : i < n) (r : n ≤ length ws) (inv : a ≡ windowsSound k e (slice i n ws)) where
+module _ {a : Bool} (k : Contract) (span e : ℕ) (ws : List Window) (i n : ℕ) (h : i < n) (r : n ≤ length ws) (inv : a ≡ windowsSound k span e (slice i n ws)) where
   abbrev window : Window
   window = getD ws i noWindow
 
-  window-turn : a ≡ (windowsSound k e (window ∷ []) && windowsSound k (window .end .0) (slice (i + 1) n ws))
-  window-turn = inv ∙ rw (slice-turn ws i n noWindow h r) (windows-first k e window (slice (i + 1) n ws))
+  window-turn : a ≡ (windowsSound k span e (window ∷ []) && windowsSound k span (window .end .0) (slice (i + 1) n ws))
+  window-turn = inv ∙ rw (slice-turn ws i n noWindow h r) (windows-first k span e window (slice (i + 1) n ws))
 
-  pub windows-fail : windowsSound k e (window ∷ []) ≡ false → false ≡ a
+  pub windows-fail : windowsSound k span e (window ∷ []) ≡ false → false ≡ a
   windows-fail q = sym (window-turn ∙ rw q)
 
-  pub windows-on : windowsSound k e (window ∷ []) ≡ true → a ≡ windowsSound k (window .end .0) (slice (i + 1) n ws)
+  pub windows-on : windowsSound k span e (window ∷ []) ≡ true → a ≡ windowsSound k span (window .end .0) (slice (i + 1) n ws)
   windows-on q = window-turn ∙ rw q
 
-module _ {a : Bool} (k : Contract) (e : ℕ) (is : List Instruction) (i n : ℕ) (h : i < n) (r : n ≤ length is) (inv : a ≡ instructionsSound k e (slice i n is)) where
+module _ {a : Bool} (k : Contract) (span e : ℕ) (is : List Instruction) (i n : ℕ) (h : i < n) (r : n ≤ length is) (inv : a ≡ instructionsSound k span e (slice i n is)) where
   abbrev instruction : Instruction
   instruction = getD is i noInstruction
 
-  instruction-turn : a ≡ (instructionsSound k e (instruction ∷ []) && instructionsSound k (endOf k instruction + k .recovery .0) (slice (i + 1) n is))
-  instruction-turn = inv ∙ rw (slice-turn is i n noInstruction h r) (instructions-first k e instruction (slice (i + 1) n is))
+  instruction-turn : a ≡ (instructionsSound k span e (instruction ∷ []) && instructionsSound k span (endOf k instruction + k .recovery .0) (slice (i + 1) n is))
+  instruction-turn = inv ∙ rw (slice-turn is i n noInstruction h r) (instructions-first k span e instruction (slice (i + 1) n is))
 
-  pub instructions-fail : instructionsSound k e (instruction ∷ []) ≡ false → false ≡ a
+  pub instructions-fail : instructionsSound k span e (instruction ∷ []) ≡ false → false ≡ a
   instructions-fail q = sym (instruction-turn ∙ rw q)
 
-  pub instructions-on : instructionsSound k e (instruction ∷ []) ≡ true → a ≡ instructionsSound k (endOf k instruction + k .recovery .0) (slice (i + 1) n is)
+  pub instructions-on : instructionsSound k span e (instruction ∷ []) ≡ true → a ≡ instructionsSound k span (endOf k instruction + k .recovery .0) (slice (i + 1) n is)
   instructions-on q = instruction-turn ∙ rw q
 
 -- when an instruction may be issued, by the last one
@@ -84,16 +84,15 @@ recovered-last k (i ∷ is) d h = refl
 
 -- ---- defaults beside windows that are given by their columns
 
--- what the columns and the span say
-pub record Columns (k : Contract) (ws : List Window) (n : ℕ) (starts ends : List ℕ) (span : ℕ) : Type 0 where
+-- what the columns say
+pub record Columns (ws : List Window) (n : ℕ) (starts ends : List ℕ) : Type 0 where
   pub first : starts ≡ map startOf ws
   pub last : ends ≡ map endsAt ws
-  pub minutes : span ≡ spanOf k
   pub used : n ≤ length ws
 
 -- the test of one default
-pub default-fits : {k : Contract} {ws : List Window} {n : ℕ} {starts ends : List ℕ} {span : ℕ} (d : Default) (r : Bool) → Columns k ws n starts ends span
-    → T r ↔ Held starts ends n (d .minute .0) → (eqb (inputRefusal (defaultᶜ d)) 0 && ltb (d .minute .0) span && r) ≡ defaultSound k (take n ws) d
-default-fits {k} {ws} {n} d r t h =
+pub default-fits : (k : Contract) (span : ℕ) {ws : List Window} {n : ℕ} {starts ends : List ℕ} (d : Default) (r : Bool) → Columns ws n starts ends
+    → T r ↔ Held starts ends n (d .minute .0) → (eqb (inputRefusal (defaultᶜ d)) 0 && ltb (d .minute .0) span && r) ≡ defaultSound k span (take n ws) d
+default-fits k span {ws} {n} d r t h =
     let held : T r ↔ Held (map startOf ws) (map endsAt ws) n (d .minute .0) = rw (t .first, t .last) at h in
-    rw (default-input d, t .minutes, in-table ws n (t .used) (d .minute .0) r held)
+    rw (default-input d, in-table ws n (t .used) (d .minute .0) r held)

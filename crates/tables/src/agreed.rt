@@ -12,9 +12,10 @@ use commands::entries::Default;
 use commands::entries::Instruction;
 use commands::entries::Window;
 
-// Whether each of the first w windows, i instructions and d defaults could be taken after those before it.
+// Whether each of the first w windows, i instructions and d defaults could be taken after those before it, under a contract with this span.
 pub fn agreed_sound(
     k: Contract,
+    span: usize,
     windows: [Window; 128],
     w: usize,
     instructions: [Instruction; 64],
@@ -23,16 +24,16 @@ pub fn agreed_sound(
     d: usize,
 ) -> bool
     requires { ⌜ (w ≤ 128) × (i ≤ 64) × (d ≤ 128) ⌝ }
-    ensures { λ r. ⌜ r ≡ pass (agreedTests k (take w windows) (take i instructions) (take d defaults)) ⌝ }
+    ensures { λ r. ⌜ r ≡ pass (agreedTests k span (take w windows) (take i instructions) (take d defaults)) ⌝ }
 {
     if k.input_refusal() != 0 {
         return false;
     }
-    let ordered = windows_sound(k, windows, w);
+    let ordered = windows_sound(k, span, windows, w);
     if !ordered {
         return false;
     }
-    let spaced = instructions_sound(k, instructions, i);
+    let spaced = instructions_sound(k, span, instructions, i);
     if !spaced {
         return false;
     }
@@ -40,5 +41,5 @@ pub fn agreed_sound(
     if d == 0 {
         return true;
     }
-    defaults_sound(k, windows, w, defaults, d)
+    defaults_sound(k, span, windows, w, defaults, d)
 }

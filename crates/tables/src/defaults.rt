@@ -7,7 +7,6 @@ ghost use Rattle.energy.specs.Lists.{all, any};
 ghost use Rattle.rules.specs.Ledger.{within};
 ghost use Rattle.rules.specs.Reached.{windowsSound, defaultSound};
 ghost use Rattle.tables.specs.Unused.{isNoDefault};
-use crate::agreement::span_of;
 use crate::columns::ends_of;
 use crate::columns::in_columns;
 use crate::columns::starts_of;
@@ -17,8 +16,8 @@ use commands::entries::Window;
 use energy::units::Minutes;
 
 // Whether a minute is in one of the first n windows.
-pub fn in_window(k: Contract, windows: [Window; 128], n: usize, m: Minutes) -> bool
-    requires { ⌜ (n ≤ 128) × (windowsSound k 0 (take n windows) ≡ true) ⌝ }
+pub fn in_window(k: Contract, span: usize, windows: [Window; 128], n: usize, m: Minutes) -> bool
+    requires { ⌜ (n ≤ 128) × (windowsSound k span 0 (take n windows) ≡ true) ⌝ }
     ensures { λ r. ⌜ r ≡ any (λ w. within w (m .0)) (take n windows) ⌝ }
 {
     let starts = starts_of(windows);
@@ -29,17 +28,17 @@ pub fn in_window(k: Contract, windows: [Window; 128], n: usize, m: Minutes) -> b
 // Whether the first n defaults could be entered beside the first w windows.
 pub fn defaults_sound(
     k: Contract,
+    span: usize,
     windows: [Window; 128],
     w: usize,
     defaults: [Default; 128],
     n: usize,
 ) -> bool
-    requires { ⌜ (n ≤ 128) × (w ≤ 128) × (windowsSound k 0 (take w windows) ≡ true) ⌝ }
-    ensures { λ r. ⌜ r ≡ all (defaultSound k (take w windows)) (take n defaults) ⌝ }
+    requires { ⌜ (n ≤ 128) × (w ≤ 128) × (windowsSound k span 0 (take w windows) ≡ true) ⌝ }
+    ensures { λ r. ⌜ r ≡ all (defaultSound k span (take w windows)) (take n defaults) ⌝ }
 {
     let starts = starts_of(windows);
     let ends = ends_of(windows);
-    let span = span_of(k);
     let mut i = 0;
     while i < n {
         let d = defaults[i];

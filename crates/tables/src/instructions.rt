@@ -8,7 +8,6 @@ ghost use Rattle.energy.specs.Lists.{all};
 ghost use Rattle.commands.specs.Input.{downMinutes, inRange};
 ghost use Rattle.rules.specs.Reached.{instructionsSound};
 ghost use Rattle.tables.specs.Unused.{isNoInstruction};
-use crate::agreement::span_of;
 use commands::contract::Contract;
 use commands::entries::Command;
 use commands::entries::Instruction;
@@ -22,12 +21,11 @@ pub fn down_minutes(k: Contract) -> u32
     ramp_minutes(k.contracted.0 as u32, k.rampdown)
 }
 
-// Whether an instruction could be entered where none may be issued before a minute.
-fn instruction_fits(k: Contract, down: u32, ready: usize, i: Instruction) -> bool
+// Whether an instruction could be entered under a contract with this span, where none may be issued before a minute.
+fn instruction_fits(k: Contract, span: usize, down: u32, ready: usize, i: Instruction) -> bool
     requires { ⌜ down ≡ downMinutes k ⌝ }
-    ensures { λ r. ⌜ r ≡ instructionsSound k ready (i ∷ []) ⌝ }
+    ensures { λ r. ⌜ r ≡ instructionsSound k span ready (i ∷ []) ⌝ }
 {
-    let span = span_of(k);
     (i.input_refusal() == 0)
         & (i.cease.0 as usize + down as usize <= span)
         & (i.issue.0 as usize + k.response.0 as usize <= i.cease.0 as usize)
@@ -35,16 +33,21 @@ fn instruction_fits(k: Contract, down: u32, ready: usize, i: Instruction) -> boo
 }
 
 // Whether the first n instructions could be entered one after the other.
-pub fn instructions_sound(k: Contract, instructions: [Instruction; 64], n: usize) -> bool
+pub fn instructions_sound(
+    k: Contract,
+    span: usize,
+    instructions: [Instruction; 64],
+    n: usize,
+) -> bool
     requires { ⌜ (n ≤ 64) × (inRange (Command.Contract k) ≡ true) ⌝ }
-    ensures { λ r. ⌜ r ≡ instructionsSound k 0 (take n instructions) ⌝ }
+    ensures { λ r. ⌜ r ≡ instructionsSound k span 0 (take n instructions) ⌝ }
 {
     let down = down_minutes(k);
     let mut ready = 0;
     let mut x = 0;
     while x < n {
         let i = instructions[x];
-        let fits = instruction_fits(k, down, ready, i);
+        let fits = instruction_fits(k, span, down, ready, i);
         if !fits {
             return false;
         }

@@ -6,16 +6,14 @@ ghost use lib.ListN.{take, drop};
 ghost use Rattle.energy.specs.Lists.{all};
 ghost use Rattle.rules.specs.Reached.{windowsSound};
 ghost use Rattle.tables.specs.Unused.{isNoWindow};
-use crate::agreement::span_of;
 use commands::contract::Contract;
 use commands::entries::Window;
 use energy::units::Minutes;
 
-// Whether a window could be entered after one that ends at a minute.
-fn window_fits(k: Contract, end: Minutes, w: Window) -> bool
-    ensures { λ r. ⌜ r ≡ windowsSound k (end .0) (w ∷ []) ⌝ }
+// Whether a window could be entered under a contract with this span, after one that ends at a minute.
+fn window_fits(k: Contract, span: usize, end: Minutes, w: Window) -> bool
+    ensures { λ r. ⌜ r ≡ windowsSound k span (end .0) (w ∷ []) ⌝ }
 {
-    let span = span_of(k);
     (w.input_refusal() == 0)
         & (w.end.0 as usize <= span)
         & !((k.service == Contract::COMMITTED) & (w.verdict == Contract::REJECTED))
@@ -23,15 +21,15 @@ fn window_fits(k: Contract, end: Minutes, w: Window) -> bool
 }
 
 // Whether the first n windows could be entered one after the other.
-pub fn windows_sound(k: Contract, windows: [Window; 128], n: usize) -> bool
+pub fn windows_sound(k: Contract, span: usize, windows: [Window; 128], n: usize) -> bool
     requires { ⌜ n ≤ 128 ⌝ }
-    ensures { λ r. ⌜ r ≡ windowsSound k 0 (take n windows) ⌝ }
+    ensures { λ r. ⌜ r ≡ windowsSound k span 0 (take n windows) ⌝ }
 {
     let mut end = Minutes(0);
     let mut i = 0;
     while i < n {
         let w = windows[i];
-        let fits = window_fits(k, end, w);
+        let fits = window_fits(k, span, end, w);
         if !fits {
             return false;
         }

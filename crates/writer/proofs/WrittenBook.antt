@@ -10,19 +10,18 @@ use borrow.Author.Tests.{lt-ltb, le-ltb}
 use lib.IntN.{ℤ}
 use lib.ListN.{length, getD, length-map}
 use Rattle.energy.specs.Lists.{concatMap, run, between, putAt}
-use Rattle.rules.specs.Ledger.{contractOf, spanOf}
+use Rattle.rules.specs.Ledger.{spanIn}
 use Rattle.commands.specs.Input.{lowest}
 use Rattle.rules.specs.File.{readingAt, written, fileOf}
 use Rattle.commands.specs.declared.contract.Contract.{Contract}
 use Rattle.rules.specs.declared.answer.Answer.the-variants.{Taken, Refused}
 use Rattle.commands.specs.declared.entries.Command.the-variants.{Contract as contractᶜ, Window as windowᶜ, Instruction as instructionᶜ, Default as defaultᶜ}
-use Rattle.commands.proofs.Terms.{ranges}
 use Rattle.meter.specs.Meter.{cell, missing}
-use Rattle.book.specs.Book.{ledgerIn}
+use Rattle.book.specs.Book.{bookSpan, bookCells, ledgerIn}
 use Rattle.book.specs.Sound.{sound, Shaped}
 use Rattle.book.specs.declared.Book.{Book}
-use Rattle.book.proofs.Tested.{sound-parts, sound-used, sound-empty}
-use Rattle.book.proofs.SoundBook.{span-sound}
+use Rattle.book.proofs.Tested.{sound-parts}
+use Rattle.book.proofs.Month.{span-cells, span-sound, cells-sound, cells-most}
 use Rattle.writer.specs.Laid.{fileBytes, Laid, readings, parts, Tabled, Kept}
 use Rattle.writer.specs.Write.{writeConditions, writeBook}
 use Rattle.writer.specs.declared.Written.{Written}
@@ -33,17 +32,13 @@ use Rattle.writer.proofs.WrittenParts.{take-map}
 -- ---- a book that commands leave
 
 -- its span is at most a month of 31 days
-month : (b : Book) → sound b ≡ true → spanOf (b .contract) ≤ 44640
-month b e = go (b .agreed) refl
-  where
-    go : (agreed : Bool) → b .agreed ≡ agreed → spanOf (b .contract) ≤ 44640
-    go true s = omega (arith, ranges (b .contract) (sound-used b e s .operands) .days .1)
-    go false s = omega (arith, ap (λ k. k .days) (sound-empty b e s .contract))
+month : (b : Book) → sound b ≡ true → bookSpan b ≤ 44640
+month b e = omega (arith, span-cells b, cells-most b e)
 
-pub kept : (b : Book) (meter : List ℤ) → sound b ≡ true → spanOf (b .contract) ≤ length meter → Kept b (length meter)
+pub kept : (b : Book) (meter : List ℤ) → sound b ≡ true → bookCells b ≤ length meter → Kept b (length meter)
 kept b meter e h =
     let t = sound-parts b e .tables in
-    record { windows = t .windows; instructions = t .instructions; defaults = t .defaults; month = month b e; memory = h }
+    record { windows = t .windows; instructions = t .instructions; defaults = t .defaults; month = month b e; memory = omega (arith, span-cells b) }
 
 -- each of its tables, in arrays of their lengths
 pub tabled : (b : Book) {size : ℕ} → Shaped b → Kept b size → (t : Table) → Tabled b t
@@ -70,13 +65,13 @@ contract-part true k = refl
 contract-part false k = refl
 
 -- the readings, of which the ledger has none past the span
-readings-part : (b : Book) (meter : List ℤ) → concatMap (λ m. readingAt (ledgerIn b meter .reading m) m) (between 0 (spanOf (b .contract))) ≡ readings meter (spanOf (b .contract))
+readings-part : (b : Book) (meter : List ℤ) → concatMap (λ m. readingAt (ledgerIn b meter .reading m) m) (between 0 (bookSpan b)) ≡ readings meter (bookSpan b)
 unfolding between ledgerIn readings
 readings-part b meter =
-    concatMap-ext _ _ (spanOf (b .contract) - 0) 0 (λ m h. ap (λ (inside : Bool). readingAt (cond inside (cell (getD meter m missing)) none) m) (lt-ltb m (spanOf (b .contract)) (omega arith)))
+    concatMap-ext _ _ (bookSpan b - 0) 0 (λ m h. ap (λ (inside : Bool). readingAt (cond inside (cell (getD meter m missing)) none) m) (lt-ltb m (bookSpan b) (omega arith)))
 
 module _ (b : Book) (meter : List ℤ) (e : sound b ≡ true) where
-  readings-written : concatMap (λ m. readingAt (ledgerIn b meter .reading m) m) (between 0 (spanOf (contractOf (ledgerIn b meter)))) ≡ readings meter (spanOf (b .contract))
+  readings-written : concatMap (λ m. readingAt (ledgerIn b meter .reading m) m) (between 0 (spanIn (ledgerIn b meter))) ≡ readings meter (bookSpan b)
   readings-written = ap (λ n. concatMap (λ m. readingAt (ledgerIn b meter .reading m) m) (between 0 n)) (span-sound b meter e) ∙ readings-part b meter
 
   written-parts : written (ledgerIn b meter) ≡ parts b meter
@@ -109,18 +104,18 @@ unfolding writeBook writeConditions lowest
 refused-11 b meter memory e = rw e (refl, refl)
 
 module _ (b : Book) (meter : List ℤ) (memory : List ℕ) (e : sound b ≡ true) where
-  pub refused-15 : length meter < spanOf (b .contract) → Gives b meter memory (no 15) memory
+  pub refused-15 : length meter < bookCells b → Gives b meter memory (no 15) memory
   unfolding writeBook writeConditions lowest
-  refused-15 h = rw (e, span-sound b meter e, lt-ltb (length meter) (spanOf (b .contract)) h) (refl, refl)
+  refused-15 h = rw (e, cells-sound b meter e, lt-ltb (length meter) (bookCells b) h) (refl, refl)
 
-  module _ (h : spanOf (b .contract) ≤ length meter) where
+  module _ (h : bookCells b ≤ length meter) where
     pub refused-26 : length memory < length (fileBytes (parts b meter)) → Gives b meter memory (no 26) memory
     unfolding writeBook writeConditions lowest
     refused-26 short =
         rw (
           e,
-          span-sound b meter e,
-          le-ltb (length meter) (spanOf (b .contract)) h,
+          cells-sound b meter e,
+          le-ltb (length meter) (bookCells b) h,
           file-is b meter e,
           lt-ltb (length memory) (length (fileBytes (parts b meter))) short,
         ) (refl, refl)
@@ -132,8 +127,8 @@ module _ (b : Book) (meter : List ℤ) (memory : List ℕ) (e : sound b ≡ true
         let file : fileBytes (parts b meter) ≡ fileOf (ledgerIn b meter) = sym (file-is b meter e) in
         rw (
           e,
-          span-sound b meter e,
-          le-ltb (length meter) (spanOf (b .contract)) h,
+          cells-sound b meter e,
+          le-ltb (length meter) (bookCells b) h,
           file-is b meter e,
           le-ltb (length memory) (length (fileBytes (parts b meter))) long,
         ) (

@@ -12,7 +12,7 @@ use lib.ListN.{length, getD, take, length-append, length-map, List·getD-map}
 use lib.Seq.{take-suc, length-take-le}
 use Rattle.energy.specs.Lists.{concatMap, run, between}
 use Rattle.energy.proofs.Sums.{between-snoc}
-use Rattle.rules.specs.Ledger.{spanOf}
+use Rattle.book.specs.Book.{bookSpan}
 use Rattle.commands.specs.Input.{isReading}
 use Rattle.rules.specs.File.{table, widthsOf, total, write, readingAt}
 use Rattle.commands.specs.declared.entries.Reading.{Reading}
@@ -161,14 +161,14 @@ module _ (b : Book) (meter : List ℤ) where
   -- the length of the whole is that of the parts
   pub parts-length :
       length (fileBytes (cond (b .agreed) (contractᶜ (b .contract) ∷ []) [])) + length (fileBytes (entries b Windows)) + length (fileBytes (entries b Instructions)) + length (fileBytes (entries b Defaults))
-      + length (fileBytes (readings meter (spanOf (b .contract))))
+      + length (fileBytes (readings meter (bookSpan b)))
       + length (fileBytes (cond (b .closed) (closeᶜ ∷ []) []))
       ≡ length (fileBytes (parts b meter))
   unfolding parts
   parts-length = sym (simp length-both)
 
   -- and a small number
-  pub parts-short : ((t : Table) → Tabled b t) → spanOf (b .contract) ≤ 44640 → length (fileBytes (parts b meter)) ≤ 2000000
+  pub parts-short : ((t : Table) → Tabled b t) → bookSpan b ≤ 44640 → length (fileBytes (parts b meter)) ≤ 2000000
   parts-short tables month =
       omega (
         arith,
@@ -177,8 +177,8 @@ module _ (b : Book) (meter : List ℤ) where
         entries-short b Windows (tables Windows),
         entries-short b Instructions (tables Instructions),
         entries-short b Defaults (tables Defaults),
-        bytes-short (readings meter (spanOf (b .contract))),
-        readings-few meter (spanOf (b .contract)),
+        bytes-short (readings meter (bookSpan b)),
+        readings-few meter (bookSpan b),
         once-short (b .closed) closeᶜ,
       )
 
@@ -197,7 +197,7 @@ module _ (b : Book) (meter : List ℤ) {m : List ℕ} (room : Room (parts b mete
   defaults = instructions ++ entries b Defaults
 
   abbrev read : List Command
-  read = defaults ++ readings meter (spanOf (b .contract))
+  read = defaults ++ readings meter (bookSpan b)
 
   abbrev close : List Command
   close = cond (b .closed) (closeᶜ ∷ []) []
@@ -210,7 +210,7 @@ module _ (b : Book) (meter : List ℤ) {m : List ℕ} (room : Room (parts b mete
   read-room = room-first read close all-room
 
   defaults-room : Room defaults m 0
-  defaults-room = room-first defaults (readings meter (spanOf (b .contract))) read-room
+  defaults-room = room-first defaults (readings meter (bookSpan b)) read-room
 
   instructions-room : Room instructions m 0
   instructions-room = room-first instructions (entries b Defaults) defaults-room
@@ -243,12 +243,12 @@ module _ (b : Book) (meter : List ℤ) {m : List ℕ} (room : Room (parts b mete
           laid₄ : Laid defaults m 0 m₄ at₄
           laid₄ = laid-both instructions (entries b Defaults) defaults-room laid₃ l₄
 
-          pub room-readings : Room (readings meter (spanOf (b .contract))) m₄ at₄
-          room-readings = room-next defaults (readings meter (spanOf (b .contract))) read-room laid₄
+          pub room-readings : Room (readings meter (bookSpan b)) m₄ at₄
+          room-readings = room-next defaults (readings meter (bookSpan b)) read-room laid₄
 
-          module _ {m₅ : List ℕ} {at₅ : ℕ} (l₅ : Laid (readings meter (spanOf (b .contract))) m₄ at₄ m₅ at₅) where
+          module _ {m₅ : List ℕ} {at₅ : ℕ} (l₅ : Laid (readings meter (bookSpan b)) m₄ at₄ m₅ at₅) where
             laid₅ : Laid read m 0 m₅ at₅
-            laid₅ = laid-both defaults (readings meter (spanOf (b .contract))) read-room laid₄ l₅
+            laid₅ = laid-both defaults (readings meter (bookSpan b)) read-room laid₄ l₅
 
             pub room-close : Room close m₅ at₅
             room-close = room-next read close all-room laid₅

@@ -6,10 +6,10 @@ use lib.IntN.{ℤ}
 use lib.ListN.{length, getD, take}
 use Rattle.energy.specs.Lists.{concatMap, between, Laid as LaidBytes}
 use Rattle.rules.specs.File.{write, readingAt}
-use Rattle.rules.specs.Ledger.{spanOf}
 use Rattle.commands.specs.declared.entries.Command.{Command}
 use Rattle.commands.specs.declared.entries.Command.the-variants.{Contract as contractᶜ, Window as windowᶜ, Instruction as instructionᶜ, Default as defaultᶜ, Close as closeᶜ}
 use Rattle.meter.specs.Meter.{cell, missing}
+use Rattle.book.specs.Book.{bookSpan}
 use Rattle.book.specs.declared.Book.{Book}
 use Rattle.writer.specs.declared.entries.Table.{Table}
 use Rattle.writer.specs.declared.entries.Table.the-variants.{Windows, Instructions, Defaults}
@@ -52,7 +52,7 @@ readings meter span = concatMap (λ m. readingAt (cell (getD meter m missing)) m
 unfoldable pub parts : Book → List ℤ → List Command
 parts b meter =
     cond (b .agreed) (contractᶜ (b .contract) ∷ []) [] ++ entries b Windows ++ entries b Instructions ++ entries b Defaults
-    ++ readings meter (spanOf (b .contract))
+    ++ readings meter (bookSpan b)
     ++ cond (b .closed) (closeᶜ ∷ []) []
 
 -- ---- what the writer's parts ask
@@ -68,5 +68,5 @@ pub record Kept (b : Book) (size : ℕ) : Type 0 where
   pub windows : b .nwindows ≤ 128
   pub instructions : b .ninstructions ≤ 64
   pub defaults : b .ndefaults ≤ 128
-  pub month : spanOf (b .contract) ≤ 44640
-  pub memory : spanOf (b .contract) ≤ size
+  pub month : bookSpan b ≤ 44640
+  pub memory : bookSpan b ≤ size

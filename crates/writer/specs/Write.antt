@@ -7,7 +7,7 @@ use lib.IntN.{ℤ}
 use lib.Dec.{ltb}
 use lib.ListN.{length, drop}
 use Rattle.commands.specs.Input.{Condition, _when_, lowest}
-use Rattle.rules.specs.Ledger.{Ledger, contractOf, spanOf}
+use Rattle.rules.specs.Ledger.{Ledger, cellsIn}
 use Rattle.rules.specs.Refusal.{answerOf}
 use Rattle.rules.specs.File.{fileOf}
 use Rattle.book.specs.Book.{ledgerIn}
@@ -18,7 +18,7 @@ use Rattle.writer.specs.declared.Written.{Written}
 -- what writing meets. unleft: no list of commands leaves the book; size and room: the lengths of meter memory and of the lent bytes
 unfoldable pub writeConditions : Bool → ℕ → ℕ → Ledger → List Condition
 writeConditions unleft size room g =
-    (11 when unleft) ∷ (15 when ltb size (spanOf (contractOf g))) ∷ (26 when ltb room (length (fileOf g))) ∷ []
+    (11 when unleft) ∷ (15 when ltb size (cellsIn g)) ∷ (26 when ltb room (length (fileOf g))) ∷ []
 
 -- the answer, and the lent bytes after it
 pub record WrittenBytes : Type 0 where

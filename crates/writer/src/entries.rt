@@ -2,7 +2,6 @@
 ghost use mathlib.Core.Path.{_≡_};
 ghost use Prim.Native.Nat.{_<_};
 ghost use lib.ListN.{length, getD};
-ghost use Rattle.rules.specs.Ledger.{spanOf};
 ghost use Rattle.commands.specs.Input.{isReading};
 ghost use Rattle.meter.specs.Meter.{missing};
 ghost use Rattle.writer.specs.Laid.{placesIn, usedIn};
@@ -11,13 +10,6 @@ use commands::checks::kw_from_to;
 use commands::contract::Contract;
 use commands::entries::Command;
 use energy::units::Kw;
-
-// The minutes of a contract's month.
-pub(crate) fn span_of(k: Contract) -> usize
-    ensures { λ r. ⌜ r ≡ spanOf k ⌝ }
-{
-    1440 * k.days as usize
-}
 
 // A table of a book.
 pub(crate) enum Table {

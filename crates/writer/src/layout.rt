@@ -10,7 +10,6 @@ use crate::entries::Table;
 use crate::entries::entry;
 use crate::entries::is_reading;
 use crate::entries::kw_at;
-use crate::entries::span_of;
 use crate::entries::used;
 use book::Book;
 use commands::entries::Command;
@@ -90,6 +89,6 @@ pub(crate) fn put_book(b: Book, meter: &[i32], out: &mut [u8]) -> usize
     let instructions = put_table(b, Table::Windows, out, windows);
     let defaults = put_table(b, Table::Instructions, out, instructions);
     let readings = put_table(b, Table::Defaults, out, defaults);
-    let close = put_readings(meter, span_of(k), out, readings);
+    let close = put_readings(meter, b.span(), out, readings);
     put_if(b.closed, Command::Close, out, close)
 }

@@ -9,7 +9,6 @@ use crate::entries::Table;
 use crate::entries::entry;
 use crate::entries::is_reading;
 use crate::entries::kw_at;
-use crate::entries::span_of;
 use crate::entries::used;
 use book::Book;
 use commands::entries::Command;
@@ -68,7 +67,7 @@ pub(crate) fn file_length(b: Book, meter: &[i32]) -> usize
         minute: Minutes(0),
         kw: Kw(0),
     };
-    let readings = as_long(readings_in(meter, span_of(k)), Command::Reading(reading));
+    let readings = as_long(readings_in(meter, b.span()), Command::Reading(reading));
     let close = as_long(once(b.closed), Command::Close);
     contract + windows + instructions + defaults + readings + close
 }

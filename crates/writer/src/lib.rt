@@ -5,7 +5,6 @@ mod length;
 
 ghost use mathlib.Core.Path.{_≡_};
 ghost use Rattle.writer.specs.Write.{writeBook};
-use crate::entries::span_of;
 use crate::layout::put_book;
 use crate::length::file_length;
 use book::Book;
@@ -26,8 +25,7 @@ pub fn write_book(b: Book, meter: &[i32], out: &mut [u8]) -> Written
     if !left {
         return refused(11);
     }
-    let k = b.contract;
-    if meter.len() < span_of(k) {
+    if meter.len() < b.cells() {
         return refused(15);
     }
     if out.len() < file_length(b, meter) {

@@ -6,7 +6,7 @@ use native.Mathlib.Omega.{arith}
 use borrow.Author.Needs.{needs}
 use borrow.Author.Tests.{not-true, not-false}
 use lib.ListN.{length}
-use Rattle.rules.specs.Ledger.{spanOf}
+use Rattle.book.specs.Book.{bookCells}
 use Rattle.book.specs.Sound.{sound}
 use Rattle.writer.specs.Laid.{fileBytes, parts}
 use Rattle.writer.proofs.WrittenBook.{kept, refused-11, refused-15, refused-26, written-whole}
@@ -29,8 +29,8 @@ returns c =
 left : (c : tie.Else1) → sound (c .before .before .before .args .b) ≡ true
 left c = sym (c .before .sound .ensures) ∙ not-false _ (c .if1 .left)
 
-span-of-requires : tie.Need-span-of-requires
-span-of-requires c κs = search needs
+cells-requires : tie.Need-cells-requires
+cells-requires c κs = search needs
 
 refused-requires-2 : tie.Need-refused-requires-2
 refused-requires-2 c κs = search needs
@@ -38,18 +38,18 @@ refused-requires-2 c κs = search needs
 returns-2 : tie.Need-returns-2
 returns-2 c =
     let p = c .before .before in
-    let e = p .before .before in
+    let e = p .before in
     let s = e .before .before .before in
-    rw (c .refused2 .ensures) (refused-15 (s .args .b) (s .args .meter .now) (s .args .out .now) (left e) (rw (p .span-of .ensures) at (c .before .if2 .taken)))
+    rw (c .refused2 .ensures) (refused-15 (s .args .b) (s .args .meter .now) (s .args .out .now) (left e) (rw (p .cells .ensures) at (c .before .if2 .taken)))
 
 -- past 15
 within : (c : tie.Else2)
-    → spanOf (c .before .before .before .before .before .before .args .b .contract) ≤ length (c .before .before .before .before .before .before .args .meter .now)
-within c = rw (c .before .span-of .ensures) at (c .if2 .left)
+    → bookCells (c .before .before .before .before .before .args .b) ≤ length (c .before .before .before .before .before .args .meter .now)
+within c = rw (c .before .cells .ensures) at (c .if2 .left)
 
 file-length-requires : tie.Need-file-length-requires
 file-length-requires c κs =
-    let e = c .before .before .before in
+    let e = c .before .before in
     let s = e .before .before .before in
     kept (s .args .b) (s .args .meter .now) (left e) (within c)
 
@@ -59,21 +59,21 @@ refused-requires-3 c κs = search needs
 returns-3 : tie.Need-returns-3
 returns-3 c =
     let f = c .before .before in
-    let e = f .before .before .before .before in
+    let e = f .before .before .before in
     let s = e .before .before .before in
     rw (c .refused3 .ensures)
     (refused-26 (s .args .b) (s .args .meter .now) (s .args .out .now) (left e) (within (f .before)) (rw (f .file-length .ensures) at (c .before .if3 .taken)))
 
 -- past 26
 long : (c : tie.Else3)
-    → length (fileBytes (parts (c .before .before .before .before .before .before .before .before .args .b) (c .before .before .before .before .before .before .before .before .args .meter .now)))
-    ≤ length (c .before .before .before .before .before .before .before .before .args .out .now)
+    → length (fileBytes (parts (c .before .before .before .before .before .before .before .args .b) (c .before .before .before .before .before .before .before .args .meter .now)))
+    ≤ length (c .before .before .before .before .before .before .before .args .out .now)
 long c = rw (c .before .file-length .ensures) at (c .if3 .left)
 
 put-book-requires : tie.Need-put-book-requires
 put-book-requires c κs =
     let w = c .before .before .before in
-    let e = w .before .before .before in
+    let e = w .before .before in
     let s = e .before .before .before in
     (kept (s .args .b) (s .args .meter .now) (left e) (within w), record { fits = omega (arith, long (c .before)) })
 
@@ -85,7 +85,7 @@ returns-4 c =
     let p = c .before .before in
     let l = p .before .before in
     let w = l .before .before in
-    let e = w .before .before .before in
+    let e = w .before .before in
     let s = e .before .before .before in
     written-whole (s .args .b) (s .args .meter .now) (s .args .out .now) (left e) (within w) (long l) (p .put-book .ensures)
 
@@ -96,7 +96,7 @@ write-book-spec =
     sound-requires
     refused-requires
     returns
-    span-of-requires
+    cells-requires
     refused-requires-2
     returns-2
     file-length-requires

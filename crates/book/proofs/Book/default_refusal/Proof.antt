@@ -7,6 +7,7 @@ use Rattle.energy.proofs.Tests.{of-T}
 use Rattle.rules.specs.Reached.{windowsSound}
 use Rattle.commands.specs.declared.entries.Command.the-variants.{Default as defaultᶜ}
 use Rattle.rules.proofs.Folds.{length-mapped}
+use Rattle.book.specs.Book.{bookSpan}
 use Rattle.book.proofs.Tested.{Tables, sound-parts, sound-used}
 use Rattle.book.proofs.Numbers.{firstOf, Late, met-first, met-late, default-later}
 use Rattle.book.proofs.Book.default_refusal.Statement.{statement}
@@ -43,18 +44,18 @@ used c = sound-parts (c .before .before .before .args .self) (late c .leaves) .t
 
 default-number-requires : tie.Need-default-number-requires
 default-number-requires c κs =
-    let past = c .before .before in
+    let past = c .before .before .before in
     let b = past .before .before .before .args .self in
-    (used past .windows, of-T (windowsSound (b .contract) 0 (take (b .nwindows) (b .windows))) (sound-used b (late past .leaves) (late past .contracted) .windows))
+    (used past .windows, rw (c .before .span .ensures) (of-T (windowsSound (b .contract) (bookSpan b) 0 (take (b .nwindows) (b .windows))) (sound-used b (late past .leaves) (late past .contracted) .windows)))
 
 returns-2 : tie.Need-returns-2
 returns-2 c =
-    let past = c .before .before .before in
+    let past = c .before .before .before .before in
     let at = past .before .before .before in
     let b = at .args .self in
     let n : b .ndefaults ≤ length (b .defaults) = rw (cells at) (used past .defaults) in
-    rw (c .default-number .ensures)
+    rw (c .default-number .ensures, c .before .before .span .ensures)
     (sym (late past .number ∙ default-later b (at .args .meter .now) (late past .contracted) (at .args .d) n))
 
 pub default-refusal-spec : {M : Type 1} → statement M
-default-refusal-spec = tie.close (tie.spec input-refusal-requires first-refusal-requires returns default-number-requires returns-2)
+default-refusal-spec = tie.close (tie.spec input-refusal-requires first-refusal-requires returns (λ c κs. search needs) default-number-requires returns-2)

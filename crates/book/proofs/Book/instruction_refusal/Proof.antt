@@ -37,16 +37,16 @@ used c = sound-parts (c .before .before .before .args .self) (late c .leaves) .t
 
 instruction-number-requires : tie.Need-instruction-number-requires
 instruction-number-requires c κs =
-    let past = c .before .before in
+    let past = c .before .before .before in
     let b = past .before .before .before .args .self in
     (used past, of-T (inRange (contractᶜ (b .contract))) (sound-used b (late past .leaves) (late past .contracted) .operands))
 
 returns-2 : tie.Need-returns-2
 returns-2 c =
-    let past = c .before .before .before in
+    let past = c .before .before .before .before in
     let at = past .before .before .before in
-    rw (c .instruction-number .ensures)
+    rw (c .instruction-number .ensures, c .before .before .span .ensures)
     (sym (late past .number ∙ instruction-later (at .args .self) (at .args .meter .now) (late past .contracted) (at .args .i)))
 
 pub instruction-refusal-spec : {M : Type 1} → statement M
-instruction-refusal-spec = tie.close (tie.spec input-refusal-requires first-refusal-requires returns instruction-number-requires returns-2)
+instruction-refusal-spec = tie.close (tie.spec input-refusal-requires first-refusal-requires returns (λ c κs. search needs) instruction-number-requires returns-2)

@@ -34,8 +34,8 @@ returns-2 : tie.Need-returns-2
 returns-2 c =
     let past = c .before .before in
     let at = past .before .before .before in
-    rw (c .reading-number .ensures)
+    rw (c .reading-number .ensures, c .before .span .ensures)
     (sym (late past .number ∙ reading-later (at .args .self) (at .args .meter .now) (late past .contracted) (at .args .r)))
 
 pub reading-refusal-spec : {M : Type 1} → statement M
-reading-refusal-spec = tie.close (tie.spec input-refusal-requires first-refusal-requires returns reading-number-requires returns-2)
+reading-refusal-spec = tie.close (tie.spec input-refusal-requires first-refusal-requires returns (λ c κs. search needs) reading-number-requires returns-2)

@@ -32,16 +32,16 @@ returns-2 c =
 
 agreed-sound-requires : tie.Need-agreed-sound-requires
 agreed-sound-requires c κs =
-    let past = c .before .before .before .before .before .before in
+    let past = c .before .before .before .before .before .before .before in
     let t = tables-of (past .before .before .args .self) (to-T (shaped past)) in
     (t .windows, t .instructions, t .defaults)
 
 returns-3 : tie.Need-returns-3
 unfolding sound
 returns-3 c =
-    let other = c .before .before .before .before .before in
+    let other = c .before .before .before .before .before .before in
     let past = other .before .before in
-    rw (c .agreed-sound .ensures, shaped past, not-false (past .before .before .args .self .agreed) (other .if2 .left))
+    rw (c .agreed-sound .ensures, c .before .before .before .before .span .ensures, shaped past, not-false (past .before .before .args .self .agreed) (other .if2 .left))
 
 pub sound-spec : {M : Type 1} → statement M
 sound-spec =
@@ -51,5 +51,6 @@ sound-spec =
     returns
     empty-sound-requires
     returns-2
+    (λ c κs. search needs)
     agreed-sound-requires
     returns-3)

@@ -34,14 +34,14 @@ used : (c : tie.Else1) → c .before .before .before .args .self .nwindows ≤ 1
 used c = sound-parts (c .before .before .before .args .self) (late c .leaves) .tables .windows
 
 window-number-requires : tie.Need-window-number-requires
-window-number-requires c κs = used (c .before .before)
+window-number-requires c κs = used (c .before .before .before)
 
 returns-2 : tie.Need-returns-2
 returns-2 c =
-    let past = c .before .before .before in
+    let past = c .before .before .before .before in
     let at = past .before .before .before in
-    rw (c .window-number .ensures)
+    rw (c .window-number .ensures, c .before .before .span .ensures)
     (sym (late past .number ∙ window-later (at .args .self) (at .args .meter .now) (late past .contracted) (at .args .w)))
 
 pub window-refusal-spec : {M : Type 1} → statement M
-window-refusal-spec = tie.close (tie.spec input-refusal-requires first-refusal-requires returns window-number-requires returns-2)
+window-refusal-spec = tie.close (tie.spec input-refusal-requires first-refusal-requires returns (λ c κs. search needs) window-number-requires returns-2)

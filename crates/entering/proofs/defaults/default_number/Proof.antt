@@ -4,9 +4,6 @@ use Rattle.entering.specs.Numbers.{defaultNumber}
 use Rattle.entering.proofs.defaults.default_number.Statement.{statement}
 use Rattle.entering.proofs.defaults.default_number.Tie as tie
 
-span-of-requires : tie.Need-span-of-requires
-span-of-requires c κs = search needs
-
 in-window-requires : tie.Need-in-window-requires
 in-window-requires c κs = search needs
 
@@ -26,13 +23,12 @@ returns : tie.Need-returns
 unfolding defaultNumber
 returns c =
     let inside = c .before .before .before .before in
-    rw (c .pick3 .ensures, c .before .pick2 .ensures, c .before .before .pick .ensures, inside .in-window .ensures, inside .before .before .span-of .ensures)
+    rw (c .pick3 .ensures, c .before .pick2 .ensures, c .before .before .pick .ensures, inside .in-window .ensures)
 
 pub default-number-spec : {M : Type 1} → statement M
 default-number-spec =
     tie.close
     (tie.spec
-    span-of-requires
     in-window-requires
     cast-beyond
     pick-requires

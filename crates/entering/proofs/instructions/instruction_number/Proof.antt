@@ -8,9 +8,6 @@ use Rattle.entering.specs.Numbers.{instructionNumber}
 use Rattle.entering.proofs.instructions.instruction_number.Statement.{statement}
 use Rattle.entering.proofs.instructions.instruction_number.Tie as tie
 
-span-of-requires : tie.Need-span-of-requires
-span-of-requires c κs = search needs
-
 down-minutes-requires : tie.Need-down-minutes-requires
 down-minutes-requires c κs = search needs
 
@@ -61,14 +58,13 @@ returns : tie.Need-returns
 unfolding instructionNumber
 returns c =
     let last = c .before .before .before .before .before .before .before .before .before in
-    let at = last .before .before .before in
-    rw (c .pick4 .ensures, c .before .pick3 .ensures, c .before .before .pick2 .ensures, c .before .before .before .pick .ensures, last .ready .ensures, last .before .down-minutes .ensures, last .before .before .span-of .ensures, length-take-le (at .args .n) (at .args .instructions) (rw (table at) (at .pre .0)))
+    let at = last .before .before in
+    rw (c .pick4 .ensures, c .before .pick3 .ensures, c .before .before .pick2 .ensures, c .before .before .before .pick .ensures, last .ready .ensures, last .before .down-minutes .ensures, length-take-le (at .args .n) (at .args .instructions) (rw (table at) (at .pre .0)))
 
 pub instruction-number-spec : {M : Type 1} → statement M
 instruction-number-spec =
     tie.close
     (tie.spec
-    span-of-requires
     down-minutes-requires
     ready-requires
     cast-beyond

@@ -4,9 +4,6 @@ use Rattle.entering.specs.Numbers.{readingNumber}
 use Rattle.entering.proofs.readings.reading_number.Statement.{statement}
 use Rattle.entering.proofs.readings.reading_number.Tie as tie
 
-span-of-requires : tie.Need-span-of-requires
-span-of-requires c κs = search needs
-
 cast-at : tie.Need-cast-at
 cast-at c = search needs
 
@@ -25,13 +22,12 @@ pick-requires-2 c κs = search needs
 returns : tie.Need-returns
 unfolding readingNumber
 returns c =
-    rw (c .pick2 .ensures, c .before .pick .ensures, c .before .before .kw-from-to .ensures, c .before .before .before .cell .ensures, c .before .before .before .before .before .before .span-of .ensures)
+    rw (c .pick2 .ensures, c .before .pick .ensures, c .before .before .kw-from-to .ensures, c .before .before .before .cell .ensures)
 
 pub reading-number-spec : {M : Type 1} → statement M
 reading-number-spec =
     tie.close
     (tie.spec
-    span-of-requires
     cast-at
     cell-requires
     kw-from-to-requires

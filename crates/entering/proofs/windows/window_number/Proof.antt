@@ -8,9 +8,6 @@ use Rattle.entering.specs.Numbers.{windowNumber}
 use Rattle.entering.proofs.windows.window_number.Statement.{statement}
 use Rattle.entering.proofs.windows.window_number.Tie as tie
 
-span-of-requires : tie.Need-span-of-requires
-span-of-requires c κs = search needs
-
 last-end-requires : tie.Need-last-end-requires
 last-end-requires c κs = search needs
 
@@ -37,14 +34,13 @@ returns : tie.Need-returns
 unfolding windowNumber
 returns c =
     let last = c .before .before .before .before .before .before .before .before .before in
-    let at = last .before .before in
-    rw (c .pick4 .ensures, c .before .pick3 .ensures, c .before .before .pick2 .ensures, c .before .before .before .pick .ensures, last .last-end .ensures, last .before .span-of .ensures, length-take-le (at .args .n) (at .args .windows) (rw (table at) (at .pre)))
+    let at = last .before in
+    rw (c .pick4 .ensures, c .before .pick3 .ensures, c .before .before .pick2 .ensures, c .before .before .before .pick .ensures, last .last-end .ensures, length-take-le (at .args .n) (at .args .windows) (rw (table at) (at .pre)))
 
 pub window-number-spec : {M : Type 1} → statement M
 window-number-spec =
     tie.close
     (tie.spec
-    span-of-requires
     last-end-requires
     cast-beyond
     pick-requires

@@ -8,7 +8,7 @@ use lib.ListN.{replicate, length-replicate}
 use borrow.Author.Needs.{needs}
 use Rattle.energy.specs.Number.{Within}
 use Rattle.commands.specs.Input.{kwOf, downMinutes}
-use Rattle.rules.specs.Ledger.{spanOf}
+use Rattle.book.specs.Book.{bookCells}
 use Rattle.commands.specs.declared.contract.Contract.{Contract}
 use Rattle.rules.specs.declared.statement.Statement.{Statement}
 use Rattle.rules.specs.declared.answer.Answer.the-variants.{Taken}
@@ -29,7 +29,7 @@ module _ (s : tie.Start) where
   shape = record { windows = search (length-mapped, needs); instructions = search (length-mapped, needs); defaults = search (length-mapped, needs) }
 
   meter : List ℤ
-  meter = replicate (spanOf (s .args .b .contract)) (pos 0)
+  meter = replicate (bookCells (s .args .b)) (pos 0)
 
   grounds : Grounds (s .args .b) (s .args .t3) meter
   unfolding meter
@@ -38,7 +38,7 @@ module _ (s : tie.Start) where
         sound = sound-book (s .args .b) (s .pre .0) (s .pre .1);
         agreed = s .pre .1;
         shape = shape;
-        room = omega (arith, length-replicate (spanOf (s .args .b .contract)) (pos 0));
+        room = omega (arith, length-replicate (bookCells (s .args .b)) (pos 0));
         timed = s .pre .3;
       }
 

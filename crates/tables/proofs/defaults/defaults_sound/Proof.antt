@@ -22,25 +22,23 @@ use Rattle.tables.proofs.defaults.defaults_sound.Statement.{statement}
 use Rattle.tables.proofs.defaults.defaults_sound.Tie as tie
 
 abbrev Inv-loop : tie.InvT-loop
-Inv-loop w n defaults starts ends span i₀ i =
-    (i ≤ n) × ((k : Contract) (ws : List Window) → Columns k ws w starts ends span → all (defaultSound k (take w ws)) (take n defaults) ≡ all (defaultSound k (take w ws)) (slice i n defaults))
+Inv-loop span w n defaults starts ends i₀ i =
+    (i ≤ n) × ((k : Contract) (ws : List Window) → Columns ws w starts ends → all (defaultSound k span (take w ws)) (take n defaults) ≡ all (defaultSound k span (take w ws)) (slice i n defaults))
 
 abbrev μ-loop : tie.MeasureT-loop
-μ-loop w n defaults starts ends span i₀ i = n - i
+μ-loop span w n defaults starts ends i₀ i = n - i
 
 -- the windows in use are of the table
 windowed : (c : tie.Start Inv-loop μ-loop) → c .args .w ≤ length (c .args .windows)
 windowed c = let cells : length (c .args .windows) ≡ 128 = search (length-mapped, needs) in omega (arith, c .pre .1)
 
 -- the defaults in use are of the table
-room : (c : tie.Start Inv-loop μ-loop) → c .args .n ≤ length (c .args .t4)
-room c = let cells : length (c .args .t4) ≡ 128 = search (length-mapped, needs) in omega (arith, c .pre .0)
+room : (c : tie.Start Inv-loop μ-loop) → c .args .n ≤ length (c .args .t5)
+room c = let cells : length (c .args .t5) ≡ 128 = search (length-mapped, needs) in omega (arith, c .pre .0)
 
 -- the columns are the table's
-columns : (c : tie.After-span-of Inv-loop μ-loop)
-    → Columns (c .before .before .before .args .k) (c .before .before .before .args .windows) (c .before .before .before .args .w) (c .before .before .starts-of .result) (c .before .ends-of .result) (c .span-of .result)
-columns c =
-    record { first = c .before .before .starts-of .ensures; last = c .before .ends-of .ensures; minutes = c .span-of .ensures; used = windowed (c .before .before .before) }
+columns : (c : tie.After-ends-of Inv-loop μ-loop) → Columns (c .before .before .args .windows) (c .before .before .args .w) (c .before .starts-of .result) (c .ends-of .result)
+columns c = record { first = c .before .starts-of .ensures; last = c .ends-of .ensures; used = windowed (c .before .before) }
 
 loop-holds : tie.Need-loop-holds Inv-loop μ-loop
 loop-holds c = (search needs, λ k ws t. refl)
@@ -48,46 +46,46 @@ loop-holds c = (search needs, λ k ws t. refl)
 in-columns-requires : tie.Need-in-columns-requires Inv-loop μ-loop
 in-columns-requires c κs =
     let at = c .before .before .before .before .before .before .before in
-    let b = at .before .before .before in
-    (b .pre .1, rw (columns at .first, columns at .last) (ordered (b .args .windows) (b .args .w) (windowed b) (b .args .k) (to-T (b .pre .2))))
+    let b = at .before .before in
+    (b .pre .1, rw (columns at .first, columns at .last) (ordered (b .args .windows) (b .args .w) (windowed b) (b .args .k) (b .args .span) (to-T (b .pre .2))))
 
 -- what the turn tests is the default's test
 fits : (c : tie.After-in-columns Inv-loop μ-loop) (k : Contract) (ws : List Window)
-    → Columns k ws (c .before .before .before .before .before .before .before .before .before .before .before .args .w) (c .before .before .before .before .before .before .before .before .before .before .starts-of .result) (c .before .before .before .before .before .before .before .before .before .ends-of .result) (c .before .before .before .before .before .before .before .before .span-of .result)
-    → (eqb (c .before .before .before .before .input-refusal .result) 0 && ltb (getD (c .before .before .before .before .before .before .before .before .before .before .before .args .t4) (c .before .before .before .before .before .before .before .loop .i) noDefault .minute .0) (c .before .before .before .before .before .before .before .before .span-of .result) && c .in-columns .result)
-    ≡ defaultSound k (take (c .before .before .before .before .before .before .before .before .before .before .before .args .w) ws) (getD (take (c .before .before .before .before .before .before .before .before .before .before .before .args .n) (c .before .before .before .before .before .before .before .before .before .before .before .args .t4)) (c .before .before .before .before .before .before .before .loop .i) noDefault)
+    → Columns ws (c .before .before .before .before .before .before .before .before .before .before .args .w) (c .before .before .before .before .before .before .before .before .before .starts-of .result) (c .before .before .before .before .before .before .before .before .ends-of .result)
+    → (eqb (c .before .before .before .before .input-refusal .result) 0 && ltb (getD (c .before .before .before .before .before .before .before .before .before .before .args .t5) (c .before .before .before .before .before .before .before .loop .i) noDefault .minute .0) (c .before .before .before .before .before .before .before .before .before .before .args .span) && c .in-columns .result)
+    ≡ defaultSound k (c .before .before .before .before .before .before .before .before .before .before .args .span) (take (c .before .before .before .before .before .before .before .before .before .before .args .w) ws) (getD (take (c .before .before .before .before .before .before .before .before .before .before .args .n) (c .before .before .before .before .before .before .before .before .before .before .args .t5)) (c .before .before .before .before .before .before .before .loop .i) noDefault)
 fits c k ws t =
     let at = c .before .before .before .before .before .before .before in
-    let b = at .before .before .before .before in
-    let d = getD (b .args .t4) (at .loop .i) noDefault in
-    rw (c .before .before .before .before .input-refusal .ensures, getD-take (b .args .n) (b .args .t4) (at .loop .i) noDefault (omega arith)) (default-fits d (c .in-columns .result) t (c .in-columns .ensures))
+    let b = at .before .before .before in
+    let d = getD (b .args .t5) (at .loop .i) noDefault in
+    rw (c .before .before .before .before .input-refusal .ensures, getD-take (b .args .n) (b .args .t5) (at .loop .i) noDefault (omega arith)) (default-fits k (b .args .span) d (c .in-columns .result) t (c .in-columns .ensures))
 
 returns : tie.Need-returns Inv-loop μ-loop
 returns c =
     let at = c .before .before .before .before .before .before .before .before in
-    let b = at .before .before .before .before in
+    let b = at .before .before .before in
     let k = b .args .k in
     let ws = b .args .windows in
-    all-fails (defaultSound k (take (b .args .w) ws)) (take (b .args .n) (b .args .t4)) 0 (at .loop .i) noDefault (at .loop .inv .1 k ws (columns (at .before)))
-    (rw (length-take-le (b .args .n) (b .args .t4) (room b)) (omega arith)) (sym (fits (c .before) k ws (columns (at .before))) ∙ not-true _ (c .if1 .taken))
+    all-fails (defaultSound k (b .args .span) (take (b .args .w) ws)) (take (b .args .n) (b .args .t5)) 0 (at .loop .i) noDefault (at .loop .inv .1 k ws (columns (at .before)))
+    (rw (length-take-le (b .args .n) (b .args .t5) (room b)) (omega arith)) (sym (fits (c .before) k ws (columns (at .before))) ∙ not-true _ (c .if1 .taken))
 
 loop-again : tie.Need-loop-again Inv-loop μ-loop
 loop-again c =
     let at = c .before .before .before .before .before .before .before .before in
-    let b = at .before .before .before .before in (
+    let b = at .before .before .before in (
       search needs,
-      λ k ws t. all-on (defaultSound k (take (b .args .w) ws)) (take (b .args .n) (b .args .t4)) 0 (at .loop .i) noDefault (at .loop .inv .1 k ws t)
-          (rw (length-take-le (b .args .n) (b .args .t4) (room b)) (omega arith)) (sym (fits (c .before) k ws t) ∙ not-false _ (c .if1 .left)),
+      λ k ws t. all-on (defaultSound k (b .args .span) (take (b .args .w) ws)) (take (b .args .n) (b .args .t5)) 0 (at .loop .i) noDefault (at .loop .inv .1 k ws t)
+          (rw (length-take-le (b .args .n) (b .args .t5) (room b)) (omega arith)) (sym (fits (c .before) k ws t) ∙ not-false _ (c .if1 .left)),
     )
 
 returns-2 : tie.Need-returns-2 Inv-loop μ-loop
 returns-2 c =
     let at = c .before in
-    let b = at .before .before .before .before in
+    let b = at .before .before .before in
     let k = b .args .k in
     let ws = b .args .windows in
-    all-passes (defaultSound k (take (b .args .w) ws)) (take (b .args .n) (b .args .t4)) 0 (at .loop .i) noDefault (at .loop .inv .1 k ws (columns (at .before)))
-    (rw (length-take-le (b .args .n) (b .args .t4) (room b)) (omega arith))
+    all-passes (defaultSound k (b .args .span) (take (b .args .w) ws)) (take (b .args .n) (b .args .t5)) 0 (at .loop .i) noDefault (at .loop .inv .1 k ws (columns (at .before)))
+    (rw (length-take-le (b .args .n) (b .args .t5) (room b)) (omega arith))
 
 pub defaults-sound-spec : {M : Type 1} → statement M
 defaults-sound-spec =
@@ -95,7 +93,6 @@ defaults-sound-spec =
     (tie.spec
     Inv-loop
     μ-loop
-    (λ c κs. search needs)
     (λ c κs. search needs)
     (λ c κs. search needs)
     loop-holds

@@ -16,7 +16,7 @@ room c = let cells : length (c .args .windows) ≡ 128 = search (length-mapped, 
 in-columns-requires : tie.Need-in-columns-requires
 in-columns-requires c κs =
     let at = c .before .before .before .before in
-    (at .pre .0, rw (c .before .before .before .starts-of .ensures, c .before .before .ends-of .ensures) (ordered (at .args .windows) (at .args .n) (room at) (at .args .k) (to-T (at .pre .1))))
+    (at .pre .0, rw (c .before .before .before .starts-of .ensures, c .before .before .ends-of .ensures) (ordered (at .args .windows) (at .args .n) (room at) (at .args .k) (at .args .span) (to-T (at .pre .1))))
 
 returns : tie.Need-returns
 returns c =

@@ -8,14 +8,13 @@ use Rattle.tables.proofs.instructions.instruction_fits.Tie as tie
 returns : tie.Need-returns
 unfolding instructionsSound
 returns c =
-    let at = c .before .before .before .before .before .before .before in
-    rw (c .before .before .before .before .before .input-refusal .ensures, instruction-input (at .args .i), c .before .before .before .before .before .before .span-of .ensures, at .pre, and-true)
+    let at = c .before .before .before .before .before .before in
+    rw (c .before .before .before .before .before .input-refusal .ensures, instruction-input (at .args .i), at .pre, and-true)
 
 pub instruction-fits-spec : {M : Type 1} → statement M
 instruction-fits-spec =
     tie.close
     (tie.spec
-    (λ c κs. search needs)
     (λ c κs. search needs)
     (λ c. search needs)
     (λ c. search needs)

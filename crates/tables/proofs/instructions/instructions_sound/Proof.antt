@@ -12,14 +12,14 @@ use Rattle.tables.proofs.instructions.instructions_sound.Statement.{sta
 use Rattle.tables.proofs.instructions.instructions_sound.Tie as tie
 
 abbrev Inv-loop : tie.InvT-loop
-Inv-loop k n instructions down ready₀ x₀ ready x = (x ≤ n) × (instructionsSound k 0 (take n instructions) ≡ instructionsSound k ready (slice x n instructions))
+Inv-loop k span n instructions down ready₀ x₀ ready x = (x ≤ n) × (instructionsSound k span 0 (take n instructions) ≡ instructionsSound k span ready (slice x n instructions))
 
 abbrev μ-loop : tie.MeasureT-loop
-μ-loop k n instructions down ready₀ x₀ ready x = n - x
+μ-loop k span n instructions down ready₀ x₀ ready x = n - x
 
 -- the instructions in use are of the table
-room : (c : tie.Start Inv-loop μ-loop) → c .args .n ≤ length (c .args .t2)
-room c = let cells : length (c .args .t2) ≡ 64 = search (length-mapped, needs) in omega (arith, c .pre .0)
+room : (c : tie.Start Inv-loop μ-loop) → c .args .n ≤ length (c .args .t3)
+room c = let cells : length (c .args .t3) ≡ 64 = search (length-mapped, needs) in omega (arith, c .pre .0)
 
 down-minutes-requires : tie.Need-down-minutes-requires Inv-loop μ-loop
 down-minutes-requires c κs = c .pre .1
@@ -34,7 +34,7 @@ returns : tie.Need-returns Inv-loop μ-loop
 returns c =
     let at = c .before .before .before .before in
     let b = at .before .before .args in
-    instructions-fail (b .k) (at .loop .ready) (b .t2) (at .loop .x) (b .n) (omega arith) (room (at .before .before)) (at .loop .inv .1)
+    instructions-fail (b .k) (b .span) (at .loop .ready) (b .t3) (at .loop .x) (b .n) (omega arith) (room (at .before .before)) (at .loop .inv .1)
     (sym (c .before .instruction-fits .ensures) ∙ not-true _ (c .if1 .taken))
 
 loop-again : tie.Need-loop-again Inv-loop μ-loop
@@ -43,7 +43,7 @@ loop-again c =
     let b = at .before .before .args in (
       search needs,
       rw (at .before .down-minutes .ensures)
-          (instructions-on (b .k) (at .loop .ready) (b .t2) (at .loop .x) (b .n) (omega arith) (room (at .before .before)) (at .loop .inv .1)
+          (instructions-on (b .k) (b .span) (at .loop .ready) (b .t3) (at .loop .x) (b .n) (omega arith) (room (at .before .before)) (at .loop .inv .1)
           (sym (c .before .before .before .instruction-fits .ensures) ∙ not-false _ (c .before .before .if1 .left))),
     )
 
@@ -53,7 +53,7 @@ returns-2 c =
     let at = c .before in
     let b = at .before .before .args in
     let end : at .loop .x ≡ b .n = omega arith in
-    sym (at .loop .inv .1 ∙ rw (end, slice-empty (b .n) (b .t2)))
+    sym (at .loop .inv .1 ∙ rw (end, slice-empty (b .n) (b .t3)))
 
 pub instructions-sound-spec : {M : Type 1} → statement M
 instructions-sound-spec =

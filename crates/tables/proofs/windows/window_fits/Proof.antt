@@ -8,8 +8,8 @@ use Rattle.tables.proofs.windows.window_fits.Tie as tie
 returns : tie.Need-returns
 unfolding windowsSound
 returns c =
-    let w = c .before .before .before .before .before .before .before .args .w in
-    rw (c .before .before .before .before .before .input-refusal .ensures, window-input w, c .before .before .before .before .before .before .span-of .ensures, and-true)
+    let w = c .before .before .before .before .before .before .args .w in
+    rw (c .before .before .before .before .before .input-refusal .ensures, window-input w, and-true)
 
 pub window-fits-spec : {M : Type 1} → statement M
-window-fits-spec = tie.close (tie.spec (λ c κs. search needs) (λ c κs. search needs) (λ c. search needs) returns)
+window-fits-spec = tie.close (tie.spec (λ c κs. search needs) (λ c. search needs) returns)

@@ -12,14 +12,14 @@ use Rattle.tables.proofs.windows.windows_sound.Statement.{statement}
 use Rattle.tables.proofs.windows.windows_sound.Tie as tie
 
 abbrev Inv-loop : tie.InvT-loop
-Inv-loop k n windows end₀ i₀ end i = (i ≤ n) × (windowsSound k 0 (take n windows) ≡ windowsSound k (end .0) (slice i n windows))
+Inv-loop k span n windows end₀ i₀ end i = (i ≤ n) × (windowsSound k span 0 (take n windows) ≡ windowsSound k span (end .0) (slice i n windows))
 
 abbrev μ-loop : tie.MeasureT-loop
-μ-loop k n windows end₀ i₀ end i = n - i
+μ-loop k span n windows end₀ i₀ end i = n - i
 
 -- the windows in use are of the table
-room : (c : tie.Start Inv-loop μ-loop) → c .args .n ≤ length (c .args .t2)
-room c = let cells : length (c .args .t2) ≡ 128 = search (length-mapped, needs) in omega (arith, c .pre)
+room : (c : tie.Start Inv-loop μ-loop) → c .args .n ≤ length (c .args .t3)
+room c = let cells : length (c .args .t3) ≡ 128 = search (length-mapped, needs) in omega (arith, c .pre)
 
 loop-holds : tie.Need-loop-holds Inv-loop μ-loop
 loop-holds c = (search needs, refl)
@@ -28,7 +28,7 @@ returns : tie.Need-returns Inv-loop μ-loop
 returns c =
     let at = c .before .before .before .before in
     let b = at .before .args in
-    windows-fail (b .k) (at .loop .end .0) (b .t2) (at .loop .i) (b .n) (omega arith) (room (at .before)) (at .loop .inv .1)
+    windows-fail (b .k) (b .span) (at .loop .end .0) (b .t3) (at .loop .i) (b .n) (omega arith) (room (at .before)) (at .loop .inv .1)
     (sym (c .before .window-fits .ensures) ∙ not-true _ (c .if1 .taken))
 
 loop-again : tie.Need-loop-again Inv-loop μ-loop
@@ -36,7 +36,7 @@ loop-again c =
     let at = c .before .before .before .before .before in
     let b = at .before .args in (
       search needs,
-      windows-on (b .k) (at .loop .end .0) (b .t2) (at .loop .i) (b .n) (omega arith) (room (at .before)) (at .loop .inv .1)
+      windows-on (b .k) (b .span) (at .loop .end .0) (b .t3) (at .loop .i) (b .n) (omega arith) (room (at .before)) (at .loop .inv .1)
           (sym (c .before .before .window-fits .ensures) ∙ not-false _ (c .before .if1 .left)),
     )
 
@@ -45,7 +45,7 @@ unfolding windowsSound
 returns-2 c =
     let at = c .before in
     let end : at .loop .i ≡ at .before .args .n = omega arith in
-    sym (at .loop .inv .1 ∙ rw (end, slice-empty (at .before .args .n) (at .before .args .t2)))
+    sym (at .loop .inv .1 ∙ rw (end, slice-empty (at .before .args .n) (at .before .args .t3)))
 
 pub windows-sound-spec : {M : Type 1} → statement M
 windows-sound-spec =

@@ -41,8 +41,8 @@ put-table-requires-3 c κs =
     let s = c₁ .before .before .before .before in
     (tables s _, room-defaults (s .args .b) (s .args .meter .now) (s .pre .1) (c₁ .put-if .ensures) (c₂ .put-table .ensures) (c₃ .put-table2 .ensures))
 
-span-of-requires : tie.Need-span-of-requires
-span-of-requires c κs = search needs
+span-requires : tie.Need-span-requires
+span-requires c κs = search needs
 
 put-readings-requires : tie.Need-put-readings-requires
 put-readings-requires c κs =
@@ -51,7 +51,7 @@ put-readings-requires c κs =
     let c₂ = c₃ .before .before .before .before in
     let c₁ = c₂ .before .before .before .before in
     let s = c₁ .before .before .before .before in
-    rw (c .before .span-of .ensures) (
+    rw (c .before .span .ensures) (
       s .pre .0 .memory,
       s .pre .0 .month,
       room-readings (s .args .b) (s .args .meter .now) (s .pre .1) (c₁ .put-if .ensures) (c₂ .put-table .ensures) (c₃ .put-table2 .ensures) (c₄ .put-table3 .ensures),
@@ -60,7 +60,7 @@ put-readings-requires c κs =
 put-if-requires-2 : tie.Need-put-if-requires-2
 put-if-requires-2 c κs =
     let c₅ = c .before .before .before in
-    let span = c₅ .before .before .span-of .ensures in
+    let span = c₅ .before .before .span .ensures in
     let c₄ = c₅ .before .before .before .before .before in
     let c₃ = c₄ .before .before .before .before in
     let c₂ = c₃ .before .before .before .before in
@@ -75,7 +75,7 @@ returns : tie.Need-returns
 returns c =
     let c₆ = c .before .before in
     let c₅ = c₆ .before .before .before .before in
-    let span = c₅ .before .before .span-of .ensures in
+    let span = c₅ .before .before .span .ensures in
     let c₄ = c₅ .before .before .before .before .before in
     let c₃ = c₄ .before .before .before .before in
     let c₂ = c₃ .before .before .before .before in
@@ -91,7 +91,7 @@ put-book-spec =
     put-table-requires
     put-table-requires-2
     put-table-requires-3
-    span-of-requires
+    span-requires
     put-readings-requires
     put-if-requires-2
     same-length

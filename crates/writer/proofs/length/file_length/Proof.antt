@@ -4,8 +4,8 @@ use Prim.Native.Nat.{_+_, _≤_}
 use native.Mathlib.Omega.{arith}
 use borrow.Author.Needs.{needs}
 use lib.ListN.{length}
-use Rattle.rules.specs.Ledger.{spanOf}
 use Rattle.commands.specs.declared.entries.Command.the-variants.{Contract as contractᶜ, Close as closeᶜ}
+use Rattle.book.specs.Book.{bookSpan}
 use Rattle.book.specs.Sound.{Shaped}
 use Rattle.rules.proofs.Folds.{length-mapped}
 use Rattle.writer.specs.Laid.{fileBytes, parts, Tabled}
@@ -36,8 +36,8 @@ table-length-requires-2 c κs = tables (c .before .before .before .before) _
 table-length-requires-3 : tie.Need-table-length-requires-3
 table-length-requires-3 c κs = tables (c .before .before .before .before .before) _
 
-span-of-requires : tie.Need-span-of-requires
-span-of-requires c κs = search needs
+span-requires : tie.Need-span-requires
+span-requires c κs = search needs
 
 readings-in-requires : tie.Need-readings-in-requires
 readings-in-requires c κs = search needs
@@ -45,7 +45,7 @@ readings-in-requires c κs = search needs
 as-long-requires-2 : tie.Need-as-long-requires-2
 as-long-requires-2 c κs =
     let s = c .before .before .before .before .before .before .before .before in
-    omega (arith, c .readings-in .ensures, readings-few (s .args .meter .now) (c .before .span-of .result), c .before .span-of .ensures, s .pre .month)
+    omega (arith, c .readings-in .ensures, readings-few (s .args .meter .now) (c .before .span .result), c .before .span .ensures, s .pre .month)
 
 once-requires-2 : tie.Need-once-requires-2
 once-requires-2 c κs = search needs
@@ -71,7 +71,7 @@ whole c =
       t .before .before .table-length .ensures,
       t .before .table-length2 .ensures,
       t .table-length3 .ensures,
-      readings-length (s .args .meter .now) _ (spanOf (b .contract)) (c .before .before .before .before .span-of .ensures) (c .before .before .before .readings-in .ensures) (c .before .before .as-long2 .ensures),
+      readings-length (s .args .meter .now) _ (bookSpan b) (c .before .before .before .before .span .ensures) (c .before .before .before .readings-in .ensures) (c .before .before .as-long2 .ensures),
       once-length (b .closed) closeᶜ (c .before .once2 .ensures) (c .as-long3 .ensures),
       parts-length b (s .args .meter .now),
     )
@@ -109,7 +109,7 @@ file-length-spec =
     table-length-requires
     table-length-requires-2
     table-length-requires-3
-    span-of-requires
+    span-requires
     readings-in-requires
     as-long-requires-2
     once-requires-2
