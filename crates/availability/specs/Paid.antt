@@ -7,6 +7,7 @@ use Prim.Native.Nat.{ℕ, zero, suc, _+_, _-_, _*_, _/_, _≤_, _<_, min}
 use lib.Dec.{eqb, leb, ltb}
 use lib.IntN.{pos}
 use lib.ListN.{length, getD, set, replicate}
+use Rattle.commands.specs.Input.{mostMinute}
 use Rattle.energy.specs.Energy.{periodParts, penceOfParts}
 use Rattle.energy.specs.Lists.{count, between}
 use Rattle.energy.specs.Number.{up}
@@ -16,6 +17,10 @@ use Rattle.commands.specs.declared.entries.Window.{Window}
 use Rattle.rules.specs.declared.statement.Available.{Available}
 use Rattle.rules.specs.Ledger.{noDefault, noWindow}
 use Rattle.availability.specs.declared.paid.Entries.{Entries}
+
+-- the periods of a month of 31 days
+abbrev pub mostPeriods : ℕ
+mostPeriods = 1488
 
 -- ---- defaults
 
@@ -127,4 +132,4 @@ availabilityBy live ws n ds d kw rate = entriesBy live (lostTo live ws ds d) (ea
 pub record Spans (ws : List Window) (n : ℕ) : Type 0 where
   pub few : n ≤ 128
   pub order : (i : ℕ) → i < n → getD ws i noWindow .start .0 < getD ws i noWindow .end .0
-  pub inside : (i : ℕ) → i < n → getD ws i noWindow .end .0 ≤ 44640
+  pub inside : (i : ℕ) → i < n → getD ws i noWindow .end .0 ≤ mostMinute

@@ -6,7 +6,7 @@ ghost use lib.ListN.{length, getD};
 ghost use Rattle.energy.specs.Number.{Within};
 ghost use Rattle.rules.specs.Ledger.{noDefault};
 ghost use Rattle.live.specs.Live.{Dark};
-ghost use Rattle.availability.specs.Paid.{Marks, Placed, Spans, Struck, availabilityBy, entriesBy, entryOf, marked, paidIn, penaltyBy, reachFrom, reachTo};
+ghost use Rattle.availability.specs.Paid.{Marks, Placed, Spans, Struck, availabilityBy, entriesBy, entryOf, marked, mostPeriods, paidIn, penaltyBy, reachFrom, reachTo};
 use commands::entries::Default;
 use commands::entries::Window;
 use energy::money::period_pence;
@@ -103,8 +103,8 @@ fn penalty(struck: &[u8], n: usize) -> u32
 
 // The places from `from` to `to` - 1 that are not lost.
 fn counted(lost: &[u8], from: usize, to: usize) -> u32
-    requires { ⌜ (from ≤ to) × (to ≤ 1488) × (to ≤ length (now lost)) ⌝ }
-    ensures { λ r. ⌜ (r ≡ paidIn (marked (now (lost .entry))) from to) × (r ≤ 1488) ⌝ }
+    requires { ⌜ (from ≤ to) × (to ≤ mostPeriods) × (to ≤ length (now lost)) ⌝ }
+    ensures { λ r. ⌜ (r ≡ paidIn (marked (now (lost .entry))) from to) × (r ≤ mostPeriods) ⌝ }
 {
     let mut count: u32 = 0;
     let mut p = from;
@@ -119,8 +119,8 @@ fn counted(lost: &[u8], from: usize, to: usize) -> u32
 
 // The paid periods of a window at these places: none unless it is live, and all of them where there are no defaults.
 fn paid_periods(lost: &[u8], defaults: usize, from: usize, to: usize, lit: bool) -> u32
-    requires { ⌜ (from ≤ to) × (to ≤ 1488) × (to ≤ length (now lost)) × (defaults ≡ 0 → Dark (now lost)) ⌝ }
-    ensures { λ r. ⌜ (r ≡ cond lit (paidIn (marked (now (lost .entry))) from to) 0) × (r ≤ 1488) ⌝ }
+    requires { ⌜ (from ≤ to) × (to ≤ mostPeriods) × (to ≤ length (now lost)) × (defaults ≡ 0 → Dark (now lost)) ⌝ }
+    ensures { λ r. ⌜ (r ≡ cond lit (paidIn (marked (now (lost .entry))) from to) 0) × (r ≤ mostPeriods) ⌝ }
 {
     if !lit {
         return 0;
@@ -133,7 +133,7 @@ fn paid_periods(lost: &[u8], defaults: usize, from: usize, to: usize, lit: bool)
 
 // The entry of so many paid periods.
 fn entry_of(periods: u32, each: u64) -> Available
-    requires { ⌜ (periods ≤ 1488) × (each ≤ 250000000) ⌝ }
+    requires { ⌜ (periods ≤ mostPeriods) × (each ≤ 250000000) ⌝ }
     ensures { λ r. ⌜ r ≡ entryOf periods each ⌝ }
 {
     let pence = (periods as u64 * each) as i64;

@@ -13,7 +13,7 @@ use borrow.Author.Tests.{leb-false, ltb-false, not-false}
 use Rattle.energy.proofs.Tests.{T-and}
 use Rattle.rules.specs.Ledger.{spanOf, cellsIn}
 use Rattle.rules.specs.Refusal.{conditions, refusal}
-use Rattle.commands.specs.Input.{isReading, from-to, Condition, lowest, orZero}
+use Rattle.commands.specs.Input.{isReading, from-to, Condition, lowest, orZero, mostMinute}
 use Rattle.rules.specs.declared.answer.Answer.the-variants.{Taken, Refused}
 use Rattle.commands.specs.declared.contract.Contract.{Contract}
 use Rattle.commands.specs.declared.entries.Window.{Window}
@@ -103,4 +103,4 @@ module _ (b : Book) (meter : List ℤ) (n : ℕ) where
   pub reading-fits : (r : Reading) → n ≡ refusalOf b meter (readingᶜ r) → n ≡ 0 → (r .minute .0 < length meter) × T (isReading (r .kw .0))
   reading-fits r e z =
       let f = free b meter (readingᶜ r) n e z in
-      (omega (arith, leb-false _ (r .minute .0) (f .inside), span-cells (ledgerIn b meter), ltb-false (length meter) (cellsIn (ledgerIn b meter)) (f .memory)), T-and (from-to 0 44640 (r .minute .0)) (isReading (r .kw .0)) (f .operands) .1)
+      (omega (arith, leb-false _ (r .minute .0) (f .inside), span-cells (ledgerIn b meter), ltb-false (length meter) (cellsIn (ledgerIn b meter)) (f .memory)), T-and (from-to 0 mostMinute (r .minute .0)) (isReading (r .kw .0)) (f .operands) .1)

@@ -14,7 +14,7 @@ use lib.ListN.{length, take, drop, set, getD, replicate, length-set, length-appe
 use lib.Seq.{drop-cons, drop-set-lt}
 use Rattle.energy.specs.Lists.{all, any, pass, isEmpty, concatMap}
 use Rattle.energy.proofs.Tests.{T-and}
-use Rattle.commands.specs.Input.{from-to, isReading}
+use Rattle.commands.specs.Input.{from-to, isReading, mostMinute}
 use Rattle.rules.specs.Ledger.{Ledger, ledgerOf, contractOf, spanOf, spanIn, cellsIn, readingOf}
 use Rattle.rules.specs.Refusal.{refusal, joined, answerOf}
 use Rattle.rules.specs.Reached.{Reached, untouched, agreed, agreedTests}
@@ -191,7 +191,7 @@ module _ {size : ℕ} {t : List Command} {b : Book} {meter : List ℤ} (f : Foll
   put-reading r a =
       let s : b .agreed ≡ true = was-agreed (b .agreed) (b .contract) (a .agreed) in
       let below : r .minute .0 < bookSpan b = leb-false (bookSpan b) (r .minute .0) (subst (λ n. leb n (r .minute .0) ≡ false) (span-is b meter s) (a .inside)) in
-      let ranged : T (isReading (r .kw .0)) = T-and (from-to 0 44640 (r .minute .0)) (isReading (r .kw .0)) (a .operands) .1 in
+      let ranged : T (isReading (r .kw .0)) = T-and (from-to 0 mostMinute (r .minute .0)) (isReading (r .kw .0)) (a .operands) .1 in
       record {
         holds = holds-reading b meter r below (omega (arith, fits s, span-cells b)) ranged;
         agreed = s;

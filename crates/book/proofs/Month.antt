@@ -5,6 +5,7 @@ use mathlib.Core.List.{List, [], _∷_}
 use Prim.Native.Nat.{ℕ, _≤_}
 use native.Mathlib.Omega.{arith}
 use lib.IntN.{ℤ}
+use Rattle.commands.specs.Input.{mostMinute}
 use Rattle.rules.specs.Ledger.{spanOf, spanIn, cellsIn}
 use Rattle.rules.proofs.Span.{cells-none, span-cells as span-below}
 use Rattle.commands.proofs.Terms.{Terms, terms}
@@ -57,9 +58,9 @@ cells-sound b meter e = go (b .agreed) refl
     go true s = cells-is b meter s
     go false s = none b meter s ∙ sym (cells-empty b e s)
 
-pub cells-most : (b : Book) → sound b ≡ true → bookCells b ≤ 44640
+pub cells-most : (b : Book) → sound b ≡ true → bookCells b ≤ mostMinute
 cells-most b e = go (b .agreed) refl
   where
-    go : (x : Bool) → b .agreed ≡ x → bookCells b ≤ 44640
+    go : (x : Bool) → b .agreed ≡ x → bookCells b ≤ mostMinute
     go true s = let p = sound-used b e s in let t : Terms (b .contract) = terms (b .contract) (p .operands) (p .ramps) in unfold bookCells in omega (arith, t .ranges .days)
     go false s = omega (arith, cells-empty b e s)

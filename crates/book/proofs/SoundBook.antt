@@ -16,7 +16,7 @@ use Rattle.energy.proofs.Integers.{leZ-true}
 use Rattle.energy.proofs.Tests.{on-and}
 use Rattle.rules.specs.Ledger.{expiry, endOf, within}
 use Rattle.rules.specs.Reached.{windowsSound, instructionsSound, defaultSound, agreedTests}
-use Rattle.commands.specs.Input.{kwOf, upMinutes, downMinutes, from-to, from-toℤ, inRange, rampTooLong, badWindow}
+use Rattle.commands.specs.Input.{kwOf, upMinutes, downMinutes, from-to, from-toℤ, inRange, rampTooLong, badWindow, mostMinute}
 use Rattle.commands.specs.declared.contract.Contract.{Contract}
 use Rattle.commands.specs.declared.entries.Default.{Default}
 use Rattle.commands.specs.declared.entries.Instruction.{Instruction}
@@ -143,8 +143,8 @@ module _ (k : Contract) (span : ℕ) where
       let (a, (b, (c, (d, (r, q))))) =
       ands-hold (inRange (instructionᶜ i)) (leb (endOf k i) span ∷ leb (expiry k i) (i .cease .0) ∷ leb e (i .issue .0) ∷ instructionsSound k span (endOf k i + k .recovery .0) is ∷ []) h in
       let rest = instructions-sound (endOf k i + k .recovery .0) is r in
-      let (x, y) = on-and (from-to 3 44640 (i .issue .0)) (from-to 0 44640 (i .cease .0)) a in
-      let one : SoundCall i = record { three = in-range 3 44640 (i .issue .0) x .0; inside = leb-true (endOf k i) span b; steady = leb-true (expiry k i) (i .cease .0) c } in
+      let (x, y) = on-and (from-to 3 mostMinute (i .issue .0)) (from-to 0 mostMinute (i .cease .0)) a in
+      let one : SoundCall i = record { three = in-range 3 mostMinute (i .issue .0) x .0; inside = leb-true (endOf k i) span b; steady = leb-true (expiry k i) (i .cease .0) c } in
       record { call = call one rest; first = λ l. leb-true e (i .issue .0) d; order = order rest }
     where
       call : SoundCall i → SoundCalls (endOf k i + k .recovery .0) is → (j : ℕ) → j < suc (length is) → SoundCall (getD (i ∷ is) j noInstruction)
@@ -163,14 +163,14 @@ module _ (k : Contract) (span : ℕ) where
   default-sound : (ws : List Window) (x : Default) → defaultSound k span ws x ≡ true → SoundDefault x
   default-sound ws x e =
       let (a, (b, (c, q))) = ands-hold (inRange (defaultᶜ x)) (ltb (x .minute .0) span ∷ any (λ w. within w (x .minute .0)) ws ∷ []) e in
-      let (r, (s, (t, p))) = ands-hold (from-to 0 44640 (x .minute .0)) (from-to 1 4 (x .kind) ∷ from-to 1 3 (x .reach) ∷ []) a in
+      let (r, (s, (t, p))) = ands-hold (from-to 0 mostMinute (x .minute .0)) (from-to 1 4 (x .kind) ∷ from-to 1 3 (x .reach) ∷ []) a in
       record { inside = ltb-true (x .minute .0) span b; reach = in-range 1 3 (x .reach) t }
 
 -- ---- the book
 pub record SoundBook (b : Book) : Type 0 where
   pub counts : (b .nwindows ≤ 128) × (b .ninstructions ≤ 64) × (b .ndefaults ≤ 128)
   pub contract : SoundContract (b .contract)
-  pub month : bookCells b ≤ 44640
+  pub month : bookCells b ≤ mostMinute
   pub windows : SoundWindows (b .contract) (bookSpan b) 0 (take (b .nwindows) (b .windows))
   pub calls : SoundCalls (b .contract) (bookSpan b) 0 (take (b .ninstructions) (b .instructions))
   pub defaults : (j : ℕ) → j < length (take (b .ndefaults) (b .defaults)) → SoundDefault (b .contract) (bookSpan b) (getD (take (b .ndefaults) (b .defaults)) j noDefault)

@@ -42,6 +42,10 @@ from-toℤ a b n = leZ a n && leZ n b
 abbrev pub isReading : ℤ → Bool
 isReading z = from-toℤ (negsuc 499999) (pos 500000) z
 
+-- the greatest minute that an operand gives: the end of a month of 31 days
+abbrev pub mostMinute : ℕ
+mostMinute = 44640
+
 -- 3: every operand is in its range or one of its values
 abbrev pub inRange : Command → Bool
 inRange c =
@@ -54,10 +58,10 @@ inRange c =
     && from-to 0 1000000 (k .availability)
     && from-to 0 1000000 (k .utilisation)
     && from-to 0 1000000 (k .optional))
-    (onWindow (λ w. from-to 0 44640 (w .start .0) && from-to 0 44640 (w .end .0) && from-to 0 1 (w .verdict))
-    (onInstruction (λ i. from-to 3 44640 (i .issue .0) && from-to 0 44640 (i .cease .0))
-    (onDefault (λ d. from-to 0 44640 (d .minute .0) && from-to 1 4 (d .kind) && from-to 1 3 (d .reach))
-    (onReading (λ r. from-to 0 44640 (r .minute .0) && isReading (r .kw .0))
+    (onWindow (λ w. from-to 0 mostMinute (w .start .0) && from-to 0 mostMinute (w .end .0) && from-to 0 1 (w .verdict))
+    (onInstruction (λ i. from-to 3 mostMinute (i .issue .0) && from-to 0 mostMinute (i .cease .0))
+    (onDefault (λ d. from-to 0 mostMinute (d .minute .0) && from-to 1 4 (d .kind) && from-to 1 3 (d .reach))
+    (onReading (λ r. from-to 0 mostMinute (r .minute .0) && isReading (r .kw .0))
     (always true)))))
     c
 

@@ -9,6 +9,7 @@ use lib.IntN.{ℤ}
 use lib.Dec.{T, eqb}
 use lib.ListN.{length, take, drop, length-append, length-drop, take-append-drop}
 use lib.Seq.{length-take-le, take-take, drop-append-le, drop-drop}
+use Rattle.rules.specs.FileLength.{mostBytes}
 use Rattle.rules.specs.declared.answer.Answer.the-variants.{Taken}
 use Rattle.book.specs.Book.{emptyBook}
 use Rattle.book.specs.declared.Book.{Book}
@@ -53,7 +54,7 @@ unfolding load loadFrom
 begins before b e = record { file = []; ended = ap (λ x. endedAt 0 Taken x before) (sym e); goesOn = tt; within = omega arith; rest = refl }
 
 -- how far entering can have come
-pub far : {before : List ℤ} {e : Ended} {meter : List ℤ} {kept : List ℕ} → SoFar before e meter kept → e .offset ≤ 1761 + 7 * length before
+pub far : {before : List ℤ} {e : Ended} {meter : List ℤ} {kept : List ℕ} → SoFar before e meter kept → e .offset ≤ mostBytes (length before)
 far {before} s = omega (arith, stops-within (s .file) before, ap (λ x. x .loaded .at) (s .ended))
 
 -- new bytes behind those that were kept: entering what is held then is entering all bytes, from the offset on
@@ -133,7 +134,7 @@ module _ {before : List ℤ} {e : Ended} {buffer : List ℕ} {have : ℕ} {l : L
         }
 
     -- a full buffer moves the offset on, and not past the room for commands
-    pub forward : 32 ≤ have → (e .offset < e .offset + l .at) × (e .offset + l .at ≤ 1761 + 7 * length before)
+    pub forward : 32 ≤ have → (e .offset < e .offset + l .at) × (e .offset + l .at ≤ mostBytes (length before))
     forward h =
         let near = unread (t .all) emptyBook before (subst⁻¹ (λ x. T (unfinished (x .loaded .answer))) (t .whole) going) in
         let there = ap (λ x. x .loaded .at) (t .whole) in

@@ -5,6 +5,7 @@ use mathlib.Core.List.{List}
 use Prim.Native.Nat.{ℕ, zero, suc, _+_, _/_, _≤_, _<_}
 use lib.Dec.{eqb, leb, ltb}
 use lib.ListN.{length, getD}
+use Rattle.commands.specs.Input.{mostMinute}
 use Rattle.commands.specs.declared.entries.Window.{Window}
 use Rattle.rules.specs.Ledger.{noWindow}
 use Rattle.terms.specs.Terms.{ceaseOf}
@@ -14,7 +15,7 @@ pub record Cleared (times : List ℕ) (n fall reach : ℕ) : Type 0 where
   pub few : n ≤ 64
   pub table : 128 ≤ length times
   pub near : reach ≤ 1440
-  pub small : (j : ℕ) → j < n → ceaseOf times j + fall ≤ 44640
+  pub small : (j : ℕ) → j < n → ceaseOf times j + fall ≤ mostMinute
 
 -- instruction j excludes a window that starts at start: reach is recovery and response together
 abbrev pub excludesAt : List ℕ → ℕ → ℕ → ℕ → ℕ → Bool

@@ -8,7 +8,7 @@ use lib.Dec.{T, eqb, ltb}
 use lib.ListN.{length, getD}
 use borrow.Author.Tests.{ltb-true, not-true}
 use Rattle.energy.proofs.Tests.{to-T, on-and}
-use Rattle.commands.specs.Input.{from-to, isReading, inRange, rampTooLong, badWindow, inputRefusal}
+use Rattle.commands.specs.Input.{from-to, isReading, inRange, rampTooLong, badWindow, inputRefusal, mostMinute}
 use Rattle.commands.specs.declared.entries.Reading.{Reading}
 use Rattle.commands.specs.declared.entries.Command.the-variants.{Reading as readingᶜ}
 use Rattle.commands.proofs.Input.{input-none}
@@ -34,4 +34,4 @@ pub taken-fits : (span : ℕ) (meter : List ℤ) (r : Reading) → takesReading 
 taken-fits span meter r t =
     let p = tests span meter r t in
     let n : inRange (readingᶜ r) ≡ true = on-and (inRange (readingᶜ r)) (not (rampTooLong (readingᶜ r)) && not (badWindow (readingᶜ r))) (sym (input-none (readingᶜ r)) ∙ p .input) .0 in
-    (p .held, to-T (on-and (from-to 0 44640 (r .minute .0)) (isReading (r .kw .0)) n .1))
+    (p .held, to-T (on-and (from-to 0 mostMinute (r .minute .0)) (isReading (r .kw .0)) n .1))

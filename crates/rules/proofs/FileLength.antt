@@ -16,7 +16,7 @@ use Rattle.rules.specs.Ledger.{Ledger, ledgerOf, spanIn, cellsIn, readin
 use Rattle.rules.specs.Refusal.{refusal, joined, takenAfter, taken}
 use Rattle.rules.specs.File.{total, table, widthsOf, write}
 use Rattle.rules.specs.Reached.{Reached, untouched, agreed}
-use Rattle.rules.specs.FileLength.{FileLength·theorem}
+use Rattle.rules.specs.FileLength.{FileLength·theorem, mostBytes}
 use Rattle.commands.specs.declared.entries.Reading.{Reading}
 use Rattle.commands.specs.declared.entries.Command.{Command}
 use Rattle.commands.specs.declared.entries.Command.the-variants.{Contract as contractᶜ, Window as windowᶜ, Instruction as instructionᶜ, Default as defaultᶜ, Reading as readingᶜ, Close as closeᶜ}
@@ -162,7 +162,7 @@ count-most f (suc n) a = go (f a) (count-most f n (suc a))
     go false h = omega arith
 
 -- the room before the first command
-all-room : (size : ℕ) → room size (ledgerOf []) ≤ 1761 + 7 * size
+all-room : (size : ℕ) → room size (ledgerOf []) ≤ mostBytes size
 unfolding room ledgerOf concatMap any readingOf between
 all-room size = omega (arith, count-most (bare (ledgerOf [])) (size - 0) 0)
 

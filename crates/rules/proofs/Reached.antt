@@ -11,7 +11,7 @@ use lib.ListN.{length, length-append}
 use borrow.Author.Tests.{leb-false, ltb-false}
 use Rattle.energy.specs.Lists.{all, any, concatMap, first, isEmpty, later, pass}
 use Rattle.energy.proofs.Tests.{T-and, and-T, to-T, off-T, off-not, passes, passed, all-snoc}
-use Rattle.commands.specs.Input.{from-to, inRange, rampTooLong, isReading}
+use Rattle.commands.specs.Input.{from-to, inRange, rampTooLong, isReading, mostMinute}
 use Rattle.rules.specs.Ledger.{Ledger, ledgerOf, contractOf, noContract, contractIn, windowIn, instructionIn, defaultIn, readingIn, readingOf, isContract, spanOf, spanIn, cellsIn, within}
 use Rattle.rules.specs.Refusal.{refusal, joined, takenAfter, taken}
 use Rattle.rules.specs.Reached.{windowsSound, instructionsSound, defaultSound, agreedTests, Untouched, Agreed, Reached, Reached·theorem}
@@ -214,7 +214,7 @@ module _ {size : ℕ} {g : Ledger} (a : Agreed size g) where
           → (m < span) × T (isReading kw)
       go {m} true e kw q =
           let same : r .minute .0 ≡ m = eqb→eq (r .minute .0) m (to-T e) in
-          let range = T-and (from-to 0 44640 (r .minute .0)) (isReading (r .kw .0)) (h .operands) in (
+          let range = T-and (from-to 0 mostMinute (r .minute .0)) (isReading (r .kw .0)) (h .operands) in (
             subst (λ x. x < span) same (leb-false span (r .minute .0) (h .inside)),
             subst (λ x. T (isReading x)) (Option·some-injective (r .kw .0) kw q) (range .1),
           )

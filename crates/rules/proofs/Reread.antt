@@ -14,7 +14,7 @@ use lib.Signed.{leZ}
 use borrow.Author.Tests.{lt-ltb, le-ltb, le-leb, lt-leb}
 use Rattle.energy.specs.Lists.{all, concatMap}
 use Rattle.energy.proofs.Tests.{T-and, and-T}
-use Rattle.commands.specs.Input.{inRange, isReading, from-to, from-toℤ}
+use Rattle.commands.specs.Input.{inRange, isReading, from-to, from-toℤ, mostMinute}
 use Rattle.rules.specs.File.{table, widthsOf, total, signedOf, unsignedOf, operands, commandOf, readBody, readAt, byteOf, operandsOf, writeOperands, widthsFor, write, readOn, commandsFrom, commandsIn}
 use Rattle.rules.specs.Reread.{fit, signFits, sayable, Reread}
 use Rattle.commands.specs.declared.entries.Command.{Command}
@@ -78,20 +78,20 @@ ranged (contractᶜ k) t =
       lt-ltb (k .optional) (256 ^ 4) (omega arith),
     ) tt
 ranged (windowᶜ w) t =
-    let q = apart (from-to 0 44640 (w .start .0)) (from-to 0 44640 (w .end .0) ∷ from-to 0 1 (w .verdict) ∷ []) t in
-    let a = bounds 0 44640 (w .start .0) (q .0) in let b = bounds 0 44640 (w .end .0) (q .1 .0) in let v = bounds 0 1 (w .verdict) (q .1 .1 .0) in
+    let q = apart (from-to 0 mostMinute (w .start .0)) (from-to 0 mostMinute (w .end .0) ∷ from-to 0 1 (w .verdict) ∷ []) t in
+    let a = bounds 0 mostMinute (w .start .0) (q .0) in let b = bounds 0 mostMinute (w .end .0) (q .1 .0) in let v = bounds 0 1 (w .verdict) (q .1 .1 .0) in
     rw (lt-ltb (w .start .0) (256 ^ 2) (omega arith), lt-ltb (w .end .0) (256 ^ 2) (omega arith), lt-ltb (w .verdict) (256 ^ 1) (omega arith)) tt
 ranged (instructionᶜ i) t =
-    let q = T-and (from-to 3 44640 (i .issue .0)) (from-to 0 44640 (i .cease .0)) t in
-    let a = bounds 3 44640 (i .issue .0) (q .0) in let b = bounds 0 44640 (i .cease .0) (q .1) in
+    let q = T-and (from-to 3 mostMinute (i .issue .0)) (from-to 0 mostMinute (i .cease .0)) t in
+    let a = bounds 3 mostMinute (i .issue .0) (q .0) in let b = bounds 0 mostMinute (i .cease .0) (q .1) in
     rw (lt-ltb (i .issue .0) (256 ^ 2) (omega arith), lt-ltb (i .cease .0) (256 ^ 2) (omega arith)) tt
 ranged (defaultᶜ d) t =
-    let q = apart (from-to 0 44640 (d .minute .0)) (from-to 1 4 (d .kind) ∷ from-to 1 3 (d .reach) ∷ []) t in
-    let m = bounds 0 44640 (d .minute .0) (q .0) in let a = bounds 1 4 (d .kind) (q .1 .0) in let b = bounds 1 3 (d .reach) (q .1 .1 .0) in
+    let q = apart (from-to 0 mostMinute (d .minute .0)) (from-to 1 4 (d .kind) ∷ from-to 1 3 (d .reach) ∷ []) t in
+    let m = bounds 0 mostMinute (d .minute .0) (q .0) in let a = bounds 1 4 (d .kind) (q .1 .0) in let b = bounds 1 3 (d .reach) (q .1 .1 .0) in
     rw (lt-ltb (d .minute .0) (256 ^ 2) (omega arith), lt-ltb (d .kind) (256 ^ 1) (omega arith), lt-ltb (d .reach) (256 ^ 1) (omega arith)) tt
 ranged (readingᶜ r) t =
-    let q = T-and (from-to 0 44640 (r .minute .0)) (isReading (r .kw .0)) t in
-    let m = bounds 0 44640 (r .minute .0) (q .0) in let z = reading-says (r .kw .0) (q .1) in
+    let q = T-and (from-to 0 mostMinute (r .minute .0)) (isReading (r .kw .0)) t in
+    let m = bounds 0 mostMinute (r .minute .0) (q .0) in let z = reading-says (r .kw .0) (q .1) in
     and-T (signFits (readingᶜ r)) (fit (2 ∷ 4 ∷ []) (operandsOf (readingᶜ r))) (z .0)
     (rw (lt-ltb (r .minute .0) (256 ^ 2) (omega arith), lt-ltb (unsignedOf (r .kw .0)) (256 ^ 4) (omega arith)) tt)
 ranged closeᶜ t = tt

@@ -12,7 +12,7 @@ use lib.Dec.{T, eqb, ltb}
 use lib.IntN.{ℤ}
 use Rattle.energy.specs.Lists.{all, any, between, concatMap, first, isEmpty, isSome, later, run}
 use Rattle.energy.proofs.Tests.{and-T, of-T}
-use Rattle.commands.specs.Input.{isReading, lowest}
+use Rattle.commands.specs.Input.{isReading, lowest, mostMinute}
 use Rattle.rules.specs.Ledger.{Ledger, ledgerOf, contractOf, spanIn, cellsIn, readingOf}
 use Rattle.rules.specs.Refusal.{conditions, refusal, taken}
 use Rattle.rules.specs.Reached.{Untouched, Agreed, Reached}
@@ -86,7 +86,7 @@ module _ {size : ℕ} {g : Ledger} (a : Agreed size g) where
           replay-cons
           (rw (
             le-leb 0 m (omega arith),
-            le-leb m 44640 (omega (arith, span-cells g, cells-most g t)),
+            le-leb m mostMinute (omega (arith, span-cells g, cells-most g t)),
             of-T (isReading kw) (r .1),
             le-ltb size (cellsIn g) (a .cells),
             lt-leb (spanIn g) m l,

@@ -3,6 +3,7 @@ use mathlib.Core.Path.{_≡_, ap, _∙_}
 use mathlib.Core.List.{List, [], _∷_, _++_, append-nil}
 use Prim.Native.Nat.{ℕ, _≤_}
 use native.Mathlib.Omega.{arith}
+use Rattle.commands.specs.Input.{mostMinute}
 use Rattle.energy.specs.Lists.{first}
 use Rattle.rules.specs.Ledger.{Ledger, noContract, contractOf, contractIn, spanOf, spanIn, cellsIn}
 use Rattle.commands.specs.declared.contract.Contract.{Contract}
@@ -21,7 +22,7 @@ pub span-some : (g : Ledger) → Terms (contractOf g) → 1 ≤ spanIn g
 unfolding spanIn
 span-some g t = omega (arith, t .ranges .days)
 
-pub cells-most : (g : Ledger) → Terms (contractOf g) → cellsIn g ≤ 44640
+pub cells-most : (g : Ledger) → Terms (contractOf g) → cellsIn g ≤ mostMinute
 unfolding cellsIn
 cells-most g t = omega (arith, t .ranges .days)
 

@@ -7,7 +7,7 @@ use lib.Dec.{T, eqb, leb, ltb, leb→le, le→leb, eqb→eq}
 use borrow.Author.Tests.{leb-false, ltb-false}
 use Rattle.energy.specs.Lists.{all, any, last}
 use Rattle.energy.proofs.Tests.{T-and, and-T, off-T, off-not, off-or, all-mono, any-snoc}
-use Rattle.commands.specs.Input.{from-to, inRange, badWindow}
+use Rattle.commands.specs.Input.{from-to, inRange, badWindow, mostMinute}
 use Rattle.rules.specs.Ledger.{expiry, endOf, within}
 use Rattle.rules.specs.Refusal.{recovered}
 use Rattle.rules.specs.Reached.{windowsSound, instructionsSound, defaultSound}
@@ -46,7 +46,7 @@ unfolding windowsSound
 windows-cons k span e w ws t =
     let q = T-and (chain (inRange (windowᶜ w)) (windowTests k span e w)) (windowsSound k span (w .end .0) ws) t in
     let p = apart (inRange (windowᶜ w)) (windowTests k span e w) (q .0) in
-    let r = apart (from-to 0 44640 (w .start .0)) (from-to 0 44640 (w .end .0) ∷ from-to 0 1 (w .verdict) ∷ []) (p .0) in
+    let r = apart (from-to 0 mostMinute (w .start .0)) (from-to 0 mostMinute (w .end .0) ∷ from-to 0 1 (w .verdict) ∷ []) (p .0) in
     let wrong = off-or (leb (w .end .0) (w .start .0) || not (eqb (w .start .0 % 30) 0)) (not (eqb (w .end .0 % 30) 0)) (not-on (badWindow (windowᶜ w)) (p .1 .0)) in
     let wrong′ = off-or (leb (w .end .0) (w .start .0)) (not (eqb (w .start .0 % 30) 0)) (wrong .0) in (
       record {
@@ -106,8 +106,8 @@ instructionTests k span e i = leb (endOf k i) span ∷ leb (expiry k i) (i .ceas
 
 -- what they come to
 pub record InstructionFits (k : Contract) (span e : ℕ) (i : Instruction) : Type 0 where
-  pub issue : (3 ≤ i .issue .0) × (i .issue .0 ≤ 44640)
-  pub cease : i .cease .0 ≤ 44640
+  pub issue : (3 ≤ i .issue .0) × (i .issue .0 ≤ mostMinute)
+  pub cease : i .cease .0 ≤ mostMinute
   pub inside : endOf k i ≤ span
   pub ceased : expiry k i ≤ i .cease .0
   pub after : e ≤ i .issue .0
@@ -119,10 +119,10 @@ unfolding instructionsSound
 instructions-cons k span e i is t =
     let q = T-and (chain (inRange (instructionᶜ i)) (instructionTests k span e i)) (instructionsSound k span (endOf k i + k .recovery .0) is) t in
     let p = apart (inRange (instructionᶜ i)) (instructionTests k span e i) (q .0) in
-    let r = T-and (from-to 3 44640 (i .issue .0)) (from-to 0 44640 (i .cease .0)) (p .0) in (
+    let r = T-and (from-to 3 mostMinute (i .issue .0)) (from-to 0 mostMinute (i .cease .0)) (p .0) in (
       record {
-        issue = bounds 3 44640 (i .issue .0) (r .0);
-        cease = bounds 0 44640 (i .cease .0) (r .1) .1;
+        issue = bounds 3 mostMinute (i .issue .0) (r .0);
+        cease = bounds 0 mostMinute (i .cease .0) (r .1) .1;
         inside = leb→le (endOf k i) span (p .1 .0);
         ceased = leb→le (expiry k i) (i .cease .0) (p .1 .1 .0);
         after = leb→le e (i .issue .0) (p .1 .1 .1 .0);

@@ -17,7 +17,7 @@ use Rattle.energy.specs.Number.{Within}
 use Rattle.energy.proofs.Integers.{leZ-true, leZ-yes}
 use Rattle.energy.proofs.Tests.{on-and}
 use Rattle.rules.specs.Ledger.{Ledger, contractOf, spanIn}
-use Rattle.commands.specs.Input.{kwOf, upMinutes, downMinutes, isReading}
+use Rattle.commands.specs.Input.{kwOf, upMinutes, downMinutes, isReading, mostMinute}
 use Rattle.rules.specs.Segment.{complete}
 use Rattle.rules.specs.Statement.{reads}
 use Rattle.commands.specs.declared.contract.Contract.{Contract}
@@ -121,7 +121,7 @@ module _ (b : Book) (times : List ℕ) (meter : List ℤ) (G : Grounds b times m
   span-is : spanIn g ≡ span
   span-is = book-span b meter (G .agreed)
 
-  span-small : span ≤ 44640
+  span-small : span ≤ mostMinute
   span-small = omega (arith, span-cells b, S .month)
 
   span-held : span ≤ length meter
@@ -312,7 +312,7 @@ module _ (b : Book) (times : List ℕ) (meter : List ℤ) (G : Grounds b times m
         reaches : (x : Default) → 0 < numberOf live x → Inside (windowOf live (b .windows) x) x
         reaches x l = let h = at x l in rw (h .window) (reach-inside (getD (g .windows) (numberOf live x - 1) noWindow) x (h .has))
 
-        ends : (x : Default) → 0 < numberOf live x → windowOf live (b .windows) x .end .0 ≤ 44640
+        ends : (x : Default) → 0 < numberOf live x → windowOf live (b .windows) x .end .0 ≤ mostMinute
         ends x l = let h = at x l in rw (h .window) (omega (arith, window-sound (numberOf live x - 1) (h .below) .inside, span-small))
 
     -- ---- the plan

@@ -7,6 +7,7 @@ use Prim.Native.Nat.{ℕ, zero, suc, _+_, _*_, _≤_}
 use native.Mathlib.Omega.{arith}
 use lib.IntN.{ℤ}
 use lib.ListN.{length, replicate, length-append}
+use Rattle.rules.specs.FileLength.{mostBytes}
 use Rattle.energy.specs.Lists.{concatMap}
 use Rattle.rules.specs.Ledger.{ledgerOf}
 use Rattle.rules.specs.Refusal.{refusal, taken, takenAfter, joined, answerOf}
@@ -144,7 +145,7 @@ behind file at (suc n) = go (λ next. behind file next n) (readAt file at) refl
     go rest End e = rest at
 
 -- the commands before it are taken, so it is within the room that tables and meter memory have
-pub stops-within : (file : List ℕ) (meter : List ℤ) → load file emptyBook meter .loaded .at ≤ 1761 + 7 * length meter
+pub stops-within : (file : List ℕ) (meter : List ℤ) → load file emptyBook meter .loaded .at ≤ mostBytes (length meter)
 unfolding File·theorem
 stops-within file meter =
     let r : FileRight file meter [] = file-right file meter [] in

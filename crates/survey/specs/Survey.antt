@@ -6,7 +6,7 @@ use lib.IntN.{ℤ}
 use lib.ListN.{length}
 use Rattle.energy.specs.Energy.{cell}
 use Rattle.energy.specs.Lists.{all, between}
-use Rattle.commands.specs.Input.{isReading}
+use Rattle.commands.specs.Input.{isReading, mostMinute}
 use Rattle.rules.proofs.Count.{touched}
 use Rattle.terms.specs.declared.Terms.{Terms}
 use Rattle.survey.specs.declared.Survey.{Survey}
@@ -17,7 +17,7 @@ pub record LaidAt (t : Terms) (times : List ℕ) (meter : List ℤ) (j : ℕ) : 
   pub three : 3 ≤ issueOf times j
   pub steady : issueOf times j + t .response ≤ ceaseOf times j
   pub inside : ceaseOf times j + t .fall ≤ length meter
-  pub small : ceaseOf times j + t .fall ≤ 44640
+  pub small : ceaseOf times j + t .fall ≤ mostMinute
 
 -- every instruction does
 pub record Laid (t : Terms) (times : List ℕ) (meter : List ℤ) : Type 0 where

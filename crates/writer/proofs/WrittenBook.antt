@@ -11,7 +11,7 @@ use lib.IntN.{ℤ}
 use lib.ListN.{length, getD, length-map}
 use Rattle.energy.specs.Lists.{concatMap, run, between, putAt}
 use Rattle.rules.specs.Ledger.{spanIn}
-use Rattle.commands.specs.Input.{lowest}
+use Rattle.commands.specs.Input.{lowest, mostMinute}
 use Rattle.rules.specs.File.{readingAt, written, fileOf}
 use Rattle.commands.specs.declared.contract.Contract.{Contract}
 use Rattle.rules.specs.declared.answer.Answer.the-variants.{Taken, Refused}
@@ -32,7 +32,7 @@ use Rattle.writer.proofs.WrittenParts.{take-map}
 -- ---- a book that commands leave
 
 -- its span is at most a month of 31 days
-month : (b : Book) → sound b ≡ true → bookSpan b ≤ 44640
+month : (b : Book) → sound b ≡ true → bookSpan b ≤ mostMinute
 month b e = omega (arith, span-cells b, cells-most b e)
 
 pub kept : (b : Book) (meter : List ℤ) → sound b ≡ true → bookCells b ≤ length meter → Kept b (length meter)

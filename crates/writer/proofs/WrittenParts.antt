@@ -13,7 +13,7 @@ use lib.Seq.{take-suc, length-take-le}
 use Rattle.energy.specs.Lists.{concatMap, run, between}
 use Rattle.energy.proofs.Sums.{between-snoc}
 use Rattle.book.specs.Book.{bookSpan}
-use Rattle.commands.specs.Input.{isReading}
+use Rattle.commands.specs.Input.{isReading, mostMinute}
 use Rattle.rules.specs.File.{table, widthsOf, total, write, readingAt}
 use Rattle.commands.specs.declared.entries.Reading.{Reading}
 use Rattle.commands.specs.declared.entries.Command.{Command}
@@ -168,7 +168,7 @@ module _ (b : Book) (meter : List ℤ) where
   parts-length = sym (simp length-both)
 
   -- and a small number
-  pub parts-short : ((t : Table) → Tabled b t) → bookSpan b ≤ 44640 → length (fileBytes (parts b meter)) ≤ 2000000
+  pub parts-short : ((t : Table) → Tabled b t) → bookSpan b ≤ mostMinute → length (fileBytes (parts b meter)) ≤ 2000000
   parts-short tables month =
       omega (
         arith,

@@ -4,6 +4,7 @@ use mathlib.Core.List.{List, [], _∷_, _++_, map}
 use Prim.Native.Nat.{ℕ, _+_, _≤_, _<_}
 use lib.IntN.{ℤ}
 use lib.ListN.{length, getD, take}
+use Rattle.commands.specs.Input.{mostMinute}
 use Rattle.energy.specs.Lists.{concatMap, between, Laid as LaidBytes}
 use Rattle.rules.specs.File.{write, readingAt}
 use Rattle.commands.specs.declared.entries.Command.{Command}
@@ -68,5 +69,5 @@ pub record Kept (b : Book) (size : ℕ) : Type 0 where
   pub windows : b .nwindows ≤ 128
   pub instructions : b .ninstructions ≤ 64
   pub defaults : b .ndefaults ≤ 128
-  pub month : bookSpan b ≤ 44640
+  pub month : bookSpan b ≤ mostMinute
   pub memory : bookSpan b ≤ size

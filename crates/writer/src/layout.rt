@@ -3,6 +3,7 @@ ghost use mathlib.Core.Bool.{cond};
 ghost use mathlib.Core.List.{[], _∷_};
 ghost use Prim.Native.Nat.{_≤_};
 ghost use lib.ListN.{length};
+ghost use Rattle.commands.specs.Input.{mostMinute};
 ghost use Rattle.rules.specs.File.{readingAt};
 ghost use Rattle.meter.specs.Meter.{cell};
 ghost use Rattle.writer.specs.Laid.{Room, Laid, entries, Tabled, readings, parts, Kept};
@@ -66,7 +67,7 @@ fn put_cell(minute: Minutes, kw: Kw, out: &mut [u8], at: usize) -> usize
 
 // The readings of the first minutes, by rising minute.
 fn put_readings(meter: &[i32], span: usize, out: &mut [u8], at: usize) -> usize
-    requires { ⌜ (span ≤ length (now meter)) × (span ≤ 44640) × Room (readings (now meter) span) (now out) at ⌝ }
+    requires { ⌜ (span ≤ length (now meter)) × (span ≤ mostMinute) × Room (readings (now meter) span) (now out) at ⌝ }
     ensures { λ r. ⌜ Laid (readings (now (meter .entry)) span) (now (out .entry)) at (now (out .exit)) r ⌝ }
 {
     let mut place = at;

@@ -3,6 +3,7 @@ ghost use mathlib.Core.Path.{_≡_};
 ghost use mathlib.Core.Bool.{cond};
 ghost use Prim.Native.Nat.{_≤_, _*_};
 ghost use lib.ListN.{length};
+ghost use Rattle.commands.specs.Input.{mostMinute};
 ghost use Rattle.rules.specs.File.{write};
 ghost use Rattle.writer.specs.Laid.{fileBytes, entries, Tabled, readings, parts, Kept};
 use crate::entries::Table;
@@ -26,7 +27,7 @@ fn once(holds: bool) -> usize
 
 // The bytes of n commands that are as long as this one.
 fn as_long(n: usize, command: Command) -> usize
-    requires { ⌜ n ≤ 44640 ⌝ }
+    requires { ⌜ n ≤ mostMinute ⌝ }
     ensures { λ r. ⌜ r ≡ n * length (write command) ⌝ }
 {
     n * length_of(command)

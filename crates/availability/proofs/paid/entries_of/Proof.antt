@@ -15,13 +15,13 @@ use mir.ValLaws.{toZ-pos}
 use Rattle.commands.specs.declared.entries.Window.{Window}
 use Rattle.rules.specs.declared.statement.Available.{Available}
 use Rattle.rules.specs.Ledger.{noWindow}
-use Rattle.availability.specs.Paid.{marked, paidIn, paidBy, entryOf, entriesTo, periodsTo, entriesBy}
+use Rattle.availability.specs.Paid.{marked, paidIn, paidBy, entryOf, entriesTo, periodsTo, entriesBy, mostPeriods}
 use Rattle.availability.proofs.paid.entries_of.Statement.{statement}
 use Rattle.availability.proofs.paid.entries_of.Tie as tie
 
 abbrev Inv-loop : tie.InvT-loop
 Inv-loop lost live defaults n each windows entries₀ total₀ i₀ entries total i =
-    (i ≤ n) × (entries ≡ entriesTo live (marked lost) each windows i) × (total ≡ periodsTo live (marked lost) windows i) × (total ≤ 1488 * i)
+    (i ≤ n) × (entries ≡ entriesTo live (marked lost) each windows i) × (total ≡ periodsTo live (marked lost) windows i) × (total ≤ mostPeriods * i)
 
 abbrev μ-loop : tie.MeasureT-loop
 μ-loop lost live defaults n each windows entries₀ total₀ i₀ entries total i = n - i

@@ -8,6 +8,7 @@ use native.Mathlib.Omega.{arith}
 use lib.Dec.{T}
 use lib.ListN.{length, take}
 use lib.Seq.{length-take-le}
+use Rattle.rules.specs.FileLength.{mostBytes}
 use Rattle.book.specs.Sound.{sound}
 use Rattle.book.proofs.Follow.{starts}
 use Rattle.stor.specs.Files.{unfinished}
@@ -20,7 +21,7 @@ Inv-loop buffer₀ meter₀ e₀ kept₀ buffer meter e kept =
     (sound (e .book) ≡ true) × (kept ≤ length buffer) × (length buffer ≡ length buffer₀) × (length meter ≡ length meter₀) × SoFar meter₀ e meter (take kept buffer)
 
 abbrev μ-loop : tie.MeasureT-loop
-μ-loop buffer₀ meter₀ e₀ kept₀ buffer meter e kept = 1761 + 7 * length meter - e .offset
+μ-loop buffer₀ meter₀ e₀ kept₀ buffer meter e kept = mostBytes (length meter) - e .offset
 
 -- a turn, once the bytes that the buffer holds are entered
 turned : (c : tie.After-load Inv-loop μ-loop)

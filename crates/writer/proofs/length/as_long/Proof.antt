@@ -4,6 +4,7 @@ use native.Mathlib.Nat.{mul-le-mul}
 use native.Mathlib.Omega.{arith}
 use Prim.Native.Nat.{_*_, _≤_}
 use borrow.Author.Needs.{needs}
+use Rattle.commands.specs.Input.{mostMinute}
 use Rattle.writer.proofs.WrittenParts.{write-short}
 use Rattle.writer.proofs.length.as_long.Statement.{statement}
 use Rattle.writer.proofs.length.as_long.Tie as tie
@@ -15,7 +16,7 @@ mul-result : tie.Need-mul-result
 mul-result c =
     let a = c .before .args in
     let short : c .length-of .result ≤ 32 = rw (c .length-of .ensures) (write-short (a .command)) in
-    let most : a .n * c .length-of .result ≤ 44640 * 32 = mul-le-mul (c .before .pre) short in
+    let most : a .n * c .length-of .result ≤ mostMinute * 32 = mul-le-mul (c .before .pre) short in
     record { fits = omega arith }
 
 returns : tie.Need-returns
