@@ -6,7 +6,6 @@ use mathlib.Core.List.{List, [], _∷_}
 use mathlib.Core.Option.{Option, none, some}
 use Prim.Native.Nat.{ℕ, _≤_, _<_}
 use native.Mathlib.Omega.{arith}
-use lib.IntN.{ℤ}
 use lib.Dec.{T, ltb, ltb→lt}
 use lib.ListN.{length}
 use borrow.Author.Tests.{leb-false, ltb-false, not-false}
@@ -24,7 +23,7 @@ use Rattle.commands.specs.declared.entries.Command.{Command}
 use Rattle.commands.specs.declared.entries.Command.the-variants.{Contract as contractᶜ, Window as windowᶜ, Instruction as instructionᶜ, Default as defaultᶜ, Reading as readingᶜ}
 use Rattle.rules.proofs.Span.{span-cells}
 use Rattle.rules.proofs.Taken.{Allowed, allowed, clear}
-use Rattle.meter.specs.Meter.{putMeter}
+use Rattle.meter.specs.Meter.{putMeter, Memory, roomIn}
 use Rattle.book.specs.Book.{ledgerIn, putBook}
 use Rattle.book.specs.Enter.{Enters, enterBook}
 use Rattle.book.specs.Numbers.{refusalOf}
@@ -56,17 +55,17 @@ some-number : (o : Option ℕ) (n : ℕ) → n ≡ orZero o → n ≢ 0 → o �
 some-number none n e h = absurd (h e)
 some-number (some m) n e h = ap some (sym e)
 
-module _ (b : Book) (meter : List ℤ) (c : Command) (n : ℕ) (e : n ≡ refusalOf b meter c) where
-  unrefused : n ≡ 0 → refusal (not (sound b)) (length meter) (ledgerIn b meter) c ≡ none
+module _ (b : Book) (meter : Memory) (c : Command) (n : ℕ) (e : n ≡ refusalOf b meter c) where
+  unrefused : n ≡ 0 → refusal (not (sound b)) (roomIn meter) (ledgerIn b meter) c ≡ none
   unfolding refusalOf refusal conditions
-  unrefused z = zero-none (conditions (not (sound b)) (length meter) (ledgerIn b meter) c) tt (sym e ∙ z)
+  unrefused z = zero-none (conditions (not (sound b)) (roomIn meter) (ledgerIn b meter) c) tt (sym e ∙ z)
 
   -- ---- what entering gives
 
   pub refused-entry : n ≢ 0 → Enters b meter c (record { answer = Refused n; book = b }) meter
   unfolding enterBook refusalOf
   refused-entry h =
-      let r : refusal (not (sound b)) (length meter) (ledgerIn b meter) c ≡ some n = some-number (refusal (not (sound b)) (length meter) (ledgerIn b meter) c) n e h in
+      let r : refusal (not (sound b)) (roomIn meter) (ledgerIn b meter) c ≡ some n = some-number (refusal (not (sound b)) (roomIn meter) (ledgerIn b meter) c) n e h in
       record { entry = rw r; meter = rw r }
 
   pub taken-entry : n ≡ 0 → Enters b meter c (record { answer = Taken; book = putBook b c }) (putMeter meter c)
@@ -77,12 +76,12 @@ module _ (b : Book) (meter : List ℤ) (c : Command) (n : ℕ) (e : n ≡ refusa
 
   pub left-sound : n ≡ 0 → sound b ≡ true
   unfolding refusal conditions
-  left-sound z = not-false (sound b) (clear (conditions (not (sound b)) (length meter) (ledgerIn b meter) c) (unrefused z) .1 .1 .1 .0)
+  left-sound z = not-false (sound b) (clear (conditions (not (sound b)) (roomIn meter) (ledgerIn b meter) c) (unrefused z) .1 .1 .1 .0)
 
-  pub free : n ≡ 0 → Allowed (length meter) (ledgerIn b meter) c
-  free z = allowed (length meter) (ledgerIn b meter) c (subst (λ s. refusal (not s) (length meter) (ledgerIn b meter) c ≡ none) (left-sound z) (unrefused z))
+  pub free : n ≡ 0 → Allowed (roomIn meter) (ledgerIn b meter) c
+  free z = allowed (roomIn meter) (ledgerIn b meter) c (subst (λ s. refusal (not s) (roomIn meter) (ledgerIn b meter) c ≡ none) (left-sound z) (unrefused z))
 
-module _ (b : Book) (meter : List ℤ) (n : ℕ) where
+module _ (b : Book) (meter : Memory) (n : ℕ) where
   pub window-room : (w : Window) → n ≡ refusalOf b meter (windowᶜ w) → n ≡ 0 → length (b .windows) ≡ 128 → b .nwindows < 128
   unfolding ledgerIn
   window-room w e z l = has-room (b .windows) (b .nwindows) 128 l (sound-parts b (left-sound b meter (windowᶜ w) n e z) .tables .windows) (free b meter (windowᶜ w) n e z .room)
@@ -96,11 +95,11 @@ module _ (b : Book) (meter : List ℤ) (n : ℕ) where
   default-room d e z l = has-room (b .defaults) (b .ndefaults) 128 l (sound-parts b (left-sound b meter (defaultᶜ d) n e z) .tables .defaults) (free b meter (defaultᶜ d) n e z .room)
 
   -- meter memory holds a contract's span
-  pub contract-fits : (k : Contract) → n ≡ refusalOf b meter (contractᶜ k) → n ≡ 0 → spanOf k ≤ length meter
-  contract-fits k e z = ltb-false (length meter) (spanOf k) (free b meter (contractᶜ k) n e z .memory)
+  pub contract-fits : (k : Contract) → n ≡ refusalOf b meter (contractᶜ k) → n ≡ 0 → spanOf k ≤ roomIn meter
+  contract-fits k e z = ltb-false (roomIn meter) (spanOf k) (free b meter (contractᶜ k) n e z .memory)
 
   -- and a reading's minute
-  pub reading-fits : (r : Reading) → n ≡ refusalOf b meter (readingᶜ r) → n ≡ 0 → (r .minute .0 < length meter) × T (isReading (r .kw .0))
+  pub reading-fits : (r : Reading) → n ≡ refusalOf b meter (readingᶜ r) → n ≡ 0 → (r .minute .0 < roomIn meter) × T (isReading (r .kw .0))
   reading-fits r e z =
       let f = free b meter (readingᶜ r) n e z in
-      (omega (arith, leb-false _ (r .minute .0) (f .inside), span-cells (ledgerIn b meter), ltb-false (length meter) (cellsIn (ledgerIn b meter)) (f .memory)), T-and (from-to 0 mostMinute (r .minute .0)) (isReading (r .kw .0)) (f .operands) .1)
+      (omega (arith, leb-false _ (r .minute .0) (f .inside), span-cells (ledgerIn b meter), ltb-false (roomIn meter) (cellsIn (ledgerIn b meter)) (f .memory)), T-and (from-to 0 mostMinute (r .minute .0)) (isReading (r .kw .0)) (f .operands) .1)

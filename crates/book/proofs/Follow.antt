@@ -8,7 +8,6 @@ use Prim.Native.Nat.{ℕ, suc, _+_, _-_, _≤_, _<_}
 use native.Mathlib.Numerals.{add-one}
 use native.Mathlib.Omega.{arith}
 use borrow.Author.Tests.{leb-false, ltb-false}
-use lib.IntN.{ℤ}
 use lib.Dec.{T, leb, leb·suc-zero}
 use lib.ListN.{length, take, drop, set, getD, replicate, length-set, length-append, length-drop, length-replicate}
 use lib.Seq.{drop-cons, drop-set-lt}
@@ -28,7 +27,7 @@ use Rattle.commands.specs.declared.entries.Command.the-variants.{Contract as co
 use Rattle.rules.proofs.Reached.{step, start}
 use Rattle.rules.proofs.Taken.{grown, ledgerOf-snoc, Allowed, allowed}
 use Rattle.rules.proofs.FileLength.{cells-fit}
-use Rattle.meter.specs.Meter.{putMeter, cell, missing}
+use Rattle.meter.specs.Meter.{putMeter, cell, missing, Memory, roomIn, kwAt}
 use Rattle.book.specs.Book.{emptyBook, bookSpan, bookCells, ledgerIn, putBook}
 use Rattle.tables.specs.Unused.{noContractTests, isNoWindow, isNoInstruction, isNoDefault}
 use Rattle.book.specs.Sound.{sound, Shaped, tableTests, emptyTests}
@@ -55,7 +54,7 @@ not-agreed true k e = absurd (true≢false e)
 not-agreed false k e = refl
 
 -- tables of a reached ledger are sound
-pub reached-sound : (b : Book) (meter : List ℤ) {size : ℕ} → b .agreed ≡ true → Tables b → Reached size (ledgerIn b meter) → sound b ≡ true
+pub reached-sound : (b : Book) (meter : Memory) {size : ℕ} → b .agreed ≡ true → Tables b → Reached size (ledgerIn b meter) → sound b ≡ true
 unfolding ledgerIn
 reached-sound b meter s t (untouched u) = absurd (full (b .agreed) s (u .contracts))
   where
@@ -75,20 +74,20 @@ reached-sound b meter s t (agreed a) =
 
 -- ---- the book and the commands taken
 
-pub record Follows (size : ℕ) (t : List Command) (b : Book) (meter : List ℤ) : Type 0 where
+pub record Follows (size : ℕ) (t : List Command) (b : Book) (meter : Memory) : Type 0 where
   pub ledger : ledgerIn b meter ≡ ledgerOf t
   pub reached : Reached size (ledgerOf t)
   pub left : sound b ≡ true
   pub shaped : Shaped b
-  pub memory : length meter ≡ size
+  pub memory : roomIn meter ≡ size
 
 -- what is left to show of a command that is taken: what the book holds after it, a contract, its tables and their lengths
-pub record Put (c : Command) (b : Book) (meter : List ℤ) : Type 0 where
+pub record Put (c : Command) (b : Book) (meter : Memory) : Type 0 where
   pub holds : ledgerIn (putBook b c) (putMeter meter c) ≡ grown (ledgerIn b meter) c
   pub agreed : putBook b c .agreed ≡ true
   pub tables : Tables (putBook b c)
   pub shaped : Shaped (putBook b c)
-  pub memory : length (putMeter meter c) ≡ length meter
+  pub memory : roomIn (putMeter meter c) ≡ roomIn meter
 
 -- entries past the n first are zeros, and one more is taken into use
 rest-zero : {A : Type 0} (f : A → Bool) (l : List A) (n : ℕ) (a : A) → n < length l → T (all f (drop n l)) → T (all f (drop (n + 1) (set l n a)))
@@ -99,7 +98,7 @@ rest-zero {A} f l n a h t =
     go : (u v : List A) → u ≡ getD l n a ∷ v → T (all f u) → T (all f v)
     go u v e t = T-and (f (getD l n a)) (all f v) (unfold all in subst (λ x. T (all f x)) e t) .1
 
-module _ {size : ℕ} {t : List Command} {b : Book} {meter : List ℤ} (f : Follows size t b meter) where
+module _ {size : ℕ} {t : List Command} {b : Book} {meter : Memory} (f : Follows size t b meter) where
   abbrev g : Ledger
   g = ledgerIn b meter
 
@@ -107,9 +106,9 @@ module _ {size : ℕ} {t : List Command} {b : Book} {meter : List ℤ} (f : Foll
   tables = sound-parts b (f .left) .tables
 
   -- meter memory has the cells for the span
-  fits : b .agreed ≡ true → bookCells b ≤ length meter
+  fits : b .agreed ≡ true → bookCells b ≤ roomIn meter
   fits s =
-      subst (λ n. n ≤ length meter) (cells-is b meter s)
+      subst (λ n. n ≤ roomIn meter) (cells-is b meter s)
       (subst⁻¹ (λ n. cellsIn g ≤ n) (f .memory) (cells-fit (subst⁻¹ (Reached size) (f .ledger) (f .reached))))
 
   put-window : (w : Window) → Allowed size g (windowᶜ w) → Put (windowᶜ w) b meter
@@ -197,7 +196,7 @@ module _ {size : ℕ} {t : List Command} {b : Book} {meter : List ℤ} (f : Foll
         agreed = s;
         tables = tables;
         shaped = f .shaped;
-        memory = length-set meter (r .minute .0) (r .kw .0);
+        memory = length-set (meter .cells) (r .minute .0) (r .kw .0);
       }
 
   put-contract : (k : Contract) → Allowed size g (contractᶜ k) → Put (contractᶜ k) b meter
@@ -205,13 +204,13 @@ module _ {size : ℕ} {t : List Command} {b : Book} {meter : List ℤ} (f : Foll
   put-contract k a =
       let s : b .agreed ≡ false = not-agreed (b .agreed) (b .contract) (a .only) in
       let none : bookSpan b ≡ 0 = span-empty b (f .left) s in
-      let span : spanOf k ≤ length meter = omega (arith, ltb-false size (spanOf k) (a .memory), f .memory) in
+      let span : spanOf k ≤ roomIn meter = omega (arith, ltb-false size (spanOf k) (a .memory), f .memory) in
       record {
         holds = holds-contract b meter k s none;
         agreed = refl;
         tables = tables;
         shaped = record { windows = f .shaped .windows; instructions = f .shaped .instructions; defaults = f .shaped .defaults };
-        memory = length-append (replicate (spanOf k) missing) (drop (spanOf k) meter) ∙ ap₂ _+_ (length-replicate (spanOf k) missing) (length-drop (spanOf k) meter) ∙ omega arith;
+        memory = length-append (replicate (spanOf k) missing) (drop (spanOf k) (meter .cells)) ∙ ap₂ _+_ (length-replicate (spanOf k) missing) (length-drop (spanOf k) (meter .cells)) ∙ omega arith;
       }
 
   -- any command that is taken
@@ -240,12 +239,12 @@ module _ {size : ℕ} {t : List Command} {b : Book} {meter : List ℤ} (f : Foll
 -- ---- entering
 
 -- for a book that follows the commands taken, the book's refusal is theirs
-same-refusal : {size : ℕ} {t : List Command} {b : Book} {meter : List ℤ} (c : Command) → Follows size t b meter
-    → refusal (not (sound b)) (length meter) (ledgerIn b meter) c ≡ refusal false size (ledgerOf t) c
+same-refusal : {size : ℕ} {t : List Command} {b : Book} {meter : Memory} (c : Command) → Follows size t b meter
+    → refusal (not (sound b)) (roomIn meter) (ledgerIn b meter) c ≡ refusal false size (ledgerOf t) c
 same-refusal c f = rw (f .left, f .memory, f .ledger)
 
 -- entering keeps book and commands together, taken or refused
-pub follow : {size : ℕ} {t : List Command} {b : Book} {meter : List ℤ} (c : Command) → Follows size t b meter
+pub follow : {size : ℕ} {t : List Command} {b : Book} {meter : Memory} (c : Command) → Follows size t b meter
     → Follows size (joined (refusal false size (ledgerOf t) c) t c) (enterBook b meter c .entry .book) (enterBook b meter c .meter)
 unfolding enterBook
 follow {size} {t} {b} {meter} c f =
@@ -257,7 +256,7 @@ follow {size} {t} {b} {meter} c f =
     go (some n) e = f
 
 -- and is answered as the rules say
-pub answers : {size : ℕ} {t : List Command} {b : Book} {meter : List ℤ} (c : Command) → Follows size t b meter
+pub answers : {size : ℕ} {t : List Command} {b : Book} {meter : Memory} (c : Command) → Follows size t b meter
     → enterBook b meter c .entry .answer ≡ answerOf (refusal false size (ledgerOf t) c)
 unfolding enterBook
 answers {size} {t} {b} {meter} c f = ap (λ o. enteredBy o b meter c .entry .answer) (same-refusal c f) ∙ go (refusal false size (ledgerOf t) c)
@@ -268,7 +267,7 @@ answers {size} {t} {b} {meter} c f = ap (λ o. enteredBy o b meter c .entry .ans
 
 -- ---- the empty book
 
-pub starts : (meter : List ℤ) → Follows (length meter) [] emptyBook meter
+pub starts : (meter : Memory) → Follows (roomIn meter) [] emptyBook meter
 unfolding ledgerIn bookSpan ledgerOf emptyBook sound pass emptyTests tableTests noContractTests all any concatMap readingOf
 starts meter =
     record {
@@ -279,9 +278,9 @@ starts meter =
             instructions = [];
             defaults = [];
             closed = false;
-            reading = λ m. ap (λ (x : Bool). cond x (cell (getD meter m missing)) none) (leb·suc-zero m) i;
+            reading = λ m. ap (λ (x : Bool). cond x (cell (kwAt meter m)) none) (leb·suc-zero m) i;
           };
-      reached = start (length meter);
+      reached = start (roomIn meter);
       left = refl;
       shaped = record { windows = refl; instructions = refl; defaults = refl };
       memory = refl;

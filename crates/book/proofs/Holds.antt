@@ -7,7 +7,6 @@ use Prim.Native.Nat.{ℕ, _+_, _*_, _≤_, _<_}
 use native.Mathlib.Omega.{arith}
 use native.Mathlib.Numerals.{add-one}
 use borrow.Author.Tests.{lt-ltb}
-use lib.IntN.{ℤ}
 use lib.Dec.{T, leb·suc-zero, ltb, eqb, ltb→lt, eqb→eq, eqb-refl}
 use lib.ListN.{length, take, drop, set, getD, replicate, length-replicate, List·getD-append, getD-replicate}
 use lib.Seq.{take-suc-set, getD-set-same, getD-set-other}
@@ -22,7 +21,7 @@ use Rattle.commands.specs.declared.entries.Default.{Default}
 use Rattle.commands.specs.declared.entries.Reading.{Reading}
 use Rattle.commands.specs.declared.entries.Command.the-variants.{Contract as contractᶜ, Window as windowᶜ, Instruction as instructionᶜ, Default as defaultᶜ, Reading as readingᶜ, Close as closeᶜ}
 use Rattle.rules.proofs.Taken.{grown}
-use Rattle.meter.specs.Meter.{putMeter, cell, missing}
+use Rattle.meter.specs.Meter.{putMeter, cell, missing, Memory, roomIn, kwAt}
 use Rattle.book.specs.Book.{bookSpan, ledgerIn, putBook}
 use Rattle.book.specs.declared.Book.{Book}
 
@@ -34,7 +33,7 @@ or-true : (x : Bool) → (x || true) ≡ true
 or-true true = refl
 or-true false = refl
 
-module _ (b : Book) (meter : List ℤ) where
+module _ (b : Book) (meter : Memory) where
   pub holds-window : (w : Window) → b .nwindows < length (b .windows) → ledgerIn (putBook b (windowᶜ w)) meter ≡ grown (ledgerIn b meter) (windowᶜ w)
   unfolding ledgerIn bookSpan later
   holds-window w h i =
@@ -85,30 +84,30 @@ module _ (b : Book) (meter : List ℤ) where
       }
 
   -- a reading in a minute of the span gives that minute its kW, and leaves every other minute
-  reading-at : (r : Reading) → r .minute .0 < bookSpan b → bookSpan b ≤ length meter → T (isReading (r .kw .0)) → (m : ℕ)
-      → ledgerIn b (set meter (r .minute .0) (r .kw .0)) .reading m ≡ later (ledgerIn b meter .reading m) (readingIn (readingᶜ r) m)
+  reading-at : (r : Reading) → r .minute .0 < bookSpan b → bookSpan b ≤ roomIn meter → T (isReading (r .kw .0)) → (m : ℕ)
+      → ledgerIn b (putMeter meter (readingᶜ r)) .reading m ≡ later (ledgerIn b meter .reading m) (readingIn (readingᶜ r) m)
   unfolding ledgerIn bookSpan later
   reading-at r h k ok m = go (eqb (r .minute .0) m) refl
     where
       span : ℕ
       span = bookSpan b
 
-      after : List ℤ
-      after = set meter (r .minute .0) (r .kw .0)
+      after : Memory
+      after = putMeter meter (readingᶜ r)
 
       go : (e : Bool) → eqb (r .minute .0) m ≡ e
-          → cond (ltb m span) (cell (getD after m missing)) none ≡ later (cond (ltb m span) (cell (getD meter m missing)) none) (cond e (some (r .kw .0)) none)
+          → cond (ltb m span) (cell (kwAt after m)) none ≡ later (cond (ltb m span) (cell (kwAt meter m)) none) (cond e (some (r .kw .0)) none)
       go true e =
           let q : r .minute .0 ≡ m = eqb→eq (r .minute .0) m (to-T e) in
-          ap (λ x. cond x (cell (getD after m missing)) none) (lt-ltb m span (subst (λ x. x < span) q h))
-          ∙ ap cell (ap (λ x. getD after x missing) (sym q) ∙ getD-set-same meter (r .minute .0) (r .kw .0) missing (omega arith))
+          ap (λ x. cond x (cell (kwAt after m)) none) (lt-ltb m span (subst (λ x. x < span) q h))
+          ∙ ap cell (ap (λ x. kwAt after x) (sym q) ∙ getD-set-same (meter .cells) (r .minute .0) (r .kw .0) missing (omega arith))
           ∙ ap (λ x. cond x (some (r .kw .0)) none) (of-T (isReading (r .kw .0)) ok)
       go false e =
           ap (λ x. cond (ltb m span) (cell x) none)
-          (getD-set-other meter (r .minute .0) m (r .kw .0) missing (λ q. subst (λ x. T x) e (subst (λ x. T (eqb (r .minute .0) x)) (sym q) (eqb-refl (r .minute .0)))))
+          (getD-set-other (meter .cells) (r .minute .0) m (r .kw .0) missing (λ q. subst (λ x. T x) e (subst (λ x. T (eqb (r .minute .0) x)) (sym q) (eqb-refl (r .minute .0)))))
 
   -- other meter memory, with readings in its minutes
-  with-readings : (r : Reading) (after : List ℤ) → ((m : ℕ) → ledgerIn b after .reading m ≡ later (ledgerIn b meter .reading m) (readingIn (readingᶜ r) m))
+  with-readings : (r : Reading) (after : Memory) → ((m : ℕ) → ledgerIn b after .reading m ≡ later (ledgerIn b meter .reading m) (readingIn (readingᶜ r) m))
       → ledgerIn b after ≡ grown (ledgerIn b meter) (readingᶜ r)
   unfolding ledgerIn
   with-readings r after at i =
@@ -121,19 +120,19 @@ module _ (b : Book) (meter : List ℤ) where
         reading = λ m. at m i;
       }
 
-  pub holds-reading : (r : Reading) → r .minute .0 < bookSpan b → bookSpan b ≤ length meter → T (isReading (r .kw .0))
+  pub holds-reading : (r : Reading) → r .minute .0 < bookSpan b → bookSpan b ≤ roomIn meter → T (isReading (r .kw .0))
       → ledgerIn b (putMeter meter (readingᶜ r)) ≡ grown (ledgerIn b meter) (readingᶜ r)
-  holds-reading r h k ok = with-readings r (set meter (r .minute .0) (r .kw .0)) (reading-at r h k ok)
+  holds-reading r h k ok = with-readings r (putMeter meter (readingᶜ r)) (reading-at r h k ok)
 
   -- the marked cells give no reading
-  marked : (n m : ℕ) → cond (ltb m n) (cell (getD (replicate n missing ++ drop n meter) m missing)) none ≡ none
+  marked : (n m : ℕ) → cond (ltb m n) (cell (getD (replicate n missing ++ drop n (meter .cells)) m missing)) none ≡ none
   marked n m = go (ltb m n) refl
     where
-      go : (x : Bool) → ltb m n ≡ x → cond x (cell (getD (replicate n missing ++ drop n meter) m missing)) none ≡ none
+      go : (x : Bool) → ltb m n ≡ x → cond x (cell (getD (replicate n missing ++ drop n (meter .cells)) m missing)) none ≡ none
       go true e =
           let h : m < n = ltb→lt m n (to-T e) in
           ap cell
-          (List·getD-append (replicate n missing) (drop n meter) missing m (subst (λ x. m < x) (sym (length-replicate n missing)) h)
+          (List·getD-append (replicate n missing) (drop n (meter .cells)) missing m (subst (λ x. m < x) (sym (length-replicate n missing)) h)
           ∙ getD-replicate n m missing missing h)
       go false e = refl
 
@@ -141,7 +140,7 @@ module _ (b : Book) (meter : List ℤ) where
   pub none-below : (m : ℕ) → bookSpan b ≡ 0 → ledgerIn b meter .reading m ≡ none
   unfolding ledgerIn
   none-below m e =
-      ap (λ n. cond (ltb m n) (cell (getD meter m missing)) none) e ∙ ap (λ x. cond x (cell (getD meter m missing)) none) (leb·suc-zero m)
+      ap (λ n. cond (ltb m n) (cell (kwAt meter m)) none) e ∙ ap (λ x. cond x (cell (kwAt meter m)) none) (leb·suc-zero m)
 
   pub holds-contract : (k : Contract) → b .agreed ≡ false → bookSpan b ≡ 0
       → ledgerIn (putBook b (contractᶜ k)) (putMeter meter (contractᶜ k)) ≡ grown (ledgerIn b meter) (contractᶜ k)

@@ -1,14 +1,13 @@
 -- Entering keeps a sound book sound, whatever the meter memory: so a list of commands needs the test for 11 only once.
 use mathlib.Core.Path.{_≡_, refl, sym, ap, _∙_, subst, subst⁻¹}
 use mathlib.Core.Bool.{Bool, true, false, cond, not, _&&_, true≢false}
-use mathlib.Core.List.{List, [], _∷_}
+use mathlib.Core.List.{[], _∷_}
 use mathlib.Core.Option.{Option, none, some}
 use Prim.Native.Nat.{ℕ, _≤_}
 use native.Mathlib.Omega.{arith}
 use borrow.Author.Tests.{ltb-false}
-use lib.IntN.{ℤ}
 use lib.Dec.{ltb}
-use lib.ListN.{length}
+use Rattle.meter.specs.Meter.{Memory, roomIn}
 use Rattle.energy.specs.Lists.{isEmpty}
 use Rattle.rules.specs.Ledger.{Ledger, ledgerOf, cellsIn}
 use Rattle.rules.specs.Refusal.{refusal}
@@ -27,32 +26,32 @@ use Rattle.book.proofs.Month.{cells-is, cells-empty}
 use Rattle.book.proofs.Left.{book-reached}
 
 -- a sound book follows the commands that it is written as
-pub follows-itself : (b : Book) (meter : List ℤ) → Shaped b → sound b ≡ true → bookCells b ≤ length meter
-    → Follows (length meter) (written (ledgerIn b meter)) b meter
+pub follows-itself : (b : Book) (meter : Memory) → Shaped b → sound b ≡ true → bookCells b ≤ roomIn meter
+    → Follows (roomIn meter) (written (ledgerIn b meter)) b meter
 follows-itself b meter s e h =
     let g : Ledger = ledgerIn b meter in
-    let r : Reached (length meter) g = book-reached b meter (length meter) e h in
-    let same : g ≡ ledgerOf (written g) = sym (rewritten (length meter) g r .same) in
-    record { ledger = same; reached = subst (Reached (length meter)) same r; left = e; shaped = s; memory = refl }
+    let r : Reached (roomIn meter) g = book-reached b meter (roomIn meter) e h in
+    let same : g ≡ ledgerOf (written g) = sym (rewritten (roomIn meter) g r .same) in
+    record { ledger = same; reached = subst (Reached (roomIn meter)) same r; left = e; shaped = s; memory = refl }
 
 -- meter memory has the cells where a command is taken
-cells-held : (b : Book) (meter : List ℤ) (c : Command) → sound b ≡ true → Allowed (length meter) (ledgerIn b meter) c → bookCells b ≤ length meter
+cells-held : (b : Book) (meter : Memory) (c : Command) → sound b ≡ true → Allowed (roomIn meter) (ledgerIn b meter) c → bookCells b ≤ roomIn meter
 cells-held b meter c e a = go (b .agreed) refl
   where
-    under : (c : Command) → b .agreed ≡ true → Allowed (length meter) (ledgerIn b meter) c → cellsIn (ledgerIn b meter) ≤ length meter
+    under : (c : Command) → b .agreed ≡ true → Allowed (roomIn meter) (ledgerIn b meter) c → cellsIn (ledgerIn b meter) ≤ roomIn meter
     under (contractᶜ k) s a = absurd (second (b .agreed) s (unfold ledgerIn in a .only))
       where
         second : (x : Bool) → x ≡ true → (not (isEmpty (cond x (b .contract ∷ []) [])) && true) ≡ false → ⊥
         second true q h = unfold isEmpty in true≢false h
         second false q h = true≢false (sym q)
-    under (windowᶜ w) s a = ltb-false (length meter) (cellsIn (ledgerIn b meter)) (a .memory)
-    under (instructionᶜ i) s a = ltb-false (length meter) (cellsIn (ledgerIn b meter)) (a .memory)
-    under (defaultᶜ d) s a = ltb-false (length meter) (cellsIn (ledgerIn b meter)) (a .memory)
-    under (readingᶜ r) s a = ltb-false (length meter) (cellsIn (ledgerIn b meter)) (a .memory)
-    under closeᶜ s a = ltb-false (length meter) (cellsIn (ledgerIn b meter)) (a .memory)
+    under (windowᶜ w) s a = ltb-false (roomIn meter) (cellsIn (ledgerIn b meter)) (a .memory)
+    under (instructionᶜ i) s a = ltb-false (roomIn meter) (cellsIn (ledgerIn b meter)) (a .memory)
+    under (defaultᶜ d) s a = ltb-false (roomIn meter) (cellsIn (ledgerIn b meter)) (a .memory)
+    under (readingᶜ r) s a = ltb-false (roomIn meter) (cellsIn (ledgerIn b meter)) (a .memory)
+    under closeᶜ s a = ltb-false (roomIn meter) (cellsIn (ledgerIn b meter)) (a .memory)
 
-    go : (x : Bool) → b .agreed ≡ x → bookCells b ≤ length meter
-    go true s = subst (λ n. n ≤ length meter) (cells-is b meter s) (under c s a)
+    go : (x : Bool) → b .agreed ≡ x → bookCells b ≤ roomIn meter
+    go true s = subst (λ n. n ≤ roomIn meter) (cells-is b meter s) (under c s a)
     go false s = omega (arith, cells-empty b e s)
 
 -- what entering leaves of a sound book
@@ -60,13 +59,13 @@ pub record Kept (b : Book) : Type 0 where
   pub left : sound b ≡ true
   pub shaped : Shaped b
 
-pub kept : (b : Book) (meter : List ℤ) (c : Command) → Kept b → Kept (enterBook b meter c .entry .book)
+pub kept : (b : Book) (meter : Memory) (c : Command) → Kept b → Kept (enterBook b meter c .entry .book)
 unfolding enterBook
-kept b meter c k = go (refusal (not (sound b)) (length meter) (ledgerIn b meter) c) refl
+kept b meter c k = go (refusal (not (sound b)) (roomIn meter) (ledgerIn b meter) c) refl
   where
-    go : (o : Option ℕ) → refusal (not (sound b)) (length meter) (ledgerIn b meter) c ≡ o → Kept (enterBook b meter c .entry .book)
+    go : (o : Option ℕ) → refusal (not (sound b)) (roomIn meter) (ledgerIn b meter) c ≡ o → Kept (enterBook b meter c .entry .book)
     go none q =
-        let a : Allowed (length meter) (ledgerIn b meter) c = allowed (length meter) (ledgerIn b meter) c (ap (λ x. refusal (not x) (length meter) (ledgerIn b meter) c) (sym (k .left)) ∙ q) in
+        let a : Allowed (roomIn meter) (ledgerIn b meter) c = allowed (roomIn meter) (ledgerIn b meter) c (ap (λ x. refusal (not x) (roomIn meter) (ledgerIn b meter) c) (sym (k .left)) ∙ q) in
         let f = follow c (follows-itself b meter (k .shaped) (k .left) (cells-held b meter c (k .left) a)) in
         record { left = f .left; shaped = f .shaped }
     go (some n) q = subst⁻¹ (λ o. Kept (enteredBy o b meter c .entry .book)) q k

@@ -8,7 +8,7 @@ use native.Mathlib.Nat.{le-refl}
 use native.Mathlib.Omega.{arith}
 use lib.IntN.{ℤ}
 use lib.Dec.{T, ltb, ltb→lt}
-use lib.ListN.{length, take, getD, replicate, length-replicate, length-take}
+use lib.ListN.{length, take, replicate, length-replicate, length-take}
 use Rattle.energy.specs.Lists.{pass}
 use Rattle.energy.proofs.Tests.{to-T, of-T}
 use Rattle.commands.specs.Input.{isReading}
@@ -19,7 +19,7 @@ use Rattle.rules.specs.File.{written}
 use Rattle.rules.specs.Rewritten.{Rewritten}
 use Rattle.commands.specs.declared.entries.Command.{Command}
 use Rattle.rules.proofs.Rewritten.{rewritten}
-use Rattle.meter.specs.Meter.{putMeter, cell, missing}
+use Rattle.meter.specs.Meter.{putMeter, cell, missing, Memory, kwAt, lent}
 use Rattle.book.specs.Book.{emptyBook, bookSpan, bookCells, ledgerIn, putBook, putAll}
 use Rattle.book.specs.Sound.{sound, Shaped, Left, Left·theorem}
 use Rattle.book.specs.declared.Book.{Book}
@@ -38,7 +38,7 @@ putAll-snoc b (x ∷ t) c = putAll-snoc (putBook b x) t c
 
 -- commands taken, put into the empty book, with some meter memory that follows them
 pub record Leads (size : ℕ) (t : List Command) : Type 0 where
-  pub meter : List ℤ
+  pub meter : Memory
   pub follows : Follows size t (putAll emptyBook t) meter
 
 leads-on : (size : ℕ) (t cs : List Command) → Leads size t → Leads size (takenAfter size t cs)
@@ -59,8 +59,8 @@ unfolding taken putAll
 leads size cs =
     leads-on size [] cs
     (record {
-      meter = replicate size missing;
-      follows = subst (λ n. Follows n [] emptyBook (replicate size missing)) (length-replicate size missing) (starts (replicate size missing));
+      meter = lent (replicate size missing);
+      follows = subst (λ n. Follows n [] emptyBook (lent (replicate size missing))) (length-replicate size missing) (starts (lent (replicate size missing)));
     })
 
 left-sound : (b : Book) → Left b → T (sound b)
@@ -72,7 +72,7 @@ short : {A : Type 0} (n : ℕ) (l : List A) {most : ℕ} → n ≤ most → leng
 short n l {most} h = subst⁻¹ (λ x. x ≤ most) (length-take n l) (omega arith)
 
 -- a reading is in the span and in range
-given : (b : Book) (meter : List ℤ) (m : ℕ) (kw : ℤ) → ledgerIn b meter .reading m ≡ some kw → (m < bookSpan b) × T (isReading kw)
+given : (b : Book) (meter : Memory) (m : ℕ) (kw : ℤ) → ledgerIn b meter .reading m ≡ some kw → (m < bookSpan b) × T (isReading kw)
 unfolding ledgerIn
 given b meter m kw e = in-span (ltb m (bookSpan b)) refl e
   where
@@ -80,11 +80,11 @@ given b meter m kw e = in-span (ltb m (bookSpan b)) refl e
     in-range z true i h = let same : z ≡ kw = cc in subst (λ x. T (isReading x)) same (to-T i)
     in-range z false i h = absurd (Option·none-ne-some kw h)
 
-    in-span : (t : Bool) → ltb m (bookSpan b) ≡ t → cond t (cell (getD meter m missing)) none ≡ some kw → (m < bookSpan b) × T (isReading kw)
-    in-span true l h = (ltb→lt m (bookSpan b) (to-T l), in-range (getD meter m missing) (isReading (getD meter m missing)) refl h)
+    in-span : (t : Bool) → ltb m (bookSpan b) ≡ t → cond t (cell (kwAt meter m)) none ≡ some kw → (m < bookSpan b) × T (isReading kw)
+    in-span true l h = (ltb→lt m (bookSpan b) (to-T l), in-range (kwAt meter m) (isReading (kwAt meter m)) refl h)
     in-span false l h = absurd (Option·none-ne-some kw h)
 
-with-contract : (b : Book) (meter : List ℤ) (size : ℕ) → sound b ≡ true → b .agreed ≡ true → bookCells b ≤ size → Agreed size (ledgerIn b meter)
+with-contract : (b : Book) (meter : Memory) (size : ℕ) → sound b ≡ true → b .agreed ≡ true → bookCells b ≤ size → Agreed size (ledgerIn b meter)
 unfolding ledgerIn
 with-contract b meter size e s h =
     let t : Tables b = sound-parts b e .tables in
@@ -102,7 +102,7 @@ with-contract b meter size e s h =
       readings = λ m kw r. subst⁻¹ (λ n. (m < n) × T (isReading kw)) (span-is b meter s) (given b meter m kw r);
     }
 
-without : (b : Book) (meter : List ℤ) → sound b ≡ true → b .agreed ≡ false → Untouched (ledgerIn b meter)
+without : (b : Book) (meter : Memory) → sound b ≡ true → b .agreed ≡ false → Untouched (ledgerIn b meter)
 unfolding ledgerIn
 without b meter e s =
     let n : Empty b = sound-empty b e s in
@@ -115,7 +115,7 @@ without b meter e s =
       readings = λ m. none-below b meter m (span-empty b e s);
     }
 
-pub book-reached : (b : Book) (meter : List ℤ) (size : ℕ) → sound b ≡ true → bookCells b ≤ size → Reached size (ledgerIn b meter)
+pub book-reached : (b : Book) (meter : Memory) (size : ℕ) → sound b ≡ true → bookCells b ≤ size → Reached size (ledgerIn b meter)
 book-reached b meter size e h = go (b .agreed) refl
   where
     go : (x : Bool) → b .agreed ≡ x → Reached size (ledgerIn b meter)
@@ -125,7 +125,7 @@ book-reached b meter size e h = go (b .agreed) refl
 -- ---- a sound book is left by its own commands
 
 -- books that hold the same ledger are the same
-pub same-book : (b c : Book) (meter after : List ℤ) → Shaped b → Shaped c → sound b ≡ true → sound c ≡ true → ledgerIn b meter ≡ ledgerIn c after → b ≡ c
+pub same-book : (b c : Book) (meter after : Memory) → Shaped b → Shaped c → sound b ≡ true → sound c ≡ true → ledgerIn b meter ≡ ledgerIn c after → b ≡ c
 unfolding ledgerIn
 same-book b c meter after s s′ e e′ l =
     determined b c s s′ e e′
@@ -141,15 +141,15 @@ sound-left : (b : Book) → Shaped b → T (sound b) → Left b
 sound-left b s t =
     let size : ℕ = bookCells b in
     let e : sound b ≡ true = of-T (sound b) t in
-    let g : Ledger = ledgerIn b [] in
-    let w : Rewritten size g = rewritten size g (book-reached b [] size e (le-refl size)) in
+    let g : Ledger = ledgerIn b (lent []) in
+    let w : Rewritten size g = rewritten size g (book-reached b (lent []) size e (le-refl size)) in
     let l : Leads size (taken size (written g)) = leads size (written g) in
     let after : Book = putAll emptyBook (taken size (written g)) in
     let same : ledgerIn after (l .meter) ≡ g = l .follows .ledger ∙ ap ledgerOf (w .allTaken) ∙ w .same in
     record {
       size = size;
       commands = written g;
-      leaves = same-book b after [] (l .meter) s (l .follows .shaped) e (l .follows .left) (sym same);
+      leaves = same-book b after (lent []) (l .meter) s (l .follows .shaped) e (l .follows .left) (sym same);
     }
 
 pub left : Left·theorem

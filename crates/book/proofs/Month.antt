@@ -1,10 +1,10 @@
 -- The span of a book, and the cells that meter memory must have for it: those of its ledger.
 use mathlib.Core.Path.{_≡_, refl, sym, ap, _∙_}
 use mathlib.Core.Bool.{Bool, true, false, cond}
-use mathlib.Core.List.{List, [], _∷_}
+use mathlib.Core.List.{[], _∷_}
 use Prim.Native.Nat.{ℕ, _≤_}
 use native.Mathlib.Omega.{arith}
-use lib.IntN.{ℤ}
+use Rattle.meter.specs.Meter.{Memory}
 use Rattle.commands.specs.Input.{mostMinute}
 use Rattle.rules.specs.Ledger.{spanOf, spanIn, cellsIn}
 use Rattle.rules.proofs.Span.{cells-none, span-cells as span-below}
@@ -21,17 +21,17 @@ span-cells b = omega arith
 
 -- ---- with a contract
 
-pub span-is : (b : Book) (meter : List ℤ) → b .agreed ≡ true → spanIn (ledgerIn b meter) ≡ bookSpan b
+pub span-is : (b : Book) (meter : Memory) → b .agreed ≡ true → spanIn (ledgerIn b meter) ≡ bookSpan b
 unfolding spanIn bookSpan
 span-is b meter s = ap spanOf (contract-is b meter s)
 
-pub cells-is : (b : Book) (meter : List ℤ) → b .agreed ≡ true → cellsIn (ledgerIn b meter) ≡ bookCells b
+pub cells-is : (b : Book) (meter : Memory) → b .agreed ≡ true → cellsIn (ledgerIn b meter) ≡ bookCells b
 unfolding cellsIn bookCells
 cells-is b meter s = ap spanOf (contract-is b meter s)
 
 -- ---- without one
 
-none : (b : Book) (meter : List ℤ) → b .agreed ≡ false → cellsIn (ledgerIn b meter) ≡ 0
+none : (b : Book) (meter : Memory) → b .agreed ≡ false → cellsIn (ledgerIn b meter) ≡ 0
 unfolding ledgerIn
 none b meter s = cells-none (ledgerIn b meter) (ap (λ x. cond x (b .contract ∷ []) []) s)
 
@@ -44,14 +44,14 @@ span-empty b e s = omega (arith, span-cells b, cells-empty b e s)
 
 -- ---- of a sound book
 
-pub span-sound : (b : Book) (meter : List ℤ) → sound b ≡ true → spanIn (ledgerIn b meter) ≡ bookSpan b
+pub span-sound : (b : Book) (meter : Memory) → sound b ≡ true → spanIn (ledgerIn b meter) ≡ bookSpan b
 span-sound b meter e = go (b .agreed) refl
   where
     go : (x : Bool) → b .agreed ≡ x → spanIn (ledgerIn b meter) ≡ bookSpan b
     go true s = span-is b meter s
     go false s = omega (arith, span-below (ledgerIn b meter), none b meter s, span-empty b e s)
 
-pub cells-sound : (b : Book) (meter : List ℤ) → sound b ≡ true → cellsIn (ledgerIn b meter) ≡ bookCells b
+pub cells-sound : (b : Book) (meter : Memory) → sound b ≡ true → cellsIn (ledgerIn b meter) ≡ bookCells b
 cells-sound b meter e = go (b .agreed) refl
   where
     go : (x : Bool) → b .agreed ≡ x → cellsIn (ledgerIn b meter) ≡ bookCells b

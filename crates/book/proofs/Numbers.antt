@@ -8,7 +8,7 @@ use Prim.Native.Nat.{ℕ, zero, suc, _≤_}
 use native.Mathlib.Omega.{arith}
 use lib.IntN.{ℤ}
 use lib.Dec.{T, eqb, ltb}
-use lib.ListN.{length, getD, drop, take}
+use lib.ListN.{length, drop, take}
 use lib.Seq.{length-take-le}
 use borrow.Author.Tests.{ne-eqb}
 use Rattle.energy.specs.Lists.{first, isEmpty, isSome}
@@ -24,7 +24,7 @@ use Rattle.commands.specs.declared.entries.Reading.{Reading}
 use Rattle.commands.specs.declared.entries.Command.{Command}
 use Rattle.commands.specs.declared.entries.Command.the-variants.{Contract as contractᶜ, Window as windowᶜ, Instruction as instructionᶜ, Default as defaultᶜ, Reading as readingᶜ, Close as closeᶜ}
 use Rattle.energy.proofs.Tests.{T-and}
-use Rattle.meter.specs.Meter.{missing}
+use Rattle.meter.specs.Meter.{Memory, roomIn, kwAt}
 use Rattle.book.specs.Book.{bookSpan, bookCells, ledgerIn}
 use Rattle.entering.specs.Numbers.{firstNumber, windowNumber, instructionNumber, defaultNumber, readingNumber}
 use Rattle.book.specs.Numbers.{refusalOf}
@@ -55,13 +55,13 @@ lowest-number (c ∷ cs) = go (c .holds) (lowest-number cs)
     go false e = e
 
 -- what a command meets in a book after 15
-abbrev pub laterConditions : Book → List ℤ → Command → List Condition
+abbrev pub laterConditions : Book → Memory → Command → List Condition
 laterConditions b meter c = kindConditions (ledgerIn b meter) c
 
 -- the number from 3 to 15, of any command to a book
-abbrev pub firstOf : Book → List ℤ → Command → ℕ
+abbrev pub firstOf : Book → Memory → Command → ℕ
 firstOf b meter c =
-    firstNumber (inputRefusal c) (sound b) (b .closed) (b .agreed) (isContract c) (ltb (length meter) (onContract spanOf (always (bookCells b)) c))
+    firstNumber (inputRefusal c) (sound b) (b .closed) (b .agreed) (isContract c) (ltb (roomIn meter) (onContract spanOf (always (bookCells b)) c))
 
 -- of two lists of conditions the first decides, and where none of it holds the second
 numbers-append : (xs ys : List Condition) → T (numbered xs) → numbers (xs ++ ys) ≡ cond (eqb (numbers xs) 0) (numbers ys) (numbers xs)
@@ -98,7 +98,7 @@ from-input zero s z a f t rest = refl
 from-input (suc n) s z a f t rest = rw (ne-eqb (suc n) 0 (λ q. omega arith)) (rw (ne-eqb (suc n) 0 (λ q. omega arith)) refl)
 
 -- the cells that 15 asks for are the book's, or a contract's own
-cells-asked : (b : Book) (meter : List ℤ) (c : Command) → isContract c ≡ true → cellsFor (ledgerIn b meter) c ≡ onContract spanOf (always (bookCells b)) c
+cells-asked : (b : Book) (meter : Memory) (c : Command) → isContract c ≡ true → cellsFor (ledgerIn b meter) c ≡ onContract spanOf (always (bookCells b)) c
 cells-asked b meter (contractᶜ k) e = refl
 cells-asked b meter (windowᶜ w) e = absurd (false≢true e)
 cells-asked b meter (instructionᶜ i) e = absurd (false≢true e)
@@ -107,19 +107,19 @@ cells-asked b meter (readingᶜ r) e = absurd (false≢true e)
 cells-asked b meter closeᶜ e = absurd (false≢true e)
 
 -- conditions up to 15 come first
-pub by-first : (b : Book) (meter : List ℤ) (c : Command)
+pub by-first : (b : Book) (meter : Memory) (c : Command)
     → refusalOf b meter c ≡ cond (eqb (firstOf b meter c) 0) (numbers (laterConditions b meter c)) (firstOf b meter c)
 unfolding refusalOf refusal conditions numbers ledgerIn inputRefusal
 by-first b meter c =
-    let short : Bool = ltb (length meter) (onContract spanOf (always (bookCells b)) c) in
+    let short : Bool = ltb (roomIn meter) (onContract spanOf (always (bookCells b)) c) in
     let rest : ℕ = numbers (laterConditions b meter c) in
-    lowest-number (conditions (not (sound b)) (length meter) (ledgerIn b meter) c)
-    ∙ numbers-append (inputConditions c) (bookConditions (not (sound b)) (length meter) (ledgerIn b meter) c ++ laterConditions b meter c) tt
-    ∙ ap (λ n. cond (eqb n 0) (numbers (bookConditions (not (sound b)) (length meter) (ledgerIn b meter) c ++ laterConditions b meter c)) n) (sym (lowest-number (inputConditions c)))
+    lowest-number (conditions (not (sound b)) (roomIn meter) (ledgerIn b meter) c)
+    ∙ numbers-append (inputConditions c) (bookConditions (not (sound b)) (roomIn meter) (ledgerIn b meter) c ++ laterConditions b meter c) tt
+    ∙ ap (λ n. cond (eqb n 0) (numbers (bookConditions (not (sound b)) (roomIn meter) (ledgerIn b meter) c ++ laterConditions b meter c)) n) (sym (lowest-number (inputConditions c)))
     ∙ ap (λ m. cond (eqb (inputRefusal c) 0) m (inputRefusal c))
-    (from-book (b .contract) (sound b) (b .closed) (b .agreed) (isContract c) short (ltb (length meter) (cellsFor (ledgerIn b meter) c)) rest
-    (λ e. ap (λ n. ltb (length meter) (onContract spanOf (always n) c)) (cells-is b meter e))
-    (λ e. ap (ltb (length meter)) (cells-asked b meter c e)))
+    (from-book (b .contract) (sound b) (b .closed) (b .agreed) (isContract c) short (ltb (roomIn meter) (cellsFor (ledgerIn b meter) c)) rest
+    (λ e. ap (λ n. ltb (roomIn meter) (onContract spanOf (always n) c)) (cells-is b meter e))
+    (λ e. ap (ltb (roomIn meter)) (cells-asked b meter c e)))
     ∙ from-input (inputRefusal c) (sound b) (b .closed) (b .agreed) (isContract c) short rest
 
 -- ---- where no condition up to 15 holds
@@ -144,7 +144,7 @@ past zero false c a f s e = absurd (omega arith)
 past (suc n) l c a f s e = let q : suc n ≡ 0 = rw (ne-eqb (suc n) 0 (λ h. omega arith)) at e in absurd (omega arith)
 
 -- what is then known of a command to a book
-pub record Late (b : Book) (meter : List ℤ) (c : Command) : Type 0 where
+pub record Late (b : Book) (meter : Memory) (c : Command) : Type 0 where
   pub leaves : sound b ≡ true
   pub contracted : b .agreed ≡ not (isContract c)
   pub number : refusalOf b meter c ≡ numbers (laterConditions b meter c)
@@ -153,7 +153,7 @@ zero-or : (n : ℕ) → cond (eqb n 0) 0 n ≡ n
 zero-or zero = refl
 zero-or (suc n) = rw (ne-eqb (suc n) 0 (λ h. omega arith))
 
-module _ (b : Book) (meter : List ℤ) (c : Command) where
+module _ (b : Book) (meter : Memory) (c : Command) where
   -- a number up to 15 is the refusal
   pub met-first : (n : ℕ) → n ≡ firstOf b meter c → n ≢ 0 → n ≡ refusalOf b meter c
   met-first n e h = sym (by-first b meter c ∙ rw (← e, ne-eqb n 0 h))
@@ -161,7 +161,7 @@ module _ (b : Book) (meter : List ℤ) (c : Command) where
   -- without one, the conditions after 15 decide
   pub met-late : (n : ℕ) → n ≡ firstOf b meter c → n ≡ 0 → Late b meter c
   met-late n e z =
-      let p = past (inputRefusal c) (sound b) (b .closed) (b .agreed) (isContract c) (ltb (length meter) (onContract spanOf (always (bookCells b)) c)) (sym e ∙ z) in
+      let p = past (inputRefusal c) (sound b) (b .closed) (b .agreed) (isContract c) (ltb (roomIn meter) (onContract spanOf (always (bookCells b)) c)) (sym e ∙ z) in
       record { leaves = p .leaves; contracted = p .contracted; number = by-first b meter c ∙ rw (sym e ∙ z) }
 
   -- without such conditions, the number up to 15 does
@@ -176,7 +176,7 @@ read true true z = refl
 read true false z = refl
 read false b z = refl
 
-module _ (b : Book) (meter : List ℤ) (s : b .agreed ≡ true) where
+module _ (b : Book) (meter : Memory) (s : b .agreed ≡ true) where
   pub window-later : (w : Window) → numbers (laterConditions b meter (windowᶜ w)) ≡ windowNumber (b .contract) (bookSpan b) (take (b .nwindows) (b .windows)) w
   unfolding numbers conditions ledgerIn windowNumber
   window-later w = rw (contract-is b meter s, span-is b meter s)
@@ -193,13 +193,13 @@ module _ (b : Book) (meter : List ℤ) (s : b .agreed ≡ true) where
 
   pub reading-later : (r : Reading) → numbers (laterConditions b meter (readingᶜ r)) ≡ readingNumber (bookSpan b) meter r
   unfolding numbers conditions ledgerIn readingNumber
-  reading-later r = rw (span-is b meter s, read (ltb (r .minute .0) (bookSpan b)) (isReading (getD meter (r .minute .0) missing)) (getD meter (r .minute .0) missing))
+  reading-later r = rw (span-is b meter s, read (ltb (r .minute .0) (bookSpan b)) (isReading (kwAt meter (r .minute .0))) (kwAt meter (r .minute .0)))
 
 -- the others have none
-pub contract-later : (b : Book) (meter : List ℤ) (k : Contract) → numbers (laterConditions b meter (contractᶜ k)) ≡ 0
+pub contract-later : (b : Book) (meter : Memory) (k : Contract) → numbers (laterConditions b meter (contractᶜ k)) ≡ 0
 unfolding numbers conditions
 contract-later b meter k = refl
 
-pub close-later : (b : Book) (meter : List ℤ) → numbers (laterConditions b meter closeᶜ) ≡ 0
+pub close-later : (b : Book) (meter : Memory) → numbers (laterConditions b meter closeᶜ) ≡ 0
 unfolding numbers conditions
 close-later b meter = refl

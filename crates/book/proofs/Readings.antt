@@ -1,12 +1,9 @@
 -- A reading that is taken by its book's open span: what is known of it, and that entering it does the same.
 use mathlib.Core.Path.{_≡_, ap, refl, sym, _∙_}
 use mathlib.Core.Bool.{Bool, true, false, not, _&&_, cond, false≢true}
-use mathlib.Core.List.{List}
 use Prim.Native.Nat.{ℕ, _≤_, _<_}
 use native.Mathlib.Omega.{arith}
-use lib.IntN.{ℤ}
 use lib.Dec.{eqb, leb, ltb}
-use lib.ListN.{length}
 use borrow.Author.Tests.{leb-true, lt-ltb, le-ltb, lt-leb}
 use Rattle.book.specs.Book.{bookSpan, bookCells}
 use Rattle.commands.specs.Input.{inputRefusal}
@@ -14,7 +11,7 @@ use Rattle.rules.specs.declared.answer.Answer.the-variants.{Taken}
 use Rattle.commands.specs.declared.entries.Reading.{Reading}
 use Rattle.commands.specs.declared.entries.Command.{Command}
 use Rattle.commands.specs.declared.entries.Command.the-variants.{Contract as contractᶜ, Window as windowᶜ, Instruction as instructionᶜ, Default as defaultᶜ, Reading as readingᶜ, Close as closeᶜ}
-use Rattle.meter.specs.Meter.{putMeter, takesReading}
+use Rattle.meter.specs.Meter.{putMeter, takesReading, Memory, roomIn}
 use Rattle.book.specs.Enter.{Entered, enterBook}
 use Rattle.entering.specs.Numbers.{firstNumber, readingNumber}
 use Rattle.book.specs.Numbers.{refusalOf}
@@ -57,24 +54,24 @@ first-none : (input : ℕ) (left closed agreed short : Bool) → eqb input 0 ≡
 unfolding firstNumber
 first-none input left closed agreed short p q r s t = rw (p, q, r, s, t)
 
-module _ (b : Book) (meter : List ℤ) (s : sound b ≡ true) (r : Reading) (t : takesReading (openSpan b (length meter)) meter (readingᶜ r) ≡ true) where
+module _ (b : Book) (meter : Memory) (s : sound b ≡ true) (r : Reading) (t : takesReading (openSpan b (roomIn meter)) meter (readingᶜ r) ≡ true) where
   -- no condition holds
   unrefused : refusalOf b meter (readingᶜ r) ≡ 0
   unfolding readingNumber
   unrefused =
-      let p = tests (openSpan b (length meter)) meter r t in
-      let o = opened b (length meter) (r .minute .0) (p .inside) in
+      let p = tests (openSpan b (roomIn meter)) meter r t in
+      let o = opened b (roomIn meter) (r .minute .0) (p .inside) in
       let first : firstOf b meter (readingᶜ r) ≡ 0 =
-      first-none (inputRefusal (readingᶜ r)) (sound b) (b .closed) (b .agreed) (ltb (length meter) (bookCells b)) (p .input) s (o .unclosed) (o .agreed) (le-ltb (length meter) (bookCells b) (o .fits)) in
+      first-none (inputRefusal (readingᶜ r)) (sound b) (b .closed) (b .agreed) (ltb (roomIn meter) (bookCells b)) (p .input) s (o .unclosed) (o .agreed) (le-ltb (roomIn meter) (bookCells b) (o .fits)) in
       let below : r .minute .0 < bookSpan b = omega (arith, p .inside, o .whole) in
       met-late b meter (readingᶜ r) 0 (sym first) refl .number ∙ reading-later b meter (o .agreed) r
       ∙ rw (lt-leb (bookSpan b) (r .minute .0) below, lt-ltb (r .minute .0) (bookSpan b) below, p .unread)
 
-entered-is : (x : Entered) (e : Entry) (m : List ℤ) → e ≡ x .entry → m ≡ x .meter → x ≡ record { entry = e; meter = m }
+entered-is : (x : Entered) (e : Entry) (m : Memory) → e ≡ x .entry → m ≡ x .meter → x ≡ record { entry = e; meter = m }
 entered-is x e m p q i = record { entry = sym p i; meter = sym q i }
 
 -- a sound book takes it, and is as it was
-pub reading-enters : (b : Book) (meter : List ℤ) (c : Command) → sound b ≡ true → takesReading (openSpan b (length meter)) meter c ≡ true
+pub reading-enters : (b : Book) (meter : Memory) (c : Command) → sound b ≡ true → takesReading (openSpan b (roomIn meter)) meter c ≡ true
     → enterBook b meter c ≡ record { entry = record { answer = Taken; book = b }; meter = putMeter meter c }
 unfolding takesReading
 reading-enters b meter (contractᶜ k) s t = absurd (false≢true t)

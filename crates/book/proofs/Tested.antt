@@ -6,6 +6,7 @@ use Prim.Native.Nat.{ℕ, _≤_}
 use lib.IntN.{ℤ, pos, negsuc}
 use lib.Dec.{T, eqb→eq, leb→le, le→leb}
 use lib.ListN.{take, drop}
+use Rattle.meter.specs.Meter.{Memory}
 use Rattle.energy.specs.Lists.{all, first, pass}
 use Rattle.energy.proofs.Tests.{to-T, of-T, T-and, and-T, passes, passed}
 use Rattle.rules.specs.Ledger.{contractOf, noContract}
@@ -90,7 +91,7 @@ sound-used b e s =
     (subst (λ x. T (pass (contents b x))) s (sound-parts b e .contents))
 
 -- what the ledger calls its contract
-pub contract-is : (b : Book) (meter : List ℤ) → b .agreed ≡ true → contractOf (ledgerIn b meter) ≡ b .contract
+pub contract-is : (b : Book) (meter : Memory) → b .agreed ≡ true → contractOf (ledgerIn b meter) ≡ b .contract
 unfolding contractOf ledgerIn first
 contract-is b meter s = ap (λ x. first noContract (cond x (b .contract ∷ []) [])) s
 

@@ -3,14 +3,13 @@ use mathlib.Core.Bool.{true, false, cond}
 use mathlib.Core.List.{List, [], _∷_}
 use mathlib.Core.Option.{none}
 use Prim.Native.Nat.{ℕ, _+_}
-use lib.IntN.{ℤ}
 use lib.Dec.{ltb}
-use lib.ListN.{getD, take, set, replicate}
+use lib.ListN.{take, set, replicate}
 use Rattle.rules.specs.Ledger.{Ledger, noContract, spanOf}
 use Rattle.commands.specs.Command.{onContract, onWindow, onInstruction, onDefault, onClose, always}
 use Rattle.commands.specs.declared.entries.Command.{Command}
 pub use Rattle.rules.specs.Ledger.{noWindow, noInstruction, noDefault}
-use Rattle.meter.specs.Meter.{missing, cell}
+use Rattle.meter.specs.Meter.{cell, Memory, kwAt}
 use Rattle.book.specs.declared.Book.{Book}
 
 -- the empty book: no contract, and zeros
@@ -39,7 +38,7 @@ unfoldable pub bookCells : Book → ℕ
 bookCells b = spanOf (b .contract)
 
 -- the ledger of a book and meter memory. Cells past the span are no readings
-unfoldable pub ledgerIn : Book → List ℤ → Ledger
+unfoldable pub ledgerIn : Book → Memory → Ledger
 ledgerIn b meter =
     record {
       contracts = cond (b .agreed) (b .contract ∷ []) [];
@@ -47,7 +46,7 @@ ledgerIn b meter =
       instructions = take (b .ninstructions) (b .instructions);
       defaults = take (b .ndefaults) (b .defaults);
       closed = b .closed;
-      reading = λ m. cond (ltb m (bookSpan b)) (cell (getD meter m missing)) none;
+      reading = λ m. cond (ltb m (bookSpan b)) (cell (kwAt meter m)) none;
     }
 
 -- ---- a taken command put into the book

@@ -1,14 +1,11 @@
 -- "A book takes a command and hands back the book after it": answer, book and meter memory after, by one equation over the rules.
 use mathlib.Core.Path.{_≡_}
 use mathlib.Core.Bool.{not}
-use mathlib.Core.List.{List}
 use mathlib.Core.Option.{Option, none, some}
 use Prim.Native.Nat.{ℕ}
-use lib.IntN.{ℤ}
-use lib.ListN.{length}
 use Rattle.rules.specs.Refusal.{refusal, answerOf}
 use Rattle.commands.specs.declared.entries.Command.{Command}
-use Rattle.meter.specs.Meter.{putMeter}
+use Rattle.meter.specs.Meter.{putMeter, Memory, roomIn}
 use Rattle.book.specs.Book.{ledgerIn, putBook}
 use Rattle.book.specs.Sound.{sound}
 use Rattle.book.specs.declared.Book.{Book}
@@ -17,18 +14,18 @@ use Rattle.book.specs.declared.Entry.{Entry}
 -- the answer with the book after it, and meter memory after it
 pub record Entered : Type 0 where
   pub entry : Entry
-  pub meter : List ℤ
+  pub meter : Memory
 
 -- a command refused under a number changes nothing; one that is not is put into both
-abbrev pub enteredBy : Option ℕ → Book → List ℤ → Command → Entered
+abbrev pub enteredBy : Option ℕ → Book → Memory → Command → Entered
 enteredBy none b meter c = record { entry = record { answer = answerOf none; book = putBook b c }; meter = putMeter meter c }
 enteredBy (some n) b meter c = record { entry = record { answer = answerOf (some n); book = b }; meter = meter }
 
 -- entering a command
-unfoldable pub enterBook : Book → List ℤ → Command → Entered
-enterBook b meter c = enteredBy (refusal (not (sound b)) (length meter) (ledgerIn b meter) c) b meter c
+unfoldable pub enterBook : Book → Memory → Command → Entered
+enterBook b meter c = enteredBy (refusal (not (sound b)) (roomIn meter) (ledgerIn b meter) c) b meter c
 
 -- what a method promises: its entry, and meter memory after it
-pub record Enters (b : Book) (before : List ℤ) (c : Command) (e : Entry) (after : List ℤ) : Type 0 where
+pub record Enters (b : Book) (before : Memory) (c : Command) (e : Entry) (after : Memory) : Type 0 where
   pub entry : e ≡ enterBook b before c .entry
   pub meter : after ≡ enterBook b before c .meter

@@ -1,5 +1,6 @@
 // The contract of a book.
 ghost use mathlib.Core.Path.{_≡_};
+ghost use Rattle.meter.specs.Meter.{lent};
 ghost use Rattle.book.specs.Enter.{Enters};
 ghost use Rattle.book.specs.Numbers.{refusalOf};
 ghost use Rattle.book.specs.Sound.{sound};
@@ -14,7 +15,7 @@ use tables::agreement::span_of;
 impl Book {
     // Enters a contract.
     pub fn contract(self, k: Contract, meter: &mut [i32]) -> Entry
-        ensures { λ r. ⌜ Enters self (now (meter .entry)) (Command.Contract k) r (now (meter .exit)) ⌝ }
+        ensures { λ r. ⌜ Enters self (lent (now (meter .entry))) (Command.Contract k) r (lent (now (meter .exit))) ⌝ }
     {
         let left = self.sound();
         self.enter_contract(left, k, meter)
@@ -23,7 +24,7 @@ impl Book {
     // The same where it is known whether commands leave the book.
     pub(crate) fn enter_contract(mut self, left: bool, k: Contract, meter: &mut [i32]) -> Entry
         requires { ⌜ left ≡ sound self ⌝ }
-        ensures { λ r. ⌜ Enters self (now (meter .entry)) (Command.Contract k) r (now (meter .exit)) ⌝ }
+        ensures { λ r. ⌜ Enters self (lent (now (meter .entry))) (Command.Contract k) r (lent (now (meter .exit))) ⌝ }
     {
         let number = self.contract_refusal(left, k, meter);
         if number != 0 {
@@ -38,7 +39,7 @@ impl Book {
     // The lowest refusal that a contract meets, 0 for none.
     fn contract_refusal(self, left: bool, k: Contract, meter: &[i32]) -> u8
         requires { ⌜ left ≡ sound self ⌝ }
-        ensures { λ r. ⌜ r ≡ refusalOf self (now (meter .entry)) (Command.Contract k) ⌝ }
+        ensures { λ r. ⌜ r ≡ refusalOf self (lent (now (meter .entry))) (Command.Contract k) ⌝ }
     {
         first_number(
             k.input_refusal(),

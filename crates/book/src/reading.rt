@@ -1,5 +1,6 @@
 // Readings: the book is asked for its span and its refusals, and stays as it is.
 ghost use mathlib.Core.Path.{_≡_};
+ghost use Rattle.meter.specs.Meter.{lent};
 ghost use Rattle.book.specs.Enter.{Enters};
 ghost use Rattle.book.specs.Numbers.{refusalOf};
 ghost use Rattle.book.specs.Readings.{openSpan};
@@ -14,7 +15,7 @@ use meter::put_reading;
 impl Book {
     // Enters a reading.
     pub fn reading(self, r: Reading, meter: &mut [i32]) -> Entry
-        ensures { λ e. ⌜ Enters self (now (meter .entry)) (Command.Reading r) e (now (meter .exit)) ⌝ }
+        ensures { λ e. ⌜ Enters self (lent (now (meter .entry))) (Command.Reading r) e (lent (now (meter .exit))) ⌝ }
     {
         let left = self.sound();
         self.enter_reading(left, r, meter)
@@ -23,7 +24,7 @@ impl Book {
     // The same where it is known whether commands leave the book.
     pub(crate) fn enter_reading(self, left: bool, r: Reading, meter: &mut [i32]) -> Entry
         requires { ⌜ left ≡ sound self ⌝ }
-        ensures { λ e. ⌜ Enters self (now (meter .entry)) (Command.Reading r) e (now (meter .exit)) ⌝ }
+        ensures { λ e. ⌜ Enters self (lent (now (meter .entry))) (Command.Reading r) e (lent (now (meter .exit))) ⌝ }
     {
         let number = self.reading_refusal(left, r, meter);
         if number != 0 {
@@ -36,7 +37,7 @@ impl Book {
     // The lowest refusal that a reading meets, 0 for none.
     fn reading_refusal(self, left: bool, r: Reading, meter: &[i32]) -> u8
         requires { ⌜ left ≡ sound self ⌝ }
-        ensures { λ n. ⌜ n ≡ refusalOf self (now (meter .entry)) (Command.Reading r) ⌝ }
+        ensures { λ n. ⌜ n ≡ refusalOf self (lent (now (meter .entry))) (Command.Reading r) ⌝ }
     {
         let first = self.first_refusal(left, r.input_refusal(), meter);
         if first != 0 {

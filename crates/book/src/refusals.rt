@@ -2,7 +2,7 @@
 ghost use mathlib.Core.Path.{_≡_};
 ghost use mathlib.Core.Bool.{false};
 ghost use lib.Dec.{ltb};
-ghost use lib.ListN.{length};
+ghost use Rattle.meter.specs.Meter.{lent, roomIn};
 ghost use Rattle.entering.specs.Numbers.{firstNumber};
 ghost use Rattle.book.specs.Book.{bookCells};
 use crate::Book;
@@ -13,7 +13,7 @@ use rules::answer::Answer;
 impl Book {
     // What a command that is no contract meets up to 15.
     pub(crate) fn first_refusal(self, left: bool, input: u8, meter: &[i32]) -> u8
-        ensures { λ r. ⌜ r ≡ firstNumber input left (self .closed) (self .agreed) false (ltb (length (now (meter .entry))) (bookCells self)) ⌝ }
+        ensures { λ r. ⌜ r ≡ firstNumber input left (self .closed) (self .agreed) false (ltb (roomIn (lent (now (meter .entry)))) (bookCells self)) ⌝ }
     {
         first_number(
             input,

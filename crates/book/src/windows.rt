@@ -1,5 +1,6 @@
 // The table of windows.
 ghost use mathlib.Core.Path.{_≡_};
+ghost use Rattle.meter.specs.Meter.{lent};
 ghost use Rattle.book.specs.Enter.{Enters};
 ghost use Rattle.book.specs.Numbers.{refusalOf};
 ghost use Rattle.book.specs.Sound.{sound};
@@ -12,7 +13,7 @@ use entering::windows::window_number;
 impl Book {
     // Enters a window.
     pub fn window(self, w: Window, meter: &[i32]) -> Entry
-        ensures { λ r. ⌜ Enters self (now (meter .entry)) (Command.Window w) r (now (meter .exit)) ⌝ }
+        ensures { λ r. ⌜ Enters self (lent (now (meter .entry))) (Command.Window w) r (lent (now (meter .exit))) ⌝ }
     {
         let left = self.sound();
         self.enter_window(left, w, meter)
@@ -21,7 +22,7 @@ impl Book {
     // The same where it is known whether commands leave the book.
     pub(crate) fn enter_window(mut self, left: bool, w: Window, meter: &[i32]) -> Entry
         requires { ⌜ left ≡ sound self ⌝ }
-        ensures { λ r. ⌜ Enters self (now (meter .entry)) (Command.Window w) r (now (meter .exit)) ⌝ }
+        ensures { λ r. ⌜ Enters self (lent (now (meter .entry))) (Command.Window w) r (lent (now (meter .exit))) ⌝ }
     {
         let number = self.window_refusal(left, w, meter);
         if number != 0 {
@@ -36,7 +37,7 @@ impl Book {
     // The lowest refusal that a window meets, 0 for none.
     fn window_refusal(self, left: bool, w: Window, meter: &[i32]) -> u8
         requires { ⌜ left ≡ sound self ⌝ }
-        ensures { λ r. ⌜ r ≡ refusalOf self (now (meter .entry)) (Command.Window w) ⌝ }
+        ensures { λ r. ⌜ r ≡ refusalOf self (lent (now (meter .entry))) (Command.Window w) ⌝ }
     {
         let first = self.first_refusal(left, w.input_refusal(), meter);
         if first != 0 {

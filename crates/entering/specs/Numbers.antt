@@ -2,9 +2,8 @@
 use mathlib.Core.Bool.{Bool, not, _&&_, cond}
 use mathlib.Core.List.{List}
 use Prim.Native.Nat.{ℕ}
-use lib.IntN.{ℤ}
 use lib.Dec.{eqb, leb, ltb}
-use lib.ListN.{length, getD}
+use lib.ListN.{length}
 use Rattle.energy.specs.Lists.{any, last}
 use Rattle.commands.specs.Input.{isReading}
 use Rattle.commands.specs.declared.contract.Contract.{Contract}
@@ -14,7 +13,7 @@ use Rattle.commands.specs.declared.entries.Default.{Default}
 use Rattle.commands.specs.declared.entries.Reading.{Reading}
 use Rattle.rules.specs.Ledger.{expiry, endOf, within, noWindow}
 use Rattle.rules.specs.Refusal.{recovered}
-use Rattle.meter.specs.Meter.{missing}
+use Rattle.meter.specs.Meter.{Memory, kwAt}
 
 -- what any command meets before the conditions of its own kind: the number from its input, then 11 to 15. left: commands leave the book;
 -- first: the command is a contract; short: meter memory has too few cells
@@ -51,7 +50,7 @@ defaultNumber span ws n d =
     (cond (leb 128 n) 23 0))
 
 -- a reading beside those in meter memory
-unfoldable pub readingNumber : ℕ → List ℤ → Reading → ℕ
+unfoldable pub readingNumber : ℕ → Memory → Reading → ℕ
 readingNumber span meter r =
     cond (leb span (r .minute .0)) 16
-    (cond (ltb (r .minute .0) span && isReading (getD meter (r .minute .0) missing)) 22 0)
+    (cond (ltb (r .minute .0) span && isReading (kwAt meter (r .minute .0))) 22 0)

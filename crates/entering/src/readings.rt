@@ -1,5 +1,6 @@
 // A reading beside those in meter memory.
 ghost use mathlib.Core.Path.{_≡_};
+ghost use Rattle.meter.specs.Meter.{lent};
 ghost use Rattle.entering.specs.Numbers.{readingNumber};
 use commands::checks::kw_from_to;
 use commands::checks::pick;
@@ -9,7 +10,7 @@ use meter::cell;
 
 // 16 and 22.
 pub fn reading_number(span: usize, r: Reading, meter: &[i32]) -> u8
-    ensures { λ n. ⌜ n ≡ readingNumber span (now (meter .entry)) r ⌝ }
+    ensures { λ n. ⌜ n ≡ readingNumber span (lent (now (meter .entry))) r ⌝ }
 {
     let minute = r.minute;
     let at = minute.0 as usize;

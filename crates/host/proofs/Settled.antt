@@ -8,6 +8,7 @@ use lib.Dec.{ltb}
 use lib.IntN.{ℤ}
 use lib.ListN.{length, drop}
 use borrow.Author.Tests.{ltb-false}
+use Rattle.meter.specs.Meter.{Memory}
 use Rattle.rules.specs.Ledger.{Ledger}
 use Rattle.commands.specs.Input.{_when_, lowest}
 use Rattle.rules.specs.Segment.{segments}
@@ -35,12 +36,12 @@ few-by false false false true g memory room r e = omega arith
 few-by false false false false g memory room true e = omega arith
 few-by false false false false g memory room false e = omega (arith, ltb-false room (length (segments g)) e, lines-segments g)
 
-pub few-lines : (b : Book) (meter memory : List ℤ) → numberBook b meter memory .settlement .statement .lines ≤ length memory / 8
+pub few-lines : (b : Book) (meter : Memory) (memory : List ℤ) → numberBook b meter memory .settlement .statement .lines ≤ length memory / 8
 unfolding numberBook settleRefusal settleConditions
 few-lines b meter memory = few-by (not (sound b)) _ _ _ (ledgerIn b meter) memory (length memory / 8) _ refl
 
 -- settling a book, by the answer of the settlement
-module _ (b : Book) (meter lines sums lines′ : List ℤ) (s : Settlement) (es : s ≡ numberBook b meter lines .settlement) (el : lines′ ≡ numberBook b meter lines .memory) where
+module _ (b : Book) (meter : Memory) (lines sums lines′ : List ℤ) (s : Settlement) (es : s ≡ numberBook b meter lines .settlement) (el : lines′ ≡ numberBook b meter lines .memory) where
   answered : (a : Answer) → s .answer ≡ a → numberBook b meter lines .settlement .answer ≡ a
   answered a e = ap (λ (z : Settlement). z .answer) (sym es) ∙ e
 

@@ -5,6 +5,7 @@ use Prim.Native.Nat.{ℕ}
 use lib.Dec.{ltb}
 use lib.IntN.{ℤ}
 use lib.ListN.{length, drop}
+use Rattle.meter.specs.Meter.{Memory}
 use Rattle.rules.specs.declared.answer.Answer.{Answer}
 use Rattle.rules.specs.declared.answer.Answer.the-variants.{Taken, Refused}
 use Rattle.rules.specs.declared.statement.Statement.{Statement}
@@ -22,10 +23,10 @@ use Rattle.writer.specs.Write.{WrittenBytes, writeBook}
 -- the answer, and meter memory after it
 pub record EnteredFile : Type 0 where
   pub answer : ℕ
-  pub meter : List ℤ
+  pub meter : Memory
 
 -- a file's commands, entered into the empty book up to the file's end or the first refusal
-unfoldable pub enterFile : List ℕ → List ℤ → EnteredFile
+unfoldable pub enterFile : List ℕ → Memory → EnteredFile
 enterFile file meter =
     let l : LoadedFile = load file emptyBook meter in
     record { answer = packed (numberOf (l .loaded .answer)) (l .loaded .at); meter = l .meter }
@@ -44,7 +45,7 @@ sumsBy Taken s windows sums = sumsOf s windows ++ drop sumCount sums
 sumsBy (Refused n) s windows sums = sums
 
 -- settling a book into numbers
-unfoldable pub settleInto : Book → List ℤ → List ℤ → List ℤ → SettledBook
+unfoldable pub settleInto : Book → Memory → List ℤ → List ℤ → SettledBook
 settleInto b meter lines sums =
     let s : Numbered = numberBook b meter lines in
     record {
@@ -54,7 +55,7 @@ settleInto b meter lines sums =
     }
 
 -- the book that tables say, settled. Sums too short for a statement get 26 before all else, and tables with an entry cut short say no book: 11
-unfoldable pub settleTables : List ℕ → List ℕ → List ℕ → List ℕ → List ℤ → List ℤ → List ℤ → SettledBook
+unfoldable pub settleTables : List ℕ → List ℕ → List ℕ → List ℕ → Memory → List ℤ → List ℤ → SettledBook
 settleTables contract windows instructions defaults meter lines sums =
     cond (ltb (length sums) sumCount) (record { number = 26; lines = lines; sums = sums })
     (cond (entire (length contract) (length windows) (length instructions) (length defaults))
@@ -66,7 +67,7 @@ settleTables contract windows instructions defaults meter lines sums =
 -- the answer, and meter, line and sum memory after it
 pub record SettledFile : Type 0 where
   pub answer : ℕ
-  pub meter : List ℤ
+  pub meter : Memory
   pub lines : List ℤ
   pub sums : List ℤ
 
@@ -79,7 +80,7 @@ settlesBy (Refused n) l lines sums =
     record { answer = packed n (l .loaded .at); meter = l .meter; lines = lines; sums = sums }
 
 -- a whole file, entered and settled. Sums too short for a statement get 26 before the file is read
-unfoldable pub settleFile : List ℕ → List ℤ → List ℤ → List ℤ → SettledFile
+unfoldable pub settleFile : List ℕ → Memory → List ℤ → List ℤ → SettledFile
 settleFile file meter lines sums =
     cond (ltb (length sums) sumCount) (record { answer = packed 26 0; meter = meter; lines = lines; sums = sums })
     (let l : LoadedFile = load file emptyBook meter in settlesBy (l .loaded .answer) l lines sums)
@@ -92,7 +93,7 @@ pub record WrittenFile : Type 0 where
   pub file : List ℕ
 
 -- the book that tables say, written as a unit file: the offset is its length, 0 on a refusal. Tables with an entry cut short say no book: 11
-unfoldable pub writeTables : List ℕ → List ℕ → List ℕ → List ℕ → List ℤ → List ℕ → WrittenFile
+unfoldable pub writeTables : List ℕ → List ℕ → List ℕ → List ℕ → Memory → List ℕ → WrittenFile
 writeTables contract windows instructions defaults meter file =
     cond (entire (length contract) (length windows) (length instructions) (length defaults))
     (let w : WrittenBytes = writeBook (bookOf contract windows instructions defaults) meter file in

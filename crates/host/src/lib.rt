@@ -4,6 +4,7 @@ mod answers;
 mod settling;
 
 ghost use mathlib.Core.Path.{_≡_};
+ghost use Rattle.meter.specs.Meter.{lent};
 ghost use Rattle.host.specs.Calls.{enterFile, settleFile, settleTables, writeTables};
 use answers::number_of;
 use answers::pack;
@@ -18,7 +19,7 @@ use writer::write_book;
 // Enters a whole unit file. The answer is the refusal's number, or 0, and 256 times the offset of the refused command, or the file's length.
 #[no_mangle]
 pub extern "C" fn stor_enter_file(file: &[u8], meter: &mut [i32]) -> u64
-    ensures { λ r. ⌜ (r ≡ enterFile (now (file .entry)) (now (meter .entry)) .answer) × (now (meter .exit) ≡ enterFile (now (file .entry)) (now (meter .entry)) .meter) ⌝ }
+    ensures { λ r. ⌜ (r ≡ enterFile (now (file .entry)) (lent (now (meter .entry))) .answer) × (lent (now (meter .exit)) ≡ enterFile (now (file .entry)) (lent (now (meter .entry))) .meter) ⌝ }
 {
     let l = load_file(file, meter);
     let answer = l.answer;
@@ -34,7 +35,7 @@ pub extern "C" fn stor_settle_file(
     lines: &mut [i64],
     sums: &mut [i64],
 ) -> u64
-    ensures { λ r. ⌜ (r ≡ settleFile (now (file .entry)) (now (meter .entry)) (now (lines .entry)) (now (sums .entry)) .answer) × (now (meter .exit) ≡ settleFile (now (file .entry)) (now (meter .entry)) (now (lines .entry)) (now (sums .entry)) .meter) × (now (lines .exit) ≡ settleFile (now (file .entry)) (now (meter .entry)) (now (lines .entry)) (now (sums .entry)) .lines) × (now (sums .exit) ≡ settleFile (now (file .entry)) (now (meter .entry)) (now (lines .entry)) (now (sums .entry)) .sums) ⌝ }
+    ensures { λ r. ⌜ (r ≡ settleFile (now (file .entry)) (lent (now (meter .entry))) (now (lines .entry)) (now (sums .entry)) .answer) × (lent (now (meter .exit)) ≡ settleFile (now (file .entry)) (lent (now (meter .entry))) (now (lines .entry)) (now (sums .entry)) .meter) × (now (lines .exit) ≡ settleFile (now (file .entry)) (lent (now (meter .entry))) (now (lines .entry)) (now (sums .entry)) .lines) × (now (sums .exit) ≡ settleFile (now (file .entry)) (lent (now (meter .entry))) (now (lines .entry)) (now (sums .entry)) .sums) ⌝ }
 {
     if sums.len() < SUMS {
         return pack(26, 0);
@@ -63,7 +64,7 @@ pub extern "C" fn stor_settle_tables(
     lines: &mut [i64],
     sums: &mut [i64],
 ) -> u8
-    ensures { λ r. ⌜ (r ≡ settleTables (now (contract .entry)) (now (windows .entry)) (now (instructions .entry)) (now (defaults .entry)) (now (meter .entry)) (now (lines .entry)) (now (sums .entry)) .number) × (now (lines .exit) ≡ settleTables (now (contract .entry)) (now (windows .entry)) (now (instructions .entry)) (now (defaults .entry)) (now (meter .entry)) (now (lines .entry)) (now (sums .entry)) .lines) × (now (sums .exit) ≡ settleTables (now (contract .entry)) (now (windows .entry)) (now (instructions .entry)) (now (defaults .entry)) (now (meter .entry)) (now (lines .entry)) (now (sums .entry)) .sums) ⌝ }
+    ensures { λ r. ⌜ (r ≡ settleTables (now (contract .entry)) (now (windows .entry)) (now (instructions .entry)) (now (defaults .entry)) (lent (now (meter .entry))) (now (lines .entry)) (now (sums .entry)) .number) × (now (lines .exit) ≡ settleTables (now (contract .entry)) (now (windows .entry)) (now (instructions .entry)) (now (defaults .entry)) (lent (now (meter .entry))) (now (lines .entry)) (now (sums .entry)) .lines) × (now (sums .exit) ≡ settleTables (now (contract .entry)) (now (windows .entry)) (now (instructions .entry)) (now (defaults .entry)) (lent (now (meter .entry))) (now (lines .entry)) (now (sums .entry)) .sums) ⌝ }
 {
     if sums.len() < SUMS {
         return 26;
@@ -91,7 +92,7 @@ pub extern "C" fn stor_write_tables(
     meter: &[i32],
     file: &mut [u8],
 ) -> u64
-    ensures { λ r. ⌜ (r ≡ writeTables (now (contract .entry)) (now (windows .entry)) (now (instructions .entry)) (now (defaults .entry)) (now (meter .entry)) (now (file .entry)) .answer) × (now (file .exit) ≡ writeTables (now (contract .entry)) (now (windows .entry)) (now (instructions .entry)) (now (defaults .entry)) (now (meter .entry)) (now (file .entry)) .file) ⌝ }
+    ensures { λ r. ⌜ (r ≡ writeTables (now (contract .entry)) (now (windows .entry)) (now (instructions .entry)) (now (defaults .entry)) (lent (now (meter .entry))) (now (file .entry)) .answer) × (now (file .exit) ≡ writeTables (now (contract .entry)) (now (windows .entry)) (now (instructions .entry)) (now (defaults .entry)) (lent (now (meter .entry))) (now (file .entry)) .file) ⌝ }
 {
     let entire = entire_tables(
         contract.len(),

@@ -2,6 +2,7 @@
 ghost use mathlib.Core.Path.{_≡_};
 ghost use Prim.Native.Nat.{_≤_, _<_, _^_};
 ghost use lib.ListN.{length};
+ghost use Rattle.meter.specs.Meter.{lent};
 ghost use Rattle.host.specs.Calls.{settleInto};
 ghost use Rattle.sums.specs.Sums.{sumCount};
 use book::Book;
@@ -12,7 +13,7 @@ use sums::put_sums;
 // The number under which settling a book is refused, or 0. Line and sum memory are written only where it is 0.
 pub(crate) fn settle_book(b: Book, meter: &[i32], lines: &mut [i64], sums: &mut [i64]) -> u8
     requires { ⌜ (sumCount ≤ length (now sums)) × (b .nwindows < 2 ^ 63) ⌝ }
-    ensures { λ r. ⌜ (r ≡ settleInto b (now (meter .entry)) (now (lines .entry)) (now (sums .entry)) .number) × (now (lines .exit) ≡ settleInto b (now (meter .entry)) (now (lines .entry)) (now (sums .entry)) .lines) × (now (sums .exit) ≡ settleInto b (now (meter .entry)) (now (lines .entry)) (now (sums .entry)) .sums) ⌝ }
+    ensures { λ r. ⌜ (r ≡ settleInto b (lent (now (meter .entry))) (now (lines .entry)) (now (sums .entry)) .number) × (now (lines .exit) ≡ settleInto b (lent (now (meter .entry))) (now (lines .entry)) (now (sums .entry)) .lines) × (now (sums .exit) ≡ settleInto b (lent (now (meter .entry))) (now (lines .entry)) (now (sums .entry)) .sums) ⌝ }
 {
     let s = settle_numbers(b, meter, lines);
     let answer = s.answer;

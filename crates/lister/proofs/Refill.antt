@@ -5,10 +5,10 @@ use mathlib.Core.List.{List, [], _++_}
 use Prim.Native.Nat.{ℕ, _+_, _-_, _*_, _≤_, _<_}
 use native.Mathlib.Omega.{arith}
 use borrow.Author.Tests.{eqb-true, eqb-false}
-use lib.IntN.{ℤ}
 use lib.Dec.{T, eqb}
 use lib.ListN.{length, take, drop, length-append, length-drop, take-append-drop}
 use lib.Seq.{length-take-le, take-take, drop-append-le, drop-drop}
+use Rattle.meter.specs.Meter.{Memory, roomIn}
 use Rattle.rules.specs.FileLength.{mostBytes}
 use Rattle.rules.specs.declared.answer.Answer.the-variants.{Taken}
 use Rattle.book.specs.Book.{emptyBook}
@@ -42,23 +42,23 @@ goes-full true have size e = go (eqb have size) refl e
 -- ---- turns
 
 -- the bytes so far, entered as one file from meter memory `before`: how that stands, and the bytes that are kept for the next turn
-pub record SoFar (before : List ℤ) (e : Ended) (meter : List ℤ) (kept : List ℕ) : Type 0 where
+pub record SoFar (before : Memory) (e : Ended) (meter : Memory) (kept : List ℕ) : Type 0 where
   pub file : List ℕ
   pub ended : load file emptyBook before ≡ endedAt (e .offset) (e .answer) (e .book) meter
   pub goesOn : T (unfinished (e .answer))
   pub within : e .offset ≤ length file
   pub rest : kept ≡ drop (e .offset) file
 
-pub begins : (before : List ℤ) (b : Book) → b ≡ emptyBook → SoFar before (record { answer = Taken; offset = 0; book = b }) before []
+pub begins : (before : Memory) (b : Book) → b ≡ emptyBook → SoFar before (record { answer = Taken; offset = 0; book = b }) before []
 unfolding load loadFrom
 begins before b e = record { file = []; ended = ap (λ x. endedAt 0 Taken x before) (sym e); goesOn = tt; within = omega arith; rest = refl }
 
 -- how far entering can have come
-pub far : {before : List ℤ} {e : Ended} {meter : List ℤ} {kept : List ℕ} → SoFar before e meter kept → e .offset ≤ mostBytes (length before)
+pub far : {before : Memory} {e : Ended} {meter : Memory} {kept : List ℕ} → SoFar before e meter kept → e .offset ≤ mostBytes (roomIn before)
 far {before} s = omega (arith, stops-within (s .file) before, ap (λ x. x .loaded .at) (s .ended))
 
 -- new bytes behind those that were kept: entering what is held then is entering all bytes, from the offset on
-module _ {before : List ℤ} {e : Ended} {meter : List ℤ} {kept : List ℕ} (s : SoFar before e meter kept) (held new : List ℕ) (h : held ≡ kept ++ new) where
+module _ {before : Memory} {e : Ended} {meter : Memory} {kept : List ℕ} (s : SoFar before e meter kept) (held new : List ℕ) (h : held ≡ kept ++ new) where
   held-stands : held ≡ drop (e .offset) (s .file ++ new)
   held-stands = h ∙ ap (λ x. x ++ new) (s .rest) ∙ sym (drop-append-le (e .offset) (s .file) new (s .within))
 
@@ -70,7 +70,7 @@ module _ {before : List ℤ} {e : Ended} {meter : List ℤ} {kept : List ℕ} (s
       ∙ ap (λ x. later (e .offset) (load x (e .book) meter)) (ap (λ x. x ++ new) (sym (s .rest)) ∙ sym h)
 
 -- a turn: the buffer's first bytes, `have` of them, are all bytes from the offset on, and all bytes end where and as those do
-pub record Turn (before : List ℤ) (e : Ended) (buffer : List ℕ) (have : ℕ) (l : Loaded) (m : List ℤ) : Type 0 where
+pub record Turn (before : Memory) (e : Ended) (buffer : List ℕ) (have : ℕ) (l : Loaded) (m : Memory) : Type 0 where
   pub all : List ℕ
   pub whole : load all emptyBook before ≡ endedAt (e .offset + l .at) (l .answer) (l .book) m
   pub stands : take have buffer ≡ drop (e .offset) all
@@ -78,9 +78,9 @@ pub record Turn (before : List ℤ) (e : Ended) (buffer : List ℕ) (have : ℕ)
   pub inside : l .at ≤ have
 
 -- bytes are read behind n that were kept, and what the buffer holds then is entered
-pub turn : {before : List ℤ} {e : Ended} {meter : List ℤ} {kept : List ℕ} → SoFar before e meter kept → (buffer : List ℕ) (n have : ℕ) → take n buffer ≡ kept → n ≤ have
+pub turn : {before : Memory} {e : Ended} {meter : Memory} {kept : List ℕ} → SoFar before e meter kept → (buffer : List ℕ) (n have : ℕ) → take n buffer ≡ kept → n ≤ have
     → have ≤ length buffer
-    → (l : Loaded) (m : List ℤ)
+    → (l : Loaded) (m : Memory)
     → l ≡ load (take have buffer) (e .book) meter .loaded
     → m ≡ load (take have buffer) (e .book) meter .meter
     → l .at ≤ length (take have buffer)
@@ -104,7 +104,7 @@ turn {e = e} {kept = kept} s buffer n have stay more room l m loads leaves insid
       inside = omega arith;
     }
 
-module _ {before : List ℤ} {e : Ended} {buffer : List ℕ} {have : ℕ} {l : Loaded} {m : List ℤ} (t : Turn before e buffer have l m) where
+module _ {before : Memory} {e : Ended} {buffer : List ℕ} {have : ℕ} {l : Loaded} {m : Memory} (t : Turn before e buffer have l m) where
   -- the loop ends here
   pub entered : (T (unfinished (l .answer)) → have < length buffer)
       → EnteredInput before buffer (record { answer = l .answer; offset = e .offset + l .at; book = l .book }) m
@@ -134,7 +134,7 @@ module _ {before : List ℤ} {e : Ended} {buffer : List ℕ} {have : ℕ} {l : L
         }
 
     -- a full buffer moves the offset on, and not past the room for commands
-    pub forward : 32 ≤ have → (e .offset < e .offset + l .at) × (e .offset + l .at ≤ mostBytes (length before))
+    pub forward : 32 ≤ have → (e .offset < e .offset + l .at) × (e .offset + l .at ≤ mostBytes (roomIn before))
     forward h =
         let near = unread (t .all) emptyBook before (subst⁻¹ (λ x. T (unfinished (x .loaded .answer))) (t .whole) going) in
         let there = ap (λ x. x .loaded .at) (t .whole) in

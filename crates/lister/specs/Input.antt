@@ -3,15 +3,15 @@ use mathlib.Core.Path.{_≡_}
 use mathlib.Core.Bool.{false}
 use mathlib.Core.List.{List, _++_}
 use Prim.Native.Nat.{ℕ, _+_, _-_, _≤_, _<_}
-use lib.IntN.{ℤ}
 use lib.Dec.{T}
 use lib.ListN.{length, take, drop}
+use Rattle.meter.specs.Meter.{Memory}
 use Rattle.book.specs.Book.{emptyBook}
 use Rattle.stor.specs.Files.{endedAt, load, unfinished}
 use Rattle.lister.specs.declared.input.Ended.{Ended}
 
 -- bytes that came read by read, entered from the empty book: how that ended, meter memory before and after it, and the buffer as the last read left it
-pub record EnteredInput (before : List ℤ) (buffer : List ℕ) (e : Ended) (after : List ℤ) : Type 0 where
+pub record EnteredInput (before : Memory) (buffer : List ℕ) (e : Ended) (after : Memory) : Type 0 where
   -- all bytes that came
   pub file : List ℕ
   -- entering them as one file ends like this

@@ -1,8 +1,8 @@
 -- "The lister": what it prints for how entering a file ended.
 use mathlib.Core.List.{List}
 use Prim.Native.Nat.{ℕ}
-use lib.IntN.{ℤ}
 use lib.ListN.{take}
+use Rattle.meter.specs.Meter.{Memory}
 use Rattle.rules.specs.declared.answer.Answer.{Answer}
 use Rattle.rules.specs.declared.answer.Answer.the-variants.{Taken, Refused}
 use Rattle.records.specs.Listed.{listBook}
@@ -16,10 +16,10 @@ settlementRows Taken g windows size = listing (g .settlement .statement) (take (
 settlementRows (Refused n) g windows size = refusalRow n size
 
 -- a file entered to its end is settled; a refusal prints only R, its number and the offset of the command
-abbrev pub rowsFor : Answer → Ended → List ℤ → List ℕ
+abbrev pub rowsFor : Answer → Ended → Memory → List ℕ
 rowsFor Taken e meter = settlementRows (listBook (e .book) meter .settlement .answer) (listBook (e .book) meter) (e .book .nwindows) (e .offset)
 rowsFor (Refused n) e meter = refusalRow n (e .offset)
 
 -- all that is printed
-unfoldable pub printed : Ended → List ℤ → List ℕ
+unfoldable pub printed : Ended → Memory → List ℕ
 printed e meter = rowsFor (e .answer) e meter

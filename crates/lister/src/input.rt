@@ -2,6 +2,7 @@
 ghost use mathlib.Core.Path.{_≡_};
 ghost use Prim.Native.Nat.{_-_, _≤_};
 ghost use lib.ListN.{length, take, drop};
+ghost use Rattle.meter.specs.Meter.{lent};
 ghost use Rattle.stor.specs.Files.{unfinished as unfinishedOf};
 ghost use Rattle.lister.specs.Input.{EnteredInput};
 use book::Book;
@@ -52,7 +53,7 @@ fn unfinished(answer: Answer) -> bool
 // than the tables and meter memory have room for (FileLength·theorem of the rules).
 pub fn enter_input(buffer: &mut [u8], meter: &mut [i32]) -> Ended
     requires { ⌜ (32 ≤ length (now buffer)) × (length (now buffer) ≤ 65536) ⌝ }
-    ensures { λ r. ⌜ EnteredInput (now (meter .entry)) (now (buffer .exit)) r (now (meter .exit)) ⌝ }
+    ensures { λ r. ⌜ EnteredInput (lent (now (meter .entry))) (now (buffer .exit)) r (lent (now (meter .exit))) ⌝ }
 {
     let mut e = Ended {
         answer: Answer::Taken,

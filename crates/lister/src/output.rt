@@ -1,4 +1,5 @@
 // All that is printed, as bytes in one buffer.
+ghost use Rattle.meter.specs.Meter.{lent};
 ghost use Rattle.energy.specs.Lists.{Laid};
 ghost use Rattle.lister.specs.Printed.{printed, settlementRows};
 use crate::input::Ended;
@@ -25,7 +26,7 @@ fn put_settlement(g: Listing, windows: usize, size: usize, out: &mut [u8; BYTES]
 
 // The first refusal with its command's offset, or the settlement; how many bytes.
 pub fn put_answer(e: Ended, meter: &[i32], out: &mut [u8; BYTES]) -> usize
-    ensures { λ r. ⌜ Laid (printed e (now (meter .entry))) (now (out .entry)) 0 (now (out .exit)) r ⌝ }
+    ensures { λ r. ⌜ Laid (printed e (lent (now (meter .entry)))) (now (out .entry)) 0 (now (out .exit)) r ⌝ }
 {
     let ended = e.answer;
     let book = e.book;

@@ -20,21 +20,42 @@ missing = negsuc 2147483647
 abbrev pub cell : ℤ → Option ℤ
 cell z = cond (isReading z) (some z) none
 
--- meter memory with a command's reading, or with a contract's span marked
-abbrev pub putMeter : List ℤ → Command → List ℤ
+-- ---- lent memory
+
+-- what is lent for the readings of a book: a cell for each minute
+pub record Memory : Type 0 where
+  pub cells : List ℤ
+
+-- lent cells as such
+abbrev pub lent : List ℤ → Memory
+lent cells = record { cells = cells }
+
+-- the minutes that it has room for
+abbrev pub roomIn : Memory → ℕ
+roomIn m = length (m .cells)
+
+-- the kW in a minute's cell, which past the end counts as marked
+abbrev pub kwAt : Memory → ℕ → ℤ
+kwAt m i = getD (m .cells) i missing
+
+-- ---- what commands do to it
+
+-- memory with a command's reading, or with a contract's span marked
+abbrev pub putMeter : Memory → Command → Memory
 putMeter meter c =
-    onContract (λ k. replicate (spanOf k) missing ++ drop (spanOf k) meter)
-    (onReading (λ r. set meter (r .minute .0) (r .kw .0))
-    (always meter))
-    c
+    lent
+    (onContract (λ k. replicate (spanOf k) missing ++ drop (spanOf k) (meter .cells))
+    (onReading (λ r. set (meter .cells) (r .minute .0) (r .kw .0))
+    (always (meter .cells)))
+    c)
 
 -- a reading with its operands in range, for a minute of the span that has a cell and no reading yet
-unfoldable pub takesReading : ℕ → List ℤ → Command → Bool
+unfoldable pub takesReading : ℕ → Memory → Command → Bool
 takesReading span meter c =
     onReading
     (λ r. eqb (inputRefusal (readingᶜ r)) 0
     && ltb (r .minute .0) span
-    && ltb (r .minute .0) (length meter)
-    && not (isReading (getD meter (r .minute .0) missing)))
+    && ltb (r .minute .0) (roomIn meter)
+    && not (isReading (kwAt meter (r .minute .0))))
     (always false)
     c

@@ -6,7 +6,7 @@ ghost use Prim.Native.Nat.{_<_, _≤_};
 ghost use lib.Dec.{T};
 ghost use lib.ListN.{length, getD, set, drop, replicate};
 ghost use Rattle.commands.specs.Input.{isReading};
-ghost use Rattle.meter.specs.Meter.{missing, putMeter, takesReading};
+ghost use Rattle.meter.specs.Meter.{missing, lent, putMeter, takesReading};
 use commands::checks::kw_from_to;
 use commands::contract::Contract;
 use commands::entries::Command;
@@ -18,7 +18,7 @@ use energy::units::Minutes;
 // command, is left for `enter_known`, which has the number. A month has 44,640 readings, and none of them changes the book: handing it
 // through each of them took most of the time.
 pub fn take_reading(span: usize, c: Command, meter: &mut [i32]) -> bool
-    ensures { λ r. ⌜ (r ≡ takesReading span (now (meter .entry)) c) × (now (meter .exit) ≡ cond r (putMeter (now (meter .entry)) c) (now (meter .entry))) ⌝ }
+    ensures { λ r. ⌜ (r ≡ takesReading span (lent (now (meter .entry))) c) × (lent (now (meter .exit)) ≡ cond r (putMeter (lent (now (meter .entry))) c) (lent (now (meter .entry)))) ⌝ }
 {
     match c {
         Command::Contract(_) => false,
@@ -32,7 +32,7 @@ pub fn take_reading(span: usize, c: Command, meter: &mut [i32]) -> bool
 
 // The same of a reading.
 fn take_in_span(span: usize, r: Reading, meter: &mut [i32]) -> bool
-    ensures { λ t. ⌜ (t ≡ takesReading span (now (meter .entry)) (Command.Reading r)) × (now (meter .exit) ≡ cond t (putMeter (now (meter .entry)) (Command.Reading r)) (now (meter .entry))) ⌝ }
+    ensures { λ t. ⌜ (t ≡ takesReading span (lent (now (meter .entry))) (Command.Reading r)) × (lent (now (meter .exit)) ≡ cond t (putMeter (lent (now (meter .entry))) (Command.Reading r)) (lent (now (meter .entry)))) ⌝ }
 {
     let taken = is_taken(span, r, meter);
     if taken {
@@ -43,7 +43,7 @@ fn take_in_span(span: usize, r: Reading, meter: &mut [i32]) -> bool
 
 // Whether a reading is taken.
 fn is_taken(span: usize, r: Reading, meter: &[i32]) -> bool
-    ensures { λ t. ⌜ t ≡ takesReading span (now (meter .entry)) (Command.Reading r) ⌝ }
+    ensures { λ t. ⌜ t ≡ takesReading span (lent (now (meter .entry))) (Command.Reading r) ⌝ }
 {
     let minute = r.minute;
     let at = minute.0 as usize;

@@ -9,6 +9,7 @@ use native.Mathlib.Omega.{arith}
 use lib.IntN.{ℤ, pos}
 use lib.ListN.{length, take, drop, set, replicate, length-append, length-drop, length-replicate}
 use lib.Seq.{sets-eq, take-at, drop-at, drop-drop}
+use Rattle.meter.specs.Meter.{Memory, roomIn}
 use Rattle.energy.specs.Lists.{concatMap, run, between}
 use Rattle.rules.specs.Ledger.{Ledger}
 use Rattle.rules.specs.Statement.{lines, statementOf, settleRefusal}
@@ -63,9 +64,12 @@ module _ (f : ℕ → Line) where
       ap₂ (λ x y. x ++ numbersOf (f n) ++ y) front after ∙ ap (λ x. x ++ drop (8 * (n + 1)) ys) (sym (numbers-next n))
 
 -- what `settle_numbers` promises, from what is prepared: the lines are those that `settle` would put into as many records, whatever these hold
-module _ (b : Book) (meter memory : List ℤ) (p : Prepared) (P : Prepares b meter (length memory / 8) p) where
+module _ (b : Book) (readings : Memory) (memory : List ℤ) (p : Prepared) (P : Prepares b readings (length memory / 8) p) where
   abbrev g : Ledger
-  g = ledgerIn b meter
+  g = ledgerIn b readings
+
+  abbrev meter : List ℤ
+  meter = readings .cells
 
   abbrev line : ℕ → Line
   line = steppedLine (p .terms) (p .times) (p .live) meter
@@ -90,15 +94,15 @@ module _ (b : Book) (meter memory : List ℤ) (p : Prepared) (P : Prepares b met
       let n : p .lines ≡ 0 = sym (P .count) ∙ ap (λ (s : Settled). s .settlement .statement .lines) e in
       ap₂ made (ap (λ (s : Settled). s .settlement) e) (ap (λ z. numbersTo line z ++ drop (8 * z) memory) n)
 
-  numbered : made (summed (p .settlement) (lastCursor p meter)) (numbersTo line (p .lines) ++ drop (8 * p .lines) memory) ≡ numberBook b meter memory
+  numbered : made (summed (p .settlement) (lastCursor p meter)) (numbersTo line (p .lines) ++ drop (8 * p .lines) memory) ≡ numberBook b readings memory
   unfolding settleBook numberBook
   numbered =
       let long : length records ≡ length memory / 8 = length-replicate (length memory / 8) (line 0) in
-      by-refusal (settleRefusal (not (sound b)) (length meter) (length memory / 8) g)
-      (P .settles records long ∙ ap (λ m. settledBy (settleRefusal (not (sound b)) (length meter) m g) g records) long)
+      by-refusal (settleRefusal (not (sound b)) (roomIn readings) (length memory / 8) g)
+      (P .settles records long ∙ ap (λ m. settledBy (settleRefusal (not (sound b)) (roomIn readings) m g) g records) long)
 
-  pub numbered-answer : summed (p .settlement) (lastCursor p meter) ≡ numberBook b meter memory .settlement
+  pub numbered-answer : summed (p .settlement) (lastCursor p meter) ≡ numberBook b readings memory .settlement
   numbered-answer = ap (λ (s : Numbered). s .settlement) numbered
 
-  pub numbered-memory : numbersTo line (p .lines) ++ drop (8 * p .lines) memory ≡ numberBook b meter memory .memory
+  pub numbered-memory : numbersTo line (p .lines) ++ drop (8 * p .lines) memory ≡ numberBook b readings memory .memory
   numbered-memory = ap (λ (s : Numbered). s .memory) numbered

@@ -6,6 +6,7 @@ use mathlib.Core.Option.{Option, none, some}
 use Prim.Native.Nat.{ℕ, _*_, _/_}
 use lib.IntN.{ℤ, pos}
 use lib.ListN.{length, drop}
+use Rattle.meter.specs.Meter.{Memory, roomIn}
 use Rattle.energy.specs.Lists.{concatMap}
 use Rattle.rules.specs.Ledger.{Ledger}
 use Rattle.rules.specs.Refusal.{answerOf}
@@ -61,6 +62,6 @@ numberedBy (some n) g memory =
     record { settlement = record { answer = answerOf (some n); statement = noStatement }; memory = memory }
 
 -- settling a book into numbers, eight to a line: what `settle_numbers` promises
-unfoldable pub numberBook : Book → List ℤ → List ℤ → Numbered
+unfoldable pub numberBook : Book → Memory → List ℤ → Numbered
 numberBook b meter memory =
-    numberedBy (settleRefusal (not (sound b)) (length meter) (length memory / 8) (ledgerIn b meter)) (ledgerIn b meter) memory
+    numberedBy (settleRefusal (not (sound b)) (roomIn meter) (length memory / 8) (ledgerIn b meter)) (ledgerIn b meter) memory

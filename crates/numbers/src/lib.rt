@@ -3,6 +3,7 @@ ghost use mathlib.Core.Path.{_≡_};
 ghost use mathlib.Core.List.{_++_, map};
 ghost use Prim.Native.Nat.{ℕ, _+_, _*_, _≤_, _<_};
 ghost use lib.ListN.{length, take, drop};
+ghost use Rattle.meter.specs.Meter.{lent};
 ghost use Rattle.energy.specs.Lists.{between, concatMap};
 ghost use Rattle.lines.specs.Cursor.{Plan, Ready, cursorAt, steppedLine};
 ghost use Rattle.numbers.specs.Numbers.{numberBook, numbersOf, rateNumber, stageNumber};
@@ -89,7 +90,7 @@ fn fill_numbers<'a, 'b, 'c>(
 
 // Settles a book over meter memory, each line as eight numbers in the first of those lent. Numbers after them keep their contents; a refusal alters none.
 pub fn settle_numbers(b: Book, meter: &[i32], numbers: &mut [i64]) -> Settlement
-    ensures { λ r. ⌜ (r ≡ numberBook b (now (meter .entry)) (now (numbers .entry)) .settlement) × (now (numbers .exit) ≡ numberBook b (now (meter .entry)) (now (numbers .entry)) .memory) ⌝ }
+    ensures { λ r. ⌜ (r ≡ numberBook b (lent (now (meter .entry))) (now (numbers .entry)) .settlement) × (now (numbers .exit) ≡ numberBook b (lent (now (meter .entry))) (now (numbers .entry)) .memory) ⌝ }
 {
     let p = prepare(b, meter, numbers.len() / 8);
     let times = p.times;

@@ -1,7 +1,7 @@
 -- Settling into records of its own: what a caller gets that lends none.
-use mathlib.Core.List.{List}
-use lib.IntN.{ℤ, pos}
+use lib.IntN.{pos}
 use lib.ListN.{replicate}
+use Rattle.meter.specs.Meter.{Memory}
 use Rattle.rules.specs.declared.statement.Line.{Line}
 use Rattle.rules.specs.declared.statement.Stage.the-variants.{Up}
 use Rattle.rules.specs.declared.statement.Rate.the-variants.{Utilisation}
@@ -24,7 +24,7 @@ noLine =
     }
 
 -- settling a book into 719 records of its own: what `listed` promises
-unfoldable pub listBook : Book → List ℤ → Listing
+unfoldable pub listBook : Book → Memory → Listing
 listBook b meter =
     let s : Settled = settleBook b meter (replicate 719 noLine) in
     record { settlement = s .settlement; lines = s .memory }

@@ -1,5 +1,6 @@
 // Settling a book into records of its own, handed back by value: for a caller that lends none.
 ghost use mathlib.Core.Path.{_≡_};
+ghost use Rattle.meter.specs.Meter.{lent};
 ghost use Rattle.records.specs.Listed.{listBook, noLine};
 use crate::Listing;
 use crate::settle::settle;
@@ -30,7 +31,7 @@ pub fn blank() -> Line
 
 // Settles a book over meter memory into 719 records, the most that 11 days give.
 pub fn listed(b: Book, meter: &[i32]) -> Listing
-    ensures { λ r. ⌜ r ≡ listBook b (now (meter .entry)) ⌝ }
+    ensures { λ r. ⌜ r ≡ listBook b (lent (now (meter .entry))) ⌝ }
 {
     let mut lines = [blank(); 719];
     let settlement = settle(b, meter, &mut lines);

@@ -2,6 +2,7 @@
 ghost use mathlib.Core.Path.{_≡_};
 ghost use Prim.Native.Nat.{ℕ, _≤_, _<_};
 ghost use lib.ListN.{length};
+ghost use Rattle.meter.specs.Meter.{lent};
 ghost use Rattle.lines.specs.Cursor.{Plan, Ready, cursorAt, steppedLine, stored};
 ghost use Rattle.settlement.specs.Settle.{settleBook};
 use book::Book;
@@ -39,7 +40,7 @@ fn fill<'a, 'b, 'c>(
 
 // Settles a book over meter memory: the answer, and the statement's lines in the first of the records lent. A refusal alters no record.
 pub fn settle(b: Book, meter: &[i32], lines: &mut [Line]) -> Settlement
-    ensures { λ r. ⌜ (r ≡ settleBook b (now (meter .entry)) (now (lines .entry)) .settlement) × (now (lines .exit) ≡ settleBook b (now (meter .entry)) (now (lines .entry)) .memory) ⌝ }
+    ensures { λ r. ⌜ (r ≡ settleBook b (lent (now (meter .entry))) (now (lines .entry)) .settlement) × (now (lines .exit) ≡ settleBook b (lent (now (meter .entry))) (now (lines .entry)) .memory) ⌝ }
 {
     let p = prepare(b, meter, lines.len());
     let times = p.times;

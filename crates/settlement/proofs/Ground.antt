@@ -24,7 +24,7 @@ use Rattle.commands.specs.declared.contract.Contract.{Contract}
 use Rattle.commands.specs.declared.entries.Default.{Default}
 use Rattle.commands.specs.declared.entries.Instruction.{Instruction}
 use Rattle.commands.specs.declared.entries.Window.{Window}
-use Rattle.meter.specs.Meter.{missing, cell as reading}
+use Rattle.meter.specs.Meter.{missing, cell as reading, Memory, roomIn}
 use Rattle.book.specs.Book.{noWindow, noInstruction, noDefault, bookSpan, bookCells, ledgerIn}
 use Rattle.book.specs.Sound.{Shaped}
 use Rattle.book.specs.declared.Book.{Book}
@@ -90,20 +90,23 @@ module _ {A : Type 0} where
   getD-any (x ∷ xs) zero d e h = refl
   getD-any (x ∷ xs) (suc i) d e h = getD-any xs i d e (omega arith)
 
--- what a settlement of book b stands on
-pub record Grounds (b : Book) (times : List ℕ) (meter : List ℤ) : Type 0 where
+-- what a settlement of book b with its readings stands on
+pub record Grounds (b : Book) (times : List ℕ) (readings : Memory) : Type 0 where
   pub sound : SoundBook b
   pub agreed : b .agreed ≡ true
   pub shape : Shaped b
-  pub room : bookCells b ≤ length meter
+  pub room : bookCells b ≤ roomIn readings
   pub timed : Timed (b .instructions) 64 times
 
-module _ (b : Book) (times : List ℕ) (meter : List ℤ) (G : Grounds b times meter) where
+module _ (b : Book) (times : List ℕ) (readings : Memory) (G : Grounds b times readings) where
   abbrev k : Contract
   k = b .contract
 
+  abbrev meter : List ℤ
+  meter = readings .cells
+
   abbrev g : Ledger
-  g = ledgerIn b meter
+  g = ledgerIn b readings
 
   abbrev t : Terms
   t = termsOf k (b .ninstructions)
@@ -119,7 +122,7 @@ module _ (b : Book) (times : List ℕ) (meter : List ℤ) (G : Grounds b times m
   span = bookSpan b
 
   span-is : spanIn g ≡ span
-  span-is = book-span b meter (G .agreed)
+  span-is = book-span b readings (G .agreed)
 
   span-small : span ≤ mostMinute
   span-small = omega (arith, span-cells b, S .month)

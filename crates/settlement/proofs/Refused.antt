@@ -9,6 +9,7 @@ use lib.Dec.{ltb}
 use lib.IntN.{ℤ}
 use lib.ListN.{length, replicate, length-replicate}
 use borrow.Author.Tests.{lt-ltb, le-ltb}
+use Rattle.meter.specs.Meter.{Memory, roomIn}
 use Rattle.energy.specs.Number.{Within}
 use Rattle.rules.specs.Ledger.{Ledger, cellsIn}
 use Rattle.commands.specs.Input.{lowest, _when_}
@@ -29,15 +30,15 @@ use Rattle.book.proofs.Month.{cells-sound}
 abbrev by : Bool → Bool → Bool → Bool → Bool → Option ℕ
 by u m c k r = lowest ((11 when u) ∷ (15 when m) ∷ (24 when c) ∷ (25 when k) ∷ (26 when r) ∷ [])
 
-module _ (b : Book) (meter : List ℤ) (room : ℕ) where
+module _ (b : Book) (meter : Memory) (room : ℕ) where
   abbrev g : Ledger
   g = ledgerIn b meter
 
   -- the number under which settling with so much room is refused, if it is
   abbrev pub refusalFor : Option ℕ
-  refusalFor = settleRefusal (not (sound b)) (length meter) room g
+  refusalFor = settleRefusal (not (sound b)) (roomIn meter) room g
 
-  by-is : refusalFor ≡ by (not (sound b)) (ltb (length meter) (cellsIn g)) (not (b .closed)) (not (complete g)) (ltb room (length (segments g)))
+  by-is : refusalFor ≡ by (not (sound b)) (ltb (roomIn meter) (cellsIn g)) (not (b .closed)) (not (complete g)) (ltb room (length (segments g)))
   unfolding settleRefusal settleConditions ledgerIn
   by-is = refl
 
@@ -69,12 +70,12 @@ module _ (b : Book) (meter : List ℤ) (room : ℕ) where
   is-11 e = by-is ∙ first-11 _ _ _ _ _ (ap not e)
 
   module _ (e : sound b ≡ true) where
-    pub is-15 : length meter < bookCells b → refusalFor ≡ some 15
-    is-15 h = by-is ∙ first-15 _ _ _ _ _ (ap not e) (lt-ltb (length meter) (cellsIn g) (omega (arith, cells-sound b meter e)))
+    pub is-15 : roomIn meter < bookCells b → refusalFor ≡ some 15
+    is-15 h = by-is ∙ first-15 _ _ _ _ _ (ap not e) (lt-ltb (roomIn meter) (cellsIn g) (omega (arith, cells-sound b meter e)))
 
-    module _ (h : bookCells b ≤ length meter) where
-      long : ltb (length meter) (cellsIn g) ≡ false
-      long = le-ltb (length meter) (cellsIn g) (omega (arith, cells-sound b meter e))
+    module _ (h : bookCells b ≤ roomIn meter) where
+      long : ltb (roomIn meter) (cellsIn g) ≡ false
+      long = le-ltb (roomIn meter) (cellsIn g) (omega (arith, cells-sound b meter e))
 
       pub is-24 : b .closed ≡ false → refusalFor ≡ some 24
       is-24 c = by-is ∙ first-24 _ _ _ _ _ (ap not e) long (ap not c)
@@ -95,10 +96,10 @@ enter-none : (times live : List ℕ) (meter : List ℤ) → enterOf noTerms time
 unfolding enterOf
 enter-none times live meter = rw (le-ltb 0 0 (omega arith)) refl
 
-pub refused : (b : Book) (meter : List ℤ) (room n : ℕ) → refusalFor b meter room ≡ some n → Prepares b meter room (refusalOf n)
+pub refused : (b : Book) (meter : Memory) (room n : ℕ) → refusalFor b meter room ≡ some n → Prepares b meter room (refusalOf n)
 unfolding refusalOf settleBook settledWith
 refused b meter room n e =
-    let c : lastCursor (refusalOf n) meter ≡ startOf = enter-none (replicate 128 0) (replicate 1490 0) meter in
+    let c : lastCursor (refusalOf n) (meter .cells) ≡ startOf = enter-none (replicate 128 0) (replicate 1490 0) (meter .cells) in
     record {
       plan =
           record {
@@ -119,5 +120,5 @@ refused b meter room n e =
       sums = (subst (λ (z : Cursor). Within 100000000000000 (z .pence)) (sym c) (omega arith), omega arith);
       settles = λ memory l.
           ap (λ (z : Cursor). record { settlement = summed (record { answer = Refused n; statement = noStatement }) z; memory = memory }) c
-          ∙ ap (λ z. settledBy z (ledgerIn b meter) memory) (sym (ap (λ m. settleRefusal (not (sound b)) (length meter) m (ledgerIn b meter)) l ∙ e));
+          ∙ ap (λ z. settledBy z (ledgerIn b meter) memory) (sym (ap (λ m. settleRefusal (not (sound b)) (roomIn meter) m (ledgerIn b meter)) l ∙ e));
     }

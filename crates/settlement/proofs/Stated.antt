@@ -8,6 +8,7 @@ use native.Mathlib.Omega.{arith}
 use lib.Dec.{ltb, lit<}
 use lib.IntN.{ℤ, pos}
 use lib.ListN.{length, drop, replicate, length-map}
+use Rattle.meter.specs.Meter.{Memory, roomIn}
 use Rattle.energy.specs.Energy.{periodParts, penceOfParts}
 use Rattle.energy.specs.Lists.{sum}
 use Rattle.energy.specs.Number.{up, Within}
@@ -66,26 +67,26 @@ module _ (g : Ledger) (t : Terms) (times live : List ℕ) (meter : List ℤ) (T 
 each-is : (n : ℕ) → pos (up (penceOfParts n)) ≡ penceOfParts n
 each-is n = let e = half-up n 200000 (lit< tt) in ap (λ z. pos (up z)) (sym e) ∙ e
 
-module _ (b : Book) (times : List ℕ) (meter : List ℤ) (G : Grounds b times meter) (live : List ℕ) (size : length live ≡ 1490)
+module _ (b : Book) (times : List ℕ) (readings : Memory) (G : Grounds b times readings) (live : List ℕ) (size : length live ≡ 1490)
     (L : Lit (isLive times (b .ninstructions) (termsOf (b .contract) (b .ninstructions) .fall) (b .contract .recovery .0) (b .contract .response .0)) (b .windows) (b .nwindows) live) where
   abbrev k : Contract
   k = b .contract
 
   abbrev g : Ledger
-  g = ledgerIn b meter
+  g = ledgerIn b readings
 
   abbrev entries : Entries
   entries = availabilityBy live (b .windows) (b .nwindows) (b .defaults) (b .ndefaults) (kwOf k) (k .availability)
 
   P : Priced g live (b .windows) (b .nwindows) (b .defaults) (b .ndefaults)
   unfolding termsOf
-  P = priced b times meter G live size L
+  P = priced b times readings G live size L
 
   pence-each : pos (eachBy live (b .nwindows) (b .defaults) (b .ndefaults) (kwOf k) (k .availability)) ≡ periodPence g
   unfolding eachBy periodPence periodExact
   pence-each =
       each-is (periodParts (kwOf k) (k .availability) (penaltyBy (struckTo live (b .defaults) (b .ndefaults)) (b .nwindows)))
-      ∙ ap₂ (λ (c : Contract) z. penceOfParts (periodParts (kwOf c) (c .availability) z)) (sym (contract-is b times meter G))
+      ∙ ap₂ (λ (c : Contract) z. penceOfParts (periodParts (kwOf c) (c .availability) z)) (sym (contract-is b times readings G))
       (penalty-is g live (b .windows) (b .nwindows) (b .defaults) (b .ndefaults) P)
 
   earned-windows : entries .windows ≡ windowsPaid g ++ replicate (128 - length (g .windows)) nothing
@@ -104,17 +105,20 @@ module _ (b : Book) (times : List ℕ) (meter : List ℤ) (G : Grounds b times m
       cc (e, e₂, e₃, earned-windows, earned-pence)
 
 -- what a sound, closed and complete book lays out settles it
-module _ (b : Book) (times : List ℕ) (meter : List ℤ) (G : Grounds b times meter) (room n : ℕ) (p : Prepared) (O : LaidOut b (termsOf (b .contract) (b .ninstructions)) times n p)
-    (done : complete (ledgerIn b meter) ≡ true) (N : n ≡ length (segments (ledgerIn b meter))) (open′ : refusalFor b meter room ≡ none) (few : n ≤ room) where
+module _ (b : Book) (times : List ℕ) (readings : Memory) (G : Grounds b times readings) (room n : ℕ) (p : Prepared) (O : LaidOut b (termsOf (b .contract) (b .ninstructions)) times n p)
+    (done : complete (ledgerIn b readings) ≡ true) (N : n ≡ length (segments (ledgerIn b readings))) (open′ : refusalFor b readings room ≡ none) (few : n ≤ room) where
+  abbrev meter : List ℤ
+  meter = readings .cells
+
   abbrev ledger : Ledger
-  ledger = ledgerIn b meter
+  ledger = ledgerIn b readings
 
   abbrev t : Terms
   t = termsOf (b .contract) (b .ninstructions)
 
   T : Tied ledger t times (p .live) meter
   unfolding termsOf
-  T = tied b times meter G (p .live) (O .size) (O .live) done
+  T = tied b times readings G (p .live) (O .size) (O .live) done
 
   last-is : lastCursor p meter ≡ cursorAt t times (p .live) meter (length (segments ledger))
   last-is = rw (O .terms, O .times, O .lines, N) refl
@@ -123,7 +127,7 @@ module _ (b : Book) (times : List ℕ) (meter : List ℤ) (G : Grounds b times m
   unfolding termsOf
   sums-settle =
       ap (λ (s : Settlement). summed s (lastCursor p meter)) (O .settlement)
-      ∙ statement-is b times meter G (p .live) (O .size) (O .live) n (lastCursor p meter) N
+      ∙ statement-is b times readings G (p .live) (O .size) (O .live) n (lastCursor p meter) N
       (ap (λ (c : Cursor). c .capped) last-is ∙ capped-at ledger t times (p .live) meter T)
       (ap (λ (c : Cursor). c .pence) last-is ∙ pence-at ledger t times (p .live) meter T)
 
@@ -134,7 +138,7 @@ module _ (b : Book) (times : List ℕ) (meter : List ℤ) (G : Grounds b times m
       (stored-lines ledger t times (p .live) meter T memory (omega (arith, N))
       ∙ ap (λ z. lines ledger ++ drop z memory) (sym (length-map (segments ledger) (lineOf ledger))))
 
-  pub prepares : Prepares b meter room p
+  pub prepares : Prepares b readings room p
   unfolding settleBook settledWith
   prepares =
       record {
@@ -145,15 +149,15 @@ module _ (b : Book) (times : List ℕ) (meter : List ℤ) (G : Grounds b times m
         sums = (subst (λ (c : Cursor). Within 100000000000000 (c .pence)) (sym last-is) (sum-within ledger t times (p .live) meter T (length (segments ledger)) (omega arith)), O .small);
         settles = λ memory l.
             ap₂ (λ (s : Settlement) (m : List Line). record { settlement = s; memory = m }) sums-settle (stored-is memory l)
-            ∙ ap (λ z. settledBy z ledger memory) (sym (ap (λ m. settleRefusal (not (sound b)) (length meter) m ledger) l ∙ open′));
+            ∙ ap (λ z. settledBy z ledger memory) (sym (ap (λ m. settleRefusal (not (sound b)) (roomIn readings) m ledger) l ∙ open′));
       }
 
 -- what `settle` promises, from what is prepared
-module _ (b : Book) (meter : List ℤ) (memory : List Line) (p : Prepared) (P : Prepares b meter (length memory) p) where
-  pub settled-answer : summed (p .settlement) (lastCursor p meter) ≡ settleBook b meter memory .settlement
+module _ (b : Book) (readings : Memory) (memory : List Line) (p : Prepared) (P : Prepares b readings (length memory) p) where
+  pub settled-answer : summed (p .settlement) (lastCursor p (readings .cells)) ≡ settleBook b readings memory .settlement
   unfolding settledWith
   settled-answer = ap (λ (s : Settled). s .settlement) (P .settles memory refl)
 
-  pub settled-memory : stored (steppedLine (p .terms) (p .times) (p .live) meter) (p .lines) memory ≡ settleBook b meter memory .memory
+  pub settled-memory : stored (steppedLine (p .terms) (p .times) (p .live) (readings .cells)) (p .lines) memory ≡ settleBook b readings memory .memory
   unfolding settledWith
   settled-memory = ap (λ (s : Settled). s .memory) (P .settles memory refl)

@@ -5,6 +5,7 @@ use mathlib.Core.List.{List}
 use Prim.Native.Nat.{ℕ, _≤_, _<_}
 use lib.IntN.{ℤ, pos, _+ℤ_}
 use lib.ListN.{length, replicate}
+use Rattle.meter.specs.Meter.{Memory}
 use Rattle.energy.specs.Number.{Within}
 use Rattle.rules.specs.declared.answer.Answer.the-variants.{Taken, Refused}
 use Rattle.rules.specs.declared.statement.Line.{Line}
@@ -90,11 +91,11 @@ settledWith p meter memory =
       memory = stored (steppedLine (p .terms) (p .times) (p .live) meter) (p .lines) memory;
     }
 
--- what is prepared for a book and so much room settles it
-pub record Prepares (b : Book) (meter : List ℤ) (room : ℕ) (p : Prepared) : Type 0 where
-  pub plan : Plan (p .terms) (p .times) (p .live) meter
+-- what is prepared for a book, its readings and so much room settles it
+pub record Prepares (b : Book) (readings : Memory) (room : ℕ) (p : Prepared) : Type 0 where
+  pub plan : Plan (p .terms) (p .times) (p .live) (readings .cells)
   pub few : p .lines ≤ room
   pub count : p .settlement .statement .lines ≡ p .lines
-  pub ready : (k : ℕ) → k < p .lines → Ready (p .terms) (p .times) (p .live) meter (cursorAt (p .terms) (p .times) (p .live) meter k)
-  pub sums : Within 100000000000000 (lastCursor p meter .pence) × Within 100000000000000 (p .settlement .statement .availability .0)
-  pub settles : (memory : List Line) → length memory ≡ room → settledWith p meter memory ≡ settleBook b meter memory
+  pub ready : (k : ℕ) → k < p .lines → Ready (p .terms) (p .times) (p .live) (readings .cells) (cursorAt (p .terms) (p .times) (p .live) (readings .cells) k)
+  pub sums : Within 100000000000000 (lastCursor p (readings .cells) .pence) × Within 100000000000000 (p .settlement .statement .availability .0)
+  pub settles : (memory : List Line) → length memory ≡ room → settledWith p (readings .cells) memory ≡ settleBook b readings memory

@@ -3,8 +3,9 @@ use mathlib.Core.Bool.{not}
 use mathlib.Core.List.{List, _++_}
 use mathlib.Core.Option.{Option, none, some}
 use Prim.Native.Nat.{ℕ}
-use lib.IntN.{ℤ, pos}
+use lib.IntN.{pos}
 use lib.ListN.{length, drop, replicate}
+use Rattle.meter.specs.Meter.{Memory, roomIn}
 use Rattle.rules.specs.Ledger.{Ledger}
 use Rattle.rules.specs.Refusal.{answerOf}
 use Rattle.rules.specs.Statement.{lines, nothing, statementOf, settleRefusal}
@@ -43,6 +44,6 @@ settledBy (some n) g memory =
     record { settlement = record { answer = answerOf (some n); statement = noStatement }; memory = memory }
 
 -- settling a book: what `settle` promises
-unfoldable pub settleBook : Book → List ℤ → List Line → Settled
+unfoldable pub settleBook : Book → Memory → List Line → Settled
 settleBook b meter memory =
-    settledBy (settleRefusal (not (sound b)) (length meter) (length memory) (ledgerIn b meter)) (ledgerIn b meter) memory
+    settledBy (settleRefusal (not (sound b)) (roomIn meter) (length memory) (ledgerIn b meter)) (ledgerIn b meter) memory

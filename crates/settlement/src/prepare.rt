@@ -2,7 +2,7 @@
 ghost use mathlib.Core.Path.{_≡_};
 ghost use mathlib.Core.Bool.{true};
 ghost use Prim.Native.Nat.{_≤_};
-ghost use lib.ListN.{length};
+ghost use Rattle.meter.specs.Meter.{lent, roomIn};
 ghost use Rattle.energy.specs.Number.{Within};
 ghost use Rattle.book.specs.Book.{bookCells};
 ghost use Rattle.book.specs.Sound.{sound};
@@ -126,8 +126,8 @@ fn lay_out(b: Book, t: Terms, times: [u16; 128], n: usize) -> Prepared
 
 // 25, 26, or what the lines of a sound and closed book need.
 fn check_lines(b: Book, meter: &[i32], room: usize) -> Prepared
-    requires { ⌜ (sound b ≡ true) × (b .closed ≡ true) × (bookCells b ≤ length (now meter)) ⌝ }
-    ensures { λ r. ⌜ Prepares b (now (meter .entry)) room r ⌝ }
+    requires { ⌜ (sound b ≡ true) × (b .closed ≡ true) × (bookCells b ≤ roomIn (lent (now meter))) ⌝ }
+    ensures { λ r. ⌜ Prepares b (lent (now (meter .entry))) room r ⌝ }
 {
     let k = b.contract;
     let instructions = b.instructions;
@@ -147,7 +147,7 @@ fn check_lines(b: Book, meter: &[i32], room: usize) -> Prepared
 // 11, 15, 24, and then the others: `left` says whether some list of commands leaves the book.
 fn check_book(b: Book, left: bool, meter: &[i32], room: usize) -> Prepared
     requires { ⌜ left ≡ sound b ⌝ }
-    ensures { λ r. ⌜ Prepares b (now (meter .entry)) room r ⌝ }
+    ensures { λ r. ⌜ Prepares b (lent (now (meter .entry))) room r ⌝ }
 {
     if !left {
         return refuse(11);
@@ -164,7 +164,7 @@ fn check_book(b: Book, left: bool, meter: &[i32], room: usize) -> Prepared
 
 // 25 and 26 are decided here, before a record is written.
 pub fn prepare(b: Book, meter: &[i32], room: usize) -> Prepared
-    ensures { λ r. ⌜ Prepares b (now (meter .entry)) room r ⌝ }
+    ensures { λ r. ⌜ Prepares b (lent (now (meter .entry))) room r ⌝ }
 {
     let left = b.sound();
     check_book(b, left, meter, room)

@@ -1,8 +1,9 @@
 -- A settlement into the first records of a memory that held something before.
-use mathlib.Core.List.{List, _++_}
+use mathlib.Core.List.{_++_}
 use Prim.Native.Nat.{ℕ, _-_}
-use lib.IntN.{ℤ, pos}
+use lib.IntN.{pos}
 use lib.ListN.{replicate}
+use Rattle.meter.specs.Meter.{Memory, lent}
 use Rattle.rules.specs.declared.statement.Line.{Line}
 use Rattle.rules.specs.declared.statement.Stage.the-variants.{Down}
 use Rattle.rules.specs.declared.statement.Rate.the-variants.{Optional}
@@ -25,7 +26,7 @@ markOf =
     }
 
 -- what `settle_into` promises of n records lent
-unfoldable pub monthOf : Book → List ℤ → ℕ → Month
+unfoldable pub monthOf : Book → Memory → ℕ → Month
 monthOf b meter n =
     let s : Settled = settleBook b meter (replicate n markOf) in
     record { settlement = s .settlement; lines = s .memory ++ replicate (1679 - n) markOf }

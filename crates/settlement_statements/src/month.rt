@@ -1,6 +1,7 @@
 // A settlement and the records it was made into: as many as the fullest month has lines, of which the first were lent.
 ghost use mathlib.Core.Path.{_≡_};
 ghost use Prim.Native.Nat.{_≤_};
+ghost use Rattle.meter.specs.Meter.{lent};
 ghost use Rattle.settlement_statements.specs.Month.{markOf, monthOf};
 use book::Book;
 use energy::units::Kwh;
@@ -39,7 +40,7 @@ pub fn mark() -> Line
 // Settles into the first n of the records, which all hold the mark.
 pub fn settle_into(b: Book, meter: &[i32], n: usize) -> Month
     requires { ⌜ n ≤ 1679 ⌝ }
-    ensures { λ r. ⌜ r ≡ monthOf b (now (meter .entry)) n ⌝ }
+    ensures { λ r. ⌜ r ≡ monthOf b (lent (now (meter .entry))) n ⌝ }
 {
     let mut lines = [mark(); 1679];
     let settlement = settle(b, meter, &mut lines[..n]);

@@ -6,6 +6,7 @@ use mathlib.Core.Option.{some}
 use Prim.Native.Nat.{_≤_}
 use lib.Dec.{T}
 use lib.ListN.{length, replicate, length-replicate, getElem?}
+use Rattle.meter.specs.Meter.{roomIn, lent}
 use Rattle.energy.specs.Lists.{all}
 use Rattle.energy.proofs.Tests.{off-not}
 use Rattle.rules.specs.Ledger.{Ledger, ledgerOf}
@@ -26,7 +27,7 @@ use Rattle.stor.proofs.Demand3.{demand3, complete-given}
 -- its bytes are its commands
 entered : entries bytes 0 (replicate (length bytes) read) ≡ appendix2
 unfolding bytes Demand3·theorem opened sayable fit
-entered = demand3 bytes [] [] .wholeFile ∙ reread .file appendix2 tt
+entered = demand3 bytes (lent []) [] .wholeFile ∙ reread .file appendix2 tt
 
 -- what its settlement meets
 met : Clear (settleConditions false 1440 6 (ledger appendix2))
@@ -40,7 +41,7 @@ appendix2-paid meter memory e h =
     let before : List Step = replicate (length bytes) read in
     let d = demand3 bytes meter (steps memory) .settlements before [] memory refl in
     let r : SettlementRight (taken 1440 appendix2) memory (d .0) =
-    subst (λ n. SettlementRight (taken n appendix2) memory (d .0)) e (subst (λ cs. SettlementRight (taken (length meter) cs) memory (d .0)) entered (d .2)) in
+    subst (λ n. SettlementRight (taken n appendix2) memory (d .0)) e (subst (λ cs. SettlementRight (taken (roomIn meter) cs) memory (d .0)) entered (d .2)) in
     let closed : T (g .closed) = off-not (g .closed) (met .1 .1 .0) in
     let whole : T (complete g) = off-not (complete g) (met .1 .1 .1 .0) in
     let six : length (lines g) ≡ 6 = ap length (figures .F1-lines) in

@@ -11,6 +11,7 @@ use native.Mathlib.Omega.{arith}
 use lib.Arith.{le→nltb}
 use lib.ListN.{length, take, drop, getElem?, length-map, replicate}
 use lib.Seq.{take-append-seam, drop-append-seam}
+use Rattle.meter.specs.Meter.{Memory, roomIn}
 use Rattle.energy.specs.Lists.{all, isSome}
 use Rattle.commands.specs.Input.{Condition, lowest}
 use Rattle.rules.specs.Ledger.{Ledger, ledgerOf, contractOf, cellsIn}
@@ -206,12 +207,12 @@ right g =
     }
 
 -- a settlement of a book that follows the commands taken is right for them
-pub settlement-right : {size : ℕ} (t : List Command) (b : Book) (meter : List ℤ) (memory : List Line) → Follows size t b meter
+pub settlement-right : {size : ℕ} (t : List Command) (b : Book) (meter : Memory) (memory : List Line) → Follows size t b meter
     → SettlementRight t memory (settleBook b meter memory)
 unfolding settleBook
 settlement-right {size} t b meter memory f = subst⁻¹ (λ r. SettlementRight t memory r) same (settledRight size t memory (cells-fit (f .reached)) (right (ledgerOf t)))
   where
-    same : settledBy (settleRefusal (not (sound b)) (length meter) (length memory) (ledgerIn b meter)) (ledgerIn b meter) memory
+    same : settledBy (settleRefusal (not (sound b)) (roomIn meter) (length memory) (ledgerIn b meter)) (ledgerIn b meter) memory
         ≡ settledBy (settleRefusal false size (length memory) (ledgerOf t)) (ledgerOf t) memory
     same = rw (f .left, f .memory, f .ledger)
 
@@ -264,10 +265,10 @@ after-snoc file s [] x = refl
 after-snoc file s (y ∷ before) x = after-snoc file (after file s y) before x
 
 -- a command that is not answered "taken" leaves book and meter memory
-refused-same : (b : Book) (meter : List ℤ) (c : Command) → (enterBook b meter c .entry .answer ≡ Taken → ⊥)
+refused-same : (b : Book) (meter : Memory) (c : Command) → (enterBook b meter c .entry .answer ≡ Taken → ⊥)
     → (enterBook b meter c .entry .book ≡ b) × (enterBook b meter c .meter ≡ meter)
 unfolding enterBook
-refused-same b meter c h = go (refusal (not (sound b)) (length meter) (ledgerIn b meter) c) h
+refused-same b meter c h = go (refusal (not (sound b)) (roomIn meter) (ledgerIn b meter) c) h
   where
     go : (r : Option ℕ) → (enteredBy r b meter c .entry .answer ≡ Taken → ⊥) → (enteredBy r b meter c .entry .book ≡ b) × (enteredBy r b meter c .meter ≡ meter)
     go none h = absurd (h refl)
@@ -293,8 +294,8 @@ demand3 file meter steps =
     record {
       settlements = λ before rest memory e.
           let s : State = afterAll file (start meter) before in
-          let t : List Command = taken (length meter) (entries file 0 before) in
-          let f : Follows (length meter) t (s .book) (s .meter) = follows file [] (start meter) before (starts meter) in (
+          let t : List Command = taken (roomIn meter) (entries file 0 before) in
+          let f : Follows (roomIn meter) t (s .book) (s .meter) = follows file [] (start meter) before (starts meter) in (
             settleBook (s .book) (s .meter) memory,
             ap (λ l. getElem? (outcomes file (start meter) l) (length before)) e ∙ at-outcome file (start meter) before (settle memory) rest,
             settlement-right t (s .book) (s .meter) memory f,
@@ -305,10 +306,10 @@ demand3 file meter steps =
           ∙ ap (λ a. some (entered a)) (answers c (follows file [] (start meter) before (starts meter)));
       reads = λ before rest e.
           let s : State = afterAll file (start meter) before in
-          let t : List Command = taken (length meter) (entries file 0 before) in
+          let t : List Command = taken (roomIn meter) (entries file 0 before) in
           ap (λ l. getElem? (outcomes file (start meter) l) (length before)) e ∙ at-outcome file (start meter) before read rest
           ∙ ap some (says-read t s (readAt file (s .at)) (follows file [] (start meter) before (starts meter)))
-          ∙ ap (λ a. some (readAnswer (length meter) t (readAt file a))) (run-at file (start meter) before);
+          ∙ ap (λ a. some (readAnswer (roomIn meter) t (readAt file a))) (run-at file (start meter) before);
       untouched = λ before rest x o e h n.
           let s : State = afterAll file (start meter) before in
           let said : says file s x ≡ o = some-same _ _ (sym (ap (λ l. getElem? (outcomes file (start meter) l) (length before)) e ∙ at-outcome file (start meter) before x rest) ∙ h) in

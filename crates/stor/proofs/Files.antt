@@ -5,8 +5,8 @@ use mathlib.Core.List.{List, [], _∷_, _++_, append-assoc, append-nil}
 use mathlib.Core.Option.{Option, none, some}
 use Prim.Native.Nat.{ℕ, zero, suc, _+_, _*_, _≤_}
 use native.Mathlib.Omega.{arith}
-use lib.IntN.{ℤ}
 use lib.ListN.{length, replicate, length-append}
+use Rattle.meter.specs.Meter.{Memory, roomIn}
 use Rattle.rules.specs.FileLength.{mostBytes}
 use Rattle.energy.specs.Lists.{concatMap}
 use Rattle.rules.specs.Ledger.{ledgerOf}
@@ -43,7 +43,7 @@ record Ran (file : List ℕ) (size n at : ℕ) (t : List Command) (l : LoadedFil
   whole : l .loaded .answer ≡ Taken → more ≡ commandsFrom n file at
 
 -- it stops at once
-module _ (file : List ℕ) {size : ℕ} {t : List Command} {b : Book} {meter : List ℤ} (f : Follows size t b meter) where
+module _ (file : List ℕ) {size : ℕ} {t : List Command} {b : Book} {meter : Memory} (f : Follows size t b meter) where
   stopped : (n at : ℕ) (a : Answer) → a ≡ answerOf (readRefusal size t (readAt file at)) → (a ≡ Taken → [] ≡ commandsFrom n file at)
       → Ran file size n at t (record { loaded = record { answer = a; at = at; book = b }; meter = meter })
   unfolding entries position takenAfter
@@ -82,13 +82,13 @@ module _ (file : List ℕ) {size : ℕ} where
         whole = λ a. ap (λ cs. c ∷ cs) (r .whole a) ∙ sym (ap (readOn (λ next. commandsFrom n file next)) e);
       }
 
-  ran : (n at : ℕ) (t : List Command) (b : Book) (meter : List ℤ) → length file ≤ at + n → Follows size t b meter → Ran file size n at t (loadFrom n file at b meter)
+  ran : (n at : ℕ) (t : List Command) (b : Book) (meter : Memory) → length file ≤ at + n → Follows size t b meter → Ran file size n at t (loadFrom n file at b meter)
   unfolding loadFrom commandsFrom
   ran zero at t b meter h f = stopped file f 0 at Taken (ap (λ r. answerOf (readRefusal size t r)) (sym (past-end file at (omega arith)))) (λ a. refl)
   ran (suc n) at t b meter h f = go (λ next t b m. ran n next t b m) (readAt file at) refl
     where
       Rest : Type 0
-      Rest = (next : ℕ) (t : List Command) (b : Book) (m : List ℤ) → length file ≤ next + n → Follows size t b m → Ran file size n next t (loadFrom n file next b m)
+      Rest = (next : ℕ) (t : List Command) (b : Book) (m : Memory) → length file ≤ next + n → Follows size t b m → Ran file size n next t (loadFrom n file next b m)
 
       e : Command → Entered
       e c = enterBook b meter c
@@ -114,17 +114,17 @@ pub file-right : File·theorem
 unfolding File·theorem load settleFile taken commandsIn
 file-right file meter memory =
     let l : LoadedFile = loadFrom (length file) file 0 emptyBook meter in
-    let r : Ran file (length meter) (length file) 0 [] l = ran file (length file) 0 [] emptyBook meter (omega arith) (starts meter) in
+    let r : Ran file (roomIn meter) (length file) 0 [] l = ran file (length file) 0 [] emptyBook meter (omega arith) (starts meter) in
     record {
       reads = r .reads;
-      allTaken = ap (takenAfter (length meter) []) (r .entered) ∙ r .taken ∙ sym (r .entered);
+      allTaken = ap (takenAfter (roomIn meter) []) (r .entered) ∙ r .taken ∙ sym (r .entered);
       stands = r .stands;
-      answer = r .answer ∙ ap (λ cs. answerOf (readRefusal (length meter) cs (readAt file (position file 0 (replicate (r .reads) read))))) (sym (r .entered));
+      answer = r .answer ∙ ap (λ cs. answerOf (readRefusal (roomIn meter) cs (readAt file (position file 0 (replicate (r .reads) read))))) (sym (r .entered));
       whole = λ a. r .entered ∙ r .whole a;
       settlement = λ a.
           let right : SettlementRight (commandsFrom (length file) file 0) memory (settleBook (l .loaded .book) (l .meter) memory) =
           settlement-right (commandsFrom (length file) file 0) (l .loaded .book) (l .meter) memory
-          (subst (λ cs. Follows (length meter) cs (l .loaded .book) (l .meter)) (r .whole a) (r .follows)) in
+          (subst (λ cs. Follows (roomIn meter) cs (l .loaded .book) (l .meter)) (r .whole a) (r .follows)) in
           subst⁻¹ (λ x. SettlementRight (commandsFrom (length file) file 0) memory (record { settlement = settlesFile x l memory .answer .settlement; memory = settlesFile x l memory .memory })) a right;
     }
 
@@ -145,9 +145,9 @@ behind file at (suc n) = go (λ next. behind file next n) (readAt file at) refl
     go rest End e = rest at
 
 -- the commands before it are taken, so it is within the room that tables and meter memory have
-pub stops-within : (file : List ℕ) (meter : List ℤ) → load file emptyBook meter .loaded .at ≤ mostBytes (length meter)
+pub stops-within : (file : List ℕ) (meter : Memory) → load file emptyBook meter .loaded .at ≤ mostBytes (roomIn meter)
 unfolding File·theorem
 stops-within file meter =
     let r : FileRight file meter [] = file-right file meter [] in
     let cs : List Command = entries file 0 (replicate (r .reads) read) in
-    omega (arith, r .stands, behind file 0 (r .reads), ap (λ x. length (concatMap write x)) (r .allTaken), file-length (length meter) cs)
+    omega (arith, r .stands, behind file 0 (r .reads), ap (λ x. length (concatMap write x)) (r .allTaken), file-length (roomIn meter) cs)

@@ -7,10 +7,10 @@ use mathlib.Core.List.{List, [], _∷_, _++_}
 use Prim.Native.Nat.{ℕ, zero, suc, _+_, _-_, _≤_, _<_}
 use native.Mathlib.Omega.{arith}
 use borrow.Author.Tests.{le-leb, eq-eqb}
-use lib.IntN.{ℤ}
 use lib.Dec.{T, eqb, leb, eqb→eq}
 use lib.ListN.{length, drop, length-append, length-drop}
 use lib.Seq.{drop-append-le}
+use Rattle.meter.specs.Meter.{Memory, roomIn}
 use Rattle.energy.specs.Lists.{all}
 use Rattle.energy.proofs.Tests.{T-and}
 use Rattle.commands.specs.Input.{Condition, lowest}
@@ -38,7 +38,7 @@ unfolding readAt
 past-end s at h = rw (le-leb (length s) at h)
 
 -- a command that is taken is followed by what `go` gives
-carried : (go go′ : Book → List ℤ → LoadedFile) (at : ℕ) (a : Answer) (e : Entered) → ((b : Book) (m : List ℤ) → go b m ≡ go′ b m) → carriesOn go at a e ≡ carriesOn go′ at a e
+carried : (go go′ : Book → Memory → LoadedFile) (at : ℕ) (a : Answer) (e : Entered) → ((b : Book) (m : Memory) → go b m ≡ go′ b m) → carriesOn go at a e ≡ carriesOn go′ at a e
 carried go go′ at Taken e h = h (e .entry .book) (e .meter)
 carried go go′ at (Refused n) e h = refl
 
@@ -60,15 +60,15 @@ lowest-not (c ∷ cs) t x e = go (λ u. lowest-not cs u x) (c .holds) e
     go rest true e = let n : c .number ≡ x = cc in subst (λ y. eqb y 2 ≡ false) n (is-false (eqb (c .number) 2) (ts .0))
     go rest false e = rest (ts .1) e
 
-book-not-two : (b : Book) (m : List ℤ) (c : Command) (x : ℕ) → enterBook b m c .entry .answer ≡ Refused x → T (eqb x 2) → ⊥
+book-not-two : (b : Book) (m : Memory) (c : Command) (x : ℕ) → enterBook b m c .entry .answer ≡ Refused x → T (eqb x 2) → ⊥
 unfolding enterBook refusal conditions
-book-not-two b m c x e t = go (refusal (not (sound b)) (length m) (ledgerIn b m) c) refl e
+book-not-two b m c x e t = go (refusal (not (sound b)) (roomIn m) (ledgerIn b m) c) refl e
   where
-    go : (r : Option ℕ) → refusal (not (sound b)) (length m) (ledgerIn b m) c ≡ r → enteredBy r b m c .entry .answer ≡ Refused x → ⊥
+    go : (r : Option ℕ) → refusal (not (sound b)) (roomIn m) (ledgerIn b m) c ≡ r → enteredBy r b m c .entry .answer ≡ Refused x → ⊥
     go none f h = let z : _≡_ {A = ℕ} 0 1 = cc in omega arith
     go (some y) f h =
         let same : y ≡ x = cc in
-        subst (λ v. T v) (lowest-not (conditions (not (sound b)) (length m) (ledgerIn b m) c) (unfold all in tt) y f) (subst (λ v. T (eqb v 2)) (sym same) t)
+        subst (λ v. T v) (lowest-not (conditions (not (sound b)) (roomIn m) (ledgerIn b m) c) (unfold all in tt) y f) (subst (λ v. T (eqb v 2)) (sym same) t)
 
 -- 1 in a piece is 1 in the whole
 kept-refused : (p q : List ℕ) (at x : ℕ) → readAt p at ≡ refusedʳ x → eqb x 2 ≡ false → readAt (p ++ q) at ≡ refusedʳ x
@@ -77,14 +77,14 @@ kept-refused p q at x e t =
     (λ two. absurd (true≢false (sym (eq-eqb x 2 two) ∙ t)))
     (refused-number p at e)
 
-enough : (n k : ℕ) (s : List ℕ) (at : ℕ) (b : Book) (m : List ℤ) → length s ≤ at + n → length s ≤ at + k → loadFrom n s at b m ≡ loadFrom k s at b m
+enough : (n k : ℕ) (s : List ℕ) (at : ℕ) (b : Book) (m : Memory) → length s ≤ at + n → length s ≤ at + k → loadFrom n s at b m ≡ loadFrom k s at b m
 unfolding loadFrom
 enough zero zero s at b m h i = refl
 enough zero (suc k) s at b m h i = sym (ap (loadsOn (λ next b m. loadFrom k s next b m) at b m) (past-end s at (omega arith)))
 enough (suc n) zero s at b m h i = ap (loadsOn (λ next b m. loadFrom n s next b m) at b m) (past-end s at (omega arith))
 enough (suc n) (suc k) s at b m h i = go (λ next b m. enough n k s next b m) (readAt s at) refl
   where
-    go : ((next : ℕ) (b : Book) (m : List ℤ) → length s ≤ next + n → length s ≤ next + k → loadFrom n s next b m ≡ loadFrom k s next b m)
+    go : ((next : ℕ) (b : Book) (m : Memory) → length s ≤ next + n → length s ≤ next + k → loadFrom n s next b m ≡ loadFrom k s next b m)
         → (r : Read) → readAt s at ≡ r → loadsOn (λ next b m. loadFrom n s next b m) at b m r ≡ loadsOn (λ next b m. loadFrom k s next b m) at b m r
     go rest (Got c next) e =
         let l : (at < next) × (next ≤ length s) = got-within s at e in
@@ -93,21 +93,21 @@ enough (suc n) (suc k) s at b m h i = go (λ next b m. enough n k s next b m) (r
     go rest End e = refl
 
 -- all commands from a position on, with turns enough
-unfoldable pub from : List ℕ → ℕ → Book → List ℤ → LoadedFile
+unfoldable pub from : List ℕ → ℕ → Book → Memory → LoadedFile
 from s at b m = loadFrom (length s) s at b m
 
-pub from-step : (s : List ℕ) (at : ℕ) (b : Book) (m : List ℤ) → from s at b m ≡ loadsOn (λ next b m. from s next b m) at b m (readAt s at)
+pub from-step : (s : List ℕ) (at : ℕ) (b : Book) (m : Memory) → from s at b m ≡ loadsOn (λ next b m. from s next b m) at b m (readAt s at)
 unfolding from loadFrom
 from-step s at b m = enough (length s) (suc (length s)) s at b m (omega arith) (omega arith)
 
 -- the commands behind k bytes, of the bytes behind them
-shifted : (n k : ℕ) (s : List ℕ) (at : ℕ) (b : Book) (m : List ℤ) → k ≤ length s → loadFrom n s (k + at) b m ≡ later k (loadFrom n (drop k s) at b m)
+shifted : (n k : ℕ) (s : List ℕ) (at : ℕ) (b : Book) (m : Memory) → k ≤ length s → loadFrom n s (k + at) b m ≡ later k (loadFrom n (drop k s) at b m)
 unfolding loadFrom
 shifted zero k s at b m h = refl
 shifted (suc n) k s at b m h = rw (read-drop s k at) (go (λ next b m. shifted n k s next b m h) (readAt (drop k s) at))
   where
     Rest : Type 0
-    Rest = (next : ℕ) (b : Book) (m : List ℤ) → loadFrom n s (k + next) b m ≡ later k (loadFrom n (drop k s) next b m)
+    Rest = (next : ℕ) (b : Book) (m : Memory) → loadFrom n s (k + next) b m ≡ later k (loadFrom n (drop k s) next b m)
 
     goAnswer : Rest → (c : Command) (next : ℕ) (a : Answer)
         → carriesOn (loadFrom n s (k + next)) (k + at) a (enterBook b m c) ≡ later k (carriesOn (loadFrom n (drop k s) next) at a (enterBook b m c))
@@ -121,13 +121,13 @@ shifted (suc n) k s at b m h = rw (read-drop s k at) (go (λ next b m. shifted n
     go rest End = refl
 
 -- the reader never leaves the bytes
-inside : (n : ℕ) (p : List ℕ) (at : ℕ) (b : Book) (m : List ℤ) → at ≤ length p → loadFrom n p at b m .loaded .at ≤ length p
+inside : (n : ℕ) (p : List ℕ) (at : ℕ) (b : Book) (m : Memory) → at ≤ length p → loadFrom n p at b m .loaded .at ≤ length p
 unfolding loadFrom
 inside zero p at b m h = h
 inside (suc n) p at b m h = go (λ next b m. inside n p next b m) (readAt p at) refl
   where
     Rest : Type 0
-    Rest = (next : ℕ) (b : Book) (m : List ℤ) → next ≤ length p → loadFrom n p next b m .loaded .at ≤ length p
+    Rest = (next : ℕ) (b : Book) (m : Memory) → next ≤ length p → loadFrom n p next b m .loaded .at ≤ length p
 
     goAnswer : Rest → (c : Command) (next : ℕ) → next ≤ length p → (a : Answer) → carriesOn (loadFrom n p next) at a (enterBook b m c) .loaded .at ≤ length p
     goAnswer rest c next l Taken = rest next (enterBook b m c .entry .book) (enterBook b m c .meter) l
@@ -144,14 +144,14 @@ module _ (p q : List ℕ) where
   onwards l = from (p ++ q) (l .loaded .at) (l .loaded .book) (l .meter)
 
   -- where the piece is unfinished, the whole goes on from there
-  goes-on : (n at : ℕ) (b : Book) (m : List ℤ) → T (unfinished (loadFrom n p at b m .loaded .answer))
+  goes-on : (n at : ℕ) (b : Book) (m : Memory) → T (unfinished (loadFrom n p at b m .loaded .answer))
       → from (p ++ q) at b m ≡ from (p ++ q) (loadFrom n p at b m .loaded .at) (loadFrom n p at b m .loaded .book) (loadFrom n p at b m .meter)
   unfolding loadFrom
   goes-on zero at b m t = refl
   goes-on (suc n) at b m t = go (λ next b m. goes-on n next b m) (readAt p at) refl t
     where
       Rest : Type 0
-      Rest = (next : ℕ) (b : Book) (m : List ℤ) → T (unfinished (loadFrom n p next b m .loaded .answer)) → from (p ++ q) next b m ≡ onwards (loadFrom n p next b m)
+      Rest = (next : ℕ) (b : Book) (m : Memory) → T (unfinished (loadFrom n p next b m .loaded .answer)) → from (p ++ q) next b m ≡ onwards (loadFrom n p next b m)
 
       goAnswer : Rest → (c : Command) (next : ℕ) (a : Answer) → enterBook b m c .entry .answer ≡ a
           → T (unfinished (carriesOn (loadFrom n p next) at a (enterBook b m c) .loaded .answer))
@@ -168,13 +168,13 @@ module _ (p q : List ℕ) where
       go rest End e t = refl
 
   -- where it is not, the whole ends as the piece does
-  ends-there : (n at : ℕ) (b : Book) (m : List ℤ) → unfinished (loadFrom n p at b m .loaded .answer) ≡ false → from (p ++ q) at b m ≡ loadFrom n p at b m
+  ends-there : (n at : ℕ) (b : Book) (m : Memory) → unfinished (loadFrom n p at b m .loaded .answer) ≡ false → from (p ++ q) at b m ≡ loadFrom n p at b m
   unfolding loadFrom
   ends-there zero at b m t = absurd (true≢false t)
   ends-there (suc n) at b m t = go (λ next b m. ends-there n next b m) (readAt p at) refl t
     where
       Rest : Type 0
-      Rest = (next : ℕ) (b : Book) (m : List ℤ) → unfinished (loadFrom n p next b m .loaded .answer) ≡ false → from (p ++ q) next b m ≡ loadFrom n p next b m
+      Rest = (next : ℕ) (b : Book) (m : Memory) → unfinished (loadFrom n p next b m .loaded .answer) ≡ false → from (p ++ q) next b m ≡ loadFrom n p next b m
 
       goAnswer : Rest → (c : Command) (next : ℕ) (a : Answer) → unfinished (carriesOn (loadFrom n p next) at a (enterBook b m c) .loaded .answer) ≡ false
           → carriesOn (λ b m. from (p ++ q) next b m) at a (enterBook b m c) ≡ carriesOn (loadFrom n p next) at a (enterBook b m c)
@@ -196,7 +196,7 @@ pieces p q b m =
     let inP : k ≤ length p = inside (length p) p 0 b m (omega arith) in
     let inAll : k ≤ length (p ++ q) = simp length-append (omega arith) in
     let b′ : Book = loadFrom (length p) p 0 b m .loaded .book in
-    let m′ : List ℤ = loadFrom (length p) p 0 b m .meter in
+    let m′ : Memory = loadFrom (length p) p 0 b m .meter in
     let zeroed : k + 0 ≡ k = omega arith in
     record {
       goesOn = λ t.
@@ -209,14 +209,14 @@ pieces p q b m =
 
 -- ---- what a piece leaves unread
 
-left : (n : ℕ) (p : List ℕ) (at : ℕ) (b : Book) (m : List ℤ) → length p ≤ at + n → T (unfinished (loadFrom n p at b m .loaded .answer))
+left : (n : ℕ) (p : List ℕ) (at : ℕ) (b : Book) (m : Memory) → length p ≤ at + n → T (unfinished (loadFrom n p at b m .loaded .answer))
     → length p < loadFrom n p at b m .loaded .at + 32
 unfolding loadFrom
 left zero p at b m h t = omega arith
 left (suc n) p at b m h t = go (λ next b m. left n p next b m) (readAt p at) refl t
   where
     Rest : Type 0
-    Rest = (next : ℕ) (b : Book) (m : List ℤ) → length p ≤ next + n → T (unfinished (loadFrom n p next b m .loaded .answer)) → length p < loadFrom n p next b m .loaded .at + 32
+    Rest = (next : ℕ) (b : Book) (m : Memory) → length p ≤ next + n → T (unfinished (loadFrom n p next b m .loaded .answer)) → length p < loadFrom n p next b m .loaded .at + 32
 
     goAnswer : Rest → (c : Command) (next : ℕ) → length p ≤ next + n → (a : Answer) → enterBook b m c .entry .answer ≡ a
         → T (unfinished (carriesOn (loadFrom n p next) at a (enterBook b m c) .loaded .answer))
@@ -231,6 +231,6 @@ left (suc n) p at b m h t = go (λ next b m. left n p next b m) (readAt p at) re
     go rest End e t = omega (arith, piece-end p [] at e)
 
 -- where it is unfinished, fewer bytes than the longest command has
-pub unread : (p : List ℕ) (b : Book) (m : List ℤ) → T (unfinished (load p b m .loaded .answer)) → length p < load p b m .loaded .at + 32
+pub unread : (p : List ℕ) (b : Book) (m : Memory) → T (unfinished (load p b m .loaded .answer)) → length p < load p b m .loaded .at + 32
 unfolding load
 unread p b m t = left (length p) p 0 b m (omega arith) t

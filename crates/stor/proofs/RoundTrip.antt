@@ -7,10 +7,10 @@ use mathlib.Core.Option.{Option, none, some}
 use Prim.Native.Nat.{ℕ, _≤_}
 use native.Mathlib.Omega.{arith}
 use borrow.Author.Tests.{ltb-false}
-use lib.IntN.{ℤ}
 use lib.Dec.{T, ltb}
 use lib.ListN.{length, take, drop}
 use lib.Seq.{take-append-seam}
+use Rattle.meter.specs.Meter.{Memory, lent, roomIn}
 use Rattle.energy.proofs.Tests.{of-T, off-not}
 use Rattle.commands.specs.Input.{lowest}
 use Rattle.rules.specs.Ledger.{Ledger, cellsIn}
@@ -34,21 +34,21 @@ use Rattle.stor.specs.RoundTrip.{enterAll, bytesIn, SameAgain, RoundTrip
 -- ---- what was written
 
 -- the conditions under which a book is written: it is sound, meter memory has the cells for it, and the lent bytes hold its file
-record Writable (b : Book) (meter : List ℤ) (memory : List ℕ) : Type 0 where
+record Writable (b : Book) (meter : Memory) (memory : List ℕ) : Type 0 where
   left : sound b ≡ true
-  cells : cellsIn (ledgerIn b meter) ≤ length meter
+  cells : cellsIn (ledgerIn b meter) ≤ roomIn meter
   bytes : bytesIn (writeBook b meter memory) ≡ fileOf (ledgerIn b meter)
 
-writable : (b : Book) (meter : List ℤ) (memory : List ℕ) → writeBook b meter memory .written .answer ≡ Taken → Writable b meter memory
+writable : (b : Book) (meter : Memory) (memory : List ℕ) → writeBook b meter memory .written .answer ≡ Taken → Writable b meter memory
 unfolding writeBook writeConditions
-writable b meter memory e = go (lowest (writeConditions (not (sound b)) (length meter) (length memory) (ledgerIn b meter))) refl e
+writable b meter memory e = go (lowest (writeConditions (not (sound b)) (roomIn meter) (length memory) (ledgerIn b meter))) refl e
   where
-    go : (o : Option ℕ) → lowest (writeConditions (not (sound b)) (length meter) (length memory) (ledgerIn b meter)) ≡ o → writtenBy o (ledgerIn b meter) memory .written .answer ≡ Taken → Writable b meter memory
+    go : (o : Option ℕ) → lowest (writeConditions (not (sound b)) (roomIn meter) (length memory) (ledgerIn b meter)) ≡ o → writtenBy o (ledgerIn b meter) memory .written .answer ≡ Taken → Writable b meter memory
     go none q h =
-        let c : Clear (writeConditions (not (sound b)) (length meter) (length memory) (ledgerIn b meter)) = clear (writeConditions (not (sound b)) (length meter) (length memory) (ledgerIn b meter)) q in
+        let c : Clear (writeConditions (not (sound b)) (roomIn meter) (length memory) (ledgerIn b meter)) = clear (writeConditions (not (sound b)) (roomIn meter) (length memory) (ledgerIn b meter)) q in
         record {
           left = of-T (sound b) (off-not (sound b) (c .0));
-          cells = ltb-false (length meter) (cellsIn (ledgerIn b meter)) (c .1 .0);
+          cells = ltb-false (roomIn meter) (cellsIn (ledgerIn b meter)) (c .1 .0);
           bytes = ap (λ o. bytesIn (writtenBy o (ledgerIn b meter) memory)) q ∙ take-append-seam (fileOf (ledgerIn b meter)) (drop (length (fileOf (ledgerIn b meter))) memory);
         }
     go (some n) q h = absurd (let z : _≡_ {A = ℕ} 0 1 = cc in omega arith)
@@ -56,22 +56,22 @@ writable b meter memory e = go (lowest (writeConditions (not (sound b)) (length 
 -- ---- read again
 
 -- entering commands one after the other keeps book and commands together
-follow-all : {size : ℕ} {t : List Command} {b : Book} {meter : List ℤ} (cs : List Command) → Follows size t b meter
+follow-all : {size : ℕ} {t : List Command} {b : Book} {meter : Memory} (cs : List Command) → Follows size t b meter
     → Follows size (takenAfter size t cs) (enterAll b meter cs .book) (enterAll b meter cs .meter)
 unfolding takenAfter enterAll
 follow-all [] f = f
 follow-all (c ∷ cs) f = follow-all cs (follow c f)
 
-again : (b : Book) (meter fresh : List ℤ) → Shaped b → sound b ≡ true → bookCells b ≤ length fresh → SameAgain b meter fresh (fileOf (ledgerIn b meter))
+again : (b : Book) (meter fresh : Memory) → Shaped b → sound b ≡ true → bookCells b ≤ roomIn fresh → SameAgain b meter fresh (fileOf (ledgerIn b meter))
 unfolding taken
 again b meter fresh s e h =
     let g : Ledger = ledgerIn b meter in
-    let r : Reached (length fresh) g = book-reached b meter (length fresh) e h in
-    let w : Rewritten (length fresh) g = rewritten (length fresh) g r in
-    let back : commandsIn (fileOf g) ≡ written g = file-commands (length fresh) g r in
+    let r : Reached (roomIn fresh) g = book-reached b meter (roomIn fresh) e h in
+    let w : Rewritten (roomIn fresh) g = rewritten (roomIn fresh) g r in
+    let back : commandsIn (fileOf g) ≡ written g = file-commands (roomIn fresh) g r in
     let b′ : Book = enterAll emptyBook fresh (written g) .book in
-    let m′ : List ℤ = enterAll emptyBook fresh (written g) .meter in
-    let f : Follows (length fresh) (written g) b′ m′ = subst (λ t. Follows (length fresh) t b′ m′) (w .allTaken) (follow-all (written g) (starts fresh)) in
+    let m′ : Memory = enterAll emptyBook fresh (written g) .meter in
+    let f : Follows (roomIn fresh) (written g) b′ m′ = subst (λ t. Follows (roomIn fresh) t b′ m′) (w .allTaken) (follow-all (written g) (starts fresh)) in
     let l : ledgerIn b′ m′ ≡ g = f .ledger ∙ w .same in
     let same : b′ ≡ b = same-book b′ b m′ meter (f .shaped) s (f .left) e l in
     record {

@@ -4,7 +4,6 @@ use mathlib.Core.Bool.{Bool, true, false, cond, true≢false, false≢true}
 use mathlib.Core.List.{List}
 use Prim.Native.Nat.{ℕ, _+_, _-_, _≤_, _<_}
 use native.Mathlib.Omega.{arith}
-use lib.IntN.{ℤ}
 use lib.ListN.{length}
 use Rattle.rules.specs.File.{readAt}
 use Rattle.commands.specs.declared.entries.Command.{Command}
@@ -13,7 +12,7 @@ use Rattle.rules.specs.declared.answer.Answer.the-variants.{Taken, Refused}
 use Rattle.rules.specs.declared.file.Read.{Read}
 use Rattle.rules.specs.declared.file.Read.the-variants.{Got, End}
 use Rattle.rules.specs.declared.file.Read.the-variants.{Refused as refusedʳ}
-use Rattle.meter.specs.Meter.{putMeter, takesReading}
+use Rattle.meter.specs.Meter.{putMeter, takesReading, Memory, roomIn}
 use Rattle.book.specs.Enter.{enterBook, Entered}
 use Rattle.book.specs.Readings.{openSpan}
 use Rattle.book.specs.Sound.{sound}
@@ -28,11 +27,11 @@ use Rattle.stor.specs.declared.file.Turn.{Turn}
 use Rattle.stor.proofs.Pieces.{from, from-step}
 
 -- what is left of a file: the commands from a position on while the loop goes on, and what it ended with when it does not
-abbrev pub rest : List ℕ → Bool → Loaded → List ℤ → LoadedFile
+abbrev pub rest : List ℕ → Bool → Loaded → Memory → LoadedFile
 rest s true l meter = from s (l .at) (l .book) meter
 rest s false l meter = record { loaded = l; meter = meter }
 
-module _ (s : List ℕ) (at : ℕ) (b : Book) (meter : List ℤ) where
+module _ (s : List ℕ) (at : ℕ) (b : Book) (meter : Memory) where
   -- the turn and its rest are what was left before it
   pub turn-rest : from s at b meter ≡ rest s (turnAt s at b meter .turn .going) (turnAt s at b meter .turn .loaded) (turnAt s at b meter .meter)
   unfolding turnAt
@@ -93,12 +92,12 @@ module _ (s : List ℕ) (at : ℕ) (b : Book) (meter : List ℤ) where
 -- ---- a turn without the book
 
 -- a command read is a reading that is taken, or it is left
-abbrev chosen : Bool → ℕ → ℕ → List ℤ → Command → Stand
+abbrev chosen : Bool → ℕ → ℕ → Memory → Command → Stand
 chosen x at next meter c = cond x (record { at = next; meter = putMeter meter c }) (record { at = at; meter = meter })
 
-module _ (span : ℕ) (s : List ℕ) (at : ℕ) (meter : List ℤ) where
+module _ (span : ℕ) (s : List ℕ) (at : ℕ) (meter : Memory) where
   -- what is left from there is what was left before it, for a sound book whose open span it is
-  stand-rest : (b : Book) → sound b ≡ true → span ≡ openSpan b (length meter)
+  stand-rest : (b : Book) → sound b ≡ true → span ≡ openSpan b (roomIn meter)
       → from s at b meter ≡ from s (standAt span s at meter .at) b (standAt span s at meter .meter)
   unfolding standAt
   stand-rest b k o = go (readAt s at) refl
@@ -151,7 +150,7 @@ more true = 1
 more false = 0
 
 -- a turn of the loop, as the code has it
-module _ (s : List ℕ) (l : Loaded) (meter : List ℤ) (r : Turn) (after : List ℤ) (turned : r ≡ turnAt s (l .at) (l .book) meter .turn)
+module _ (s : List ℕ) (l : Loaded) (meter : Memory) (r : Turn) (after : Memory) (turned : r ≡ turnAt s (l .at) (l .book) meter .turn)
     (left : after ≡ turnAt s (l .at) (l .book) meter .meter) where
   pub again : from s (l .at) (l .book) meter ≡ rest s (r .going) (r .loaded) after
   again = turn-rest s (l .at) (l .book) meter ∙ sym (rw (turned, left) refl)
@@ -180,9 +179,9 @@ module _ (s : List ℕ) (l : Loaded) (meter : List ℤ) (r : Turn) (after : List
       go false e = omega (arith, stays e)
 
 -- a turn without the book, as the code has it
-module _ (s : List ℕ) (l : Loaded) (span : ℕ) (meter : List ℤ) (next : ℕ) (after : List ℤ) (stood : next ≡ standAt span s (l .at) meter .at)
+module _ (s : List ℕ) (l : Loaded) (span : ℕ) (meter : Memory) (next : ℕ) (after : Memory) (stood : next ≡ standAt span s (l .at) meter .at)
     (left : after ≡ standAt span s (l .at) meter .meter) where
-  pub read-again : Kept (l .book) → span ≡ openSpan (l .book) (length meter) → from s (l .at) (l .book) meter ≡ from s next (l .book) after
+  pub read-again : Kept (l .book) → span ≡ openSpan (l .book) (roomIn meter) → from s (l .at) (l .book) meter ≡ from s next (l .book) after
   read-again k o = rw (stood, left) (stand-rest span s (l .at) meter (l .book) (k .left) o)
 
   pub read-inside : l .at ≤ length s → next ≤ length s

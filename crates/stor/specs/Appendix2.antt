@@ -3,8 +3,9 @@ use mathlib.Core.Path.{_≡_}
 use mathlib.Core.List.{List, [], _∷_, _++_}
 use mathlib.Core.Option.{some}
 use Prim.Native.Nat.{ℕ, _≤_}
-use lib.IntN.{ℤ, pos}
+use lib.IntN.{pos}
 use lib.ListN.{length, getElem?, replicate}
+use Rattle.meter.specs.Meter.{Memory, lent, roomIn}
 use Rattle.energy.specs.Lists.{concatMap}
 use Rattle.rules.specs.File.{write}
 use Rattle.rules.specs.Examples.{appendix2}
@@ -21,11 +22,11 @@ abbrev pub steps : List Line → List Step
 steps memory = replicate (length bytes) read ++ settle memory ∷ []
 
 -- the settlement pays 416,400 pence
-pub record Paid (meter : List ℤ) (memory : List Line) : Type 0 where
+pub record Paid (meter : Memory) (memory : List Line) : Type 0 where
   pub result : Settled
   pub outcome : getElem? (outcomes bytes (start meter) (steps memory)) (length bytes) ≡ some (settled result)
   pub total : result .settlement .statement .total .0 ≡ pos 416400
 
 -- with any meter memory of a day, and line memory for six lines
 unfoldable pub Appendix2·theorem : Type 0
-Appendix2·theorem = (meter : List ℤ) (memory : List Line) → length meter ≡ 1440 → 6 ≤ length memory → Paid meter memory
+Appendix2·theorem = (meter : Memory) (memory : List Line) → roomIn meter ≡ 1440 → 6 ≤ length memory → Paid meter memory

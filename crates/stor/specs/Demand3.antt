@@ -8,6 +8,7 @@ use Prim.Native.Nat.{ℕ, _*_, _≤_}
 use lib.IntN.{ℤ, pos, _*ℤ_}
 use lib.Dec.{T}
 use lib.ListN.{length, take, drop, getElem?, replicate}
+use Rattle.meter.specs.Meter.{Memory, lent, roomIn}
 use Rattle.rules.specs.Ledger.{Ledger, ledgerOf}
 use Rattle.rules.specs.Refusal.{refusal, taken, answerOf}
 use Rattle.rules.specs.Segment.{needed}
@@ -67,23 +68,23 @@ readAnswer size t (refusedʳ n) = stopped (refusedʳ n)
 readAnswer size t End = stopped End
 
 -- the commands taken of those that some steps enter
-abbrev pub takenBy : List ℕ → List ℤ → List Step → List Command
-takenBy file meter steps = taken (length meter) (entries file 0 steps)
+abbrev pub takenBy : List ℕ → Memory → List Step → List Command
+takenBy file meter steps = taken (roomIn meter) (entries file 0 steps)
 
 -- for a unit file's bytes, meter memory of any length and contents, and a list of steps from the empty book
-pub record Demand3 (file : List ℕ) (meter : List ℤ) (steps : List Step) : Type 0 where
+pub record Demand3 (file : List ℕ) (meter : Memory) (steps : List Step) : Type 0 where
   -- every command entered is taken or turned down as the rules say, for the commands taken before it
   pub commands :
       (before rest : List Step) (c : Command)
       → steps ≡ before ++ enter c ∷ rest
       → getElem? (outcomes file (start meter) steps) (length before)
-      ≡ some (entered (answerOf (refusal false (length meter) (ledgerOf (takenBy file meter before)) c)))
+      ≡ some (entered (answerOf (refusal false (roomIn meter) (ledgerOf (takenBy file meter before)) c)))
   -- so is every command read from the file, where the last read stopped
   pub reads :
       (before rest : List Step)
       → steps ≡ before ++ read ∷ rest
       → getElem? (outcomes file (start meter) steps) (length before)
-      ≡ some (readAnswer (length meter) (takenBy file meter before) (readAt file (position file 0 before)))
+      ≡ some (readAnswer (roomIn meter) (takenBy file meter before) (readAt file (position file 0 before)))
   -- every settlement, wherever it stands, has the outcome that is right for the commands taken before it
   pub settlements :
       (before rest : List Step) (memory : List Line)
@@ -104,4 +105,4 @@ pub record Demand3 (file : List ℕ) (meter : List ℤ) (steps : List Step) : Ty
 
 -- demand 3
 unfoldable pub Demand3·theorem : Type 0
-Demand3·theorem = (file : List ℕ) (meter : List ℤ) (steps : List Step) → Demand3 file meter steps
+Demand3·theorem = (file : List ℕ) (meter : Memory) (steps : List Step) → Demand3 file meter steps

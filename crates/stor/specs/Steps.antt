@@ -1,7 +1,8 @@
 -- "The lists of demand 3": a list of steps, what the calls do along it by the equations that they promise, and what it enters by the rules alone.
 use mathlib.Core.List.{List, [], _∷_}
 use Prim.Native.Nat.{ℕ}
-use lib.IntN.{ℤ}
+use lib.ListN.{length}
+use Rattle.meter.specs.Meter.{Memory, lent}
 use Rattle.rules.specs.File.{readAt}
 use Rattle.commands.specs.declared.entries.Command.{Command}
 use Rattle.rules.specs.declared.statement.Line.{Line}
@@ -26,10 +27,10 @@ pub data Step : Type 0 where
 pub record State : Type 0 where
   pub at : ℕ
   pub book : Book
-  pub meter : List ℤ
+  pub meter : Memory
 
 -- the empty book, with the reader at the file's first byte and meter memory of any length and contents
-abbrev pub start : List ℤ → State
+abbrev pub start : Memory → State
 start meter = record { at = 0; book = emptyBook; meter = meter }
 
 -- what a step is answered: an entry's answer; the reader's end, 1 or 2, and then nothing is entered; a settlement's answer with line memory after it

@@ -2,14 +2,13 @@
 use mathlib.Core.Bool.{true, false, cond}
 use mathlib.Core.List.{List}
 use Prim.Native.Nat.{ℕ}
-use lib.IntN.{ℤ}
 use Rattle.rules.specs.File.{readAt}
 use Rattle.rules.specs.declared.answer.Answer.{Answer}
 use Rattle.rules.specs.declared.answer.Answer.the-variants.{Taken, Refused}
 use Rattle.rules.specs.declared.file.Read.{Read}
 use Rattle.rules.specs.declared.file.Read.the-variants.{Got, End}
 use Rattle.rules.specs.declared.file.Read.the-variants.{Refused as refusedʳ}
-use Rattle.meter.specs.Meter.{putMeter, takesReading}
+use Rattle.meter.specs.Meter.{putMeter, takesReading, Memory}
 use Rattle.book.specs.Enter.{enterBook}
 use Rattle.book.specs.declared.Book.{Book}
 use Rattle.stor.specs.declared.file.Turn.{Turn}
@@ -17,7 +16,7 @@ use Rattle.stor.specs.declared.file.Turn.{Turn}
 -- the turn, and meter memory after it
 pub record Turned : Type 0 where
   pub turn : Turn
-  pub meter : List ℤ
+  pub meter : Memory
 
 -- the loop ends at a position
 abbrev pub stopsAt : ℕ → Answer → Book → Turn
@@ -29,14 +28,14 @@ goesBy at next Taken b = record { going = true; loaded = record { answer = Taken
 goesBy at next (Refused n) b = stopsAt at (Refused n) b
 
 -- what was read is entered; end, 1 and 2 end the loop
-abbrev pub turnBy : ℕ → Book → List ℤ → Read → Turned
+abbrev pub turnBy : ℕ → Book → Memory → Read → Turned
 turnBy at b meter (Got c next) =
     record { turn = goesBy at next (enterBook b meter c .entry .answer) (enterBook b meter c .entry .book); meter = enterBook b meter c .meter }
 turnBy at b meter (refusedʳ n) = record { turn = stopsAt at (Refused n) b; meter = meter }
 turnBy at b meter End = record { turn = stopsAt at Taken b; meter = meter }
 
 -- one turn
-unfoldable pub turnAt : List ℕ → ℕ → Book → List ℤ → Turned
+unfoldable pub turnAt : List ℕ → ℕ → Book → Memory → Turned
 turnAt s at b meter = turnBy at b meter (readAt s at)
 
 -- ---- a turn without the book
@@ -44,14 +43,14 @@ turnAt s at b meter = turnBy at b meter (readAt s at)
 -- where the loop stands, and meter memory then
 pub record Stand : Type 0 where
   pub at : ℕ
-  pub meter : List ℤ
+  pub meter : Memory
 
 -- a reading that is taken in the span goes into meter memory; whatever else was read is left for a turn with the book
-abbrev pub standBy : ℕ → ℕ → List ℤ → Read → Stand
+abbrev pub standBy : ℕ → ℕ → Memory → Read → Stand
 standBy span at meter (Got c next) = cond (takesReading span meter c) (record { at = next; meter = putMeter meter c }) (record { at = at; meter = meter })
 standBy span at meter (refusedʳ n) = record { at = at; meter = meter }
 standBy span at meter End = record { at = at; meter = meter }
 
 -- after the reading at a position
-unfoldable pub standAt : ℕ → List ℕ → ℕ → List ℤ → Stand
+unfoldable pub standAt : ℕ → List ℕ → ℕ → Memory → Stand
 standAt span s at meter = standBy span at meter (readAt s at)

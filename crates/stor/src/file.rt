@@ -3,6 +3,7 @@ ghost use mathlib.Core.Path.{_≡_};
 ghost use mathlib.Core.Bool.{true};
 ghost use Prim.Native.Nat.{_≤_};
 ghost use lib.ListN.{length};
+ghost use Rattle.meter.specs.Meter.{lent};
 ghost use Rattle.book.specs.Book.{emptyBook};
 ghost use Rattle.book.specs.Sound.{sound};
 ghost use Rattle.stor.specs.Files.{load as loadOf};
@@ -71,7 +72,7 @@ fn entered(e: Entry, at: usize, next: usize) -> Turn
 // The command at a position, read and entered.
 fn read_and_enter(b: Book, s: &[u8], at: usize, meter: &mut [i32]) -> Turn
     requires { ⌜ sound b ≡ true ⌝ }
-    ensures { λ r. ⌜ (r ≡ turnAt (now (s .entry)) at b (now (meter .entry)) .turn) × (now (meter .exit) ≡ turnAt (now (s .entry)) at b (now (meter .entry)) .meter) ⌝ }
+    ensures { λ r. ⌜ (r ≡ turnAt (now (s .entry)) at b (lent (now (meter .entry))) .turn) × (lent (now (meter .exit)) ≡ turnAt (now (s .entry)) at b (lent (now (meter .entry))) .meter) ⌝ }
 {
     match read_at(s, at) {
         Read::End => stopped(Answer::Taken, at, b),
@@ -85,7 +86,7 @@ fn read_and_enter(b: Book, s: &[u8], at: usize, meter: &mut [i32]) -> Turn
 
 // The position after the reading at `at`, where one stands there and is taken in the span; else `at`, and meter memory is as it was.
 fn after_reading(span: usize, s: &[u8], at: usize, meter: &mut [i32]) -> usize
-    ensures { λ r. ⌜ (r ≡ standAt span (now (s .entry)) at (now (meter .entry)) .at) × (now (meter .exit) ≡ standAt span (now (s .entry)) at (now (meter .entry)) .meter) ⌝ }
+    ensures { λ r. ⌜ (r ≡ standAt span (now (s .entry)) at (lent (now (meter .entry))) .at) × (lent (now (meter .exit)) ≡ standAt span (now (s .entry)) at (lent (now (meter .entry))) .meter) ⌝ }
 {
     match read_at(s, at) {
         Read::End => at,
@@ -101,7 +102,7 @@ fn after_reading(span: usize, s: &[u8], at: usize, meter: &mut [i32]) -> usize
 // Readings, of which a file has most, are taken without the book, by its open span, which is asked again after every other command.
 pub fn load(b: Book, s: &[u8], meter: &mut [i32]) -> Loaded
     requires { ⌜ sound b ≡ true ⌝ }
-    ensures { λ r. ⌜ (r ≡ loadOf (now (s .entry)) b (now (meter .entry)) .loaded) × (now (meter .exit) ≡ loadOf (now (s .entry)) b (now (meter .entry)) .meter) × (sound (r .book) ≡ true) × (r .at ≤ length (now (s .entry))) ⌝ }
+    ensures { λ r. ⌜ (r ≡ loadOf (now (s .entry)) b (lent (now (meter .entry))) .loaded) × (lent (now (meter .exit)) ≡ loadOf (now (s .entry)) b (lent (now (meter .entry))) .meter) × (sound (r .book) ≡ true) × (r .at ≤ length (now (s .entry))) ⌝ }
 {
     let mut l = Loaded {
         answer: Answer::Taken,
@@ -130,7 +131,7 @@ pub fn load(b: Book, s: &[u8], meter: &mut [i32]) -> Loaded
 
 // All commands of a file into the empty book.
 pub fn load_file(s: &[u8], meter: &mut [i32]) -> Loaded
-    ensures { λ r. ⌜ (r ≡ loadOf (now (s .entry)) emptyBook (now (meter .entry)) .loaded) × (now (meter .exit) ≡ loadOf (now (s .entry)) emptyBook (now (meter .entry)) .meter) × (sound (r .book) ≡ true) ⌝ }
+    ensures { λ r. ⌜ (r ≡ loadOf (now (s .entry)) emptyBook (lent (now (meter .entry))) .loaded) × (lent (now (meter .exit)) ≡ loadOf (now (s .entry)) emptyBook (lent (now (meter .entry))) .meter) × (sound (r .book) ≡ true) ⌝ }
 {
     load(Book::empty(), s, meter)
 }

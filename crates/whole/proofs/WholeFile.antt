@@ -4,6 +4,7 @@ use mathlib.Core.Bool.{Bool, true, false, not}
 use mathlib.Core.List.{List, _∷_}
 use Prim.Native.Nat.{ℕ}
 use lib.IntN.{ℤ}
+use Rattle.meter.specs.Meter.{Memory}
 use Rattle.rules.specs.Ledger.{Ledger}
 use Rattle.commands.specs.Input.{Condition, _when_, lowest}
 use Rattle.rules.specs.Statement.{settleRefusal, settleConditions}
@@ -31,7 +32,7 @@ open-refused false true cs g memory = (refl, refl)
 open-refused false false cs g memory = (refl, refl)
 
 -- settling the empty book is refused, and alters no record
-pub empty-refused : (meter : List ℤ) (memory : List Line) → Refuses (settleBook emptyBook meter memory) memory
+pub empty-refused : (meter : Memory) (memory : List Line) → Refuses (settleBook emptyBook meter memory) memory
 unfolding settleBook settleRefusal settleConditions emptyBook ledgerIn
 empty-refused meter memory = open-refused (not (sound emptyBook)) _ _ _ memory
 
@@ -52,7 +53,7 @@ ends f memory (Refused n) =
     }
 
 -- the steps of the call are the file's settlement
-pub settled : (s : List ℕ) (meter zs : List ℤ) (memory ws : List Line) (l : Loaded) (t : Settlement) (a : FileAnswer)
+pub settled : (s : List ℕ) (meter zs : Memory) (memory ws : List Line) (l : Loaded) (t : Settlement) (a : FileAnswer)
     → l ≡ load s emptyBook meter .loaded
     → zs ≡ load s emptyBook meter .meter
     → t ≡ settleBook (toSettle (l .answer) (l .book)) zs memory .settlement

@@ -1,5 +1,6 @@
 // The call over a whole unit file with lent line memory: the file is entered, its book settled, and the answer is the file's.
 ghost use mathlib.Core.Path.{_≡_};
+ghost use Rattle.meter.specs.Meter.{lent};
 ghost use Rattle.stor.specs.Files.{settleFile};
 ghost use Rattle.whole.specs.Whole.{toSettle, answerBy};
 use book::Book;
@@ -47,7 +48,7 @@ fn answer_of(l: Loaded, s: Settlement) -> FileAnswer
 
 // Enters and settles a whole unit file over lent meter and line memory. A refusal alters no record.
 pub fn settle_file(s: &[u8], meter: &mut [i32], lines: &mut [Line]) -> FileAnswer
-    ensures { λ r. ⌜ (r ≡ settleFile (now (s .entry)) (now (meter .entry)) (now (lines .entry)) .answer) × (now (meter .exit) ≡ settleFile (now (s .entry)) (now (meter .entry)) (now (lines .entry)) .meter) × (now (lines .exit) ≡ settleFile (now (s .entry)) (now (meter .entry)) (now (lines .entry)) .memory) ⌝ }
+    ensures { λ r. ⌜ (r ≡ settleFile (now (s .entry)) (lent (now (meter .entry))) (now (lines .entry)) .answer) × (lent (now (meter .exit)) ≡ settleFile (now (s .entry)) (lent (now (meter .entry))) (now (lines .entry)) .meter) × (now (lines .exit) ≡ settleFile (now (s .entry)) (lent (now (meter .entry))) (now (lines .entry)) .memory) ⌝ }
 {
     let l = load_file(s, meter);
     let b = to_settle(l);

@@ -7,8 +7,7 @@ use Prim.Native.Nat.{ℕ, zero, suc, _+_, _-_, _≤_, _<_}
 use native.Mathlib.Nat.{zero-add}
 use native.Mathlib.Omega.{arith}
 use borrow.Author.Tests.{lt-ltb, le-ltb}
-use lib.IntN.{ℤ}
-use lib.ListN.{length, getD, length-map}
+use lib.ListN.{length, length-map}
 use Rattle.energy.specs.Lists.{concatMap, run, between, putAt}
 use Rattle.rules.specs.Ledger.{spanIn}
 use Rattle.commands.specs.Input.{lowest, mostMinute}
@@ -16,7 +15,7 @@ use Rattle.rules.specs.File.{readingAt, written, fileOf}
 use Rattle.commands.specs.declared.contract.Contract.{Contract}
 use Rattle.rules.specs.declared.answer.Answer.the-variants.{Taken, Refused}
 use Rattle.commands.specs.declared.entries.Command.the-variants.{Contract as contractᶜ, Window as windowᶜ, Instruction as instructionᶜ, Default as defaultᶜ}
-use Rattle.meter.specs.Meter.{cell, missing}
+use Rattle.meter.specs.Meter.{cell, missing, Memory, roomIn, kwAt}
 use Rattle.book.specs.Book.{bookSpan, bookCells, ledgerIn}
 use Rattle.book.specs.Sound.{sound, Shaped}
 use Rattle.book.specs.declared.Book.{Book}
@@ -35,7 +34,7 @@ use Rattle.writer.proofs.WrittenParts.{take-map}
 month : (b : Book) → sound b ≡ true → bookSpan b ≤ mostMinute
 month b e = omega (arith, span-cells b, cells-most b e)
 
-pub kept : (b : Book) (meter : List ℤ) → sound b ≡ true → bookCells b ≤ length meter → Kept b (length meter)
+pub kept : (b : Book) (meter : Memory) → sound b ≡ true → bookCells b ≤ roomIn meter → Kept b (roomIn meter)
 kept b meter e h =
     let t = sound-parts b e .tables in
     record { windows = t .windows; instructions = t .instructions; defaults = t .defaults; month = month b e; memory = omega (arith, span-cells b) }
@@ -65,12 +64,12 @@ contract-part true k = refl
 contract-part false k = refl
 
 -- the readings, of which the ledger has none past the span
-readings-part : (b : Book) (meter : List ℤ) → concatMap (λ m. readingAt (ledgerIn b meter .reading m) m) (between 0 (bookSpan b)) ≡ readings meter (bookSpan b)
+readings-part : (b : Book) (meter : Memory) → concatMap (λ m. readingAt (ledgerIn b meter .reading m) m) (between 0 (bookSpan b)) ≡ readings meter (bookSpan b)
 unfolding between ledgerIn readings
 readings-part b meter =
-    concatMap-ext _ _ (bookSpan b - 0) 0 (λ m h. ap (λ (inside : Bool). readingAt (cond inside (cell (getD meter m missing)) none) m) (lt-ltb m (bookSpan b) (omega arith)))
+    concatMap-ext _ _ (bookSpan b - 0) 0 (λ m h. ap (λ (inside : Bool). readingAt (cond inside (cell (kwAt meter m)) none) m) (lt-ltb m (bookSpan b) (omega arith)))
 
-module _ (b : Book) (meter : List ℤ) (e : sound b ≡ true) where
+module _ (b : Book) (meter : Memory) (e : sound b ≡ true) where
   readings-written : concatMap (λ m. readingAt (ledgerIn b meter .reading m) m) (between 0 (spanIn (ledgerIn b meter))) ≡ readings meter (bookSpan b)
   readings-written = ap (λ n. concatMap (λ m. readingAt (ledgerIn b meter .reading m) m) (between 0 n)) (span-sound b meter e) ∙ readings-part b meter
 
@@ -92,30 +91,30 @@ module _ (b : Book) (meter : List ℤ) (e : sound b ≡ true) where
 -- ---- the answer, and the bytes after it
 
 -- what writing gives
-abbrev Gives : Book → List ℤ → List ℕ → Written → List ℕ → Type 0
+abbrev Gives : Book → Memory → List ℕ → Written → List ℕ → Type 0
 Gives b meter memory r after = (r ≡ writeBook b meter memory .written) × (after ≡ writeBook b meter memory .memory)
 
 -- a refusal
 abbrev no : ℕ → Written
 no n = record { answer = Refused n; size = 0 }
 
-pub refused-11 : (b : Book) (meter : List ℤ) (memory : List ℕ) → sound b ≡ false → Gives b meter memory (no 11) memory
+pub refused-11 : (b : Book) (meter : Memory) (memory : List ℕ) → sound b ≡ false → Gives b meter memory (no 11) memory
 unfolding writeBook writeConditions lowest
 refused-11 b meter memory e = rw e (refl, refl)
 
-module _ (b : Book) (meter : List ℤ) (memory : List ℕ) (e : sound b ≡ true) where
-  pub refused-15 : length meter < bookCells b → Gives b meter memory (no 15) memory
+module _ (b : Book) (meter : Memory) (memory : List ℕ) (e : sound b ≡ true) where
+  pub refused-15 : roomIn meter < bookCells b → Gives b meter memory (no 15) memory
   unfolding writeBook writeConditions lowest
-  refused-15 h = rw (e, cells-sound b meter e, lt-ltb (length meter) (bookCells b) h) (refl, refl)
+  refused-15 h = rw (e, cells-sound b meter e, lt-ltb (roomIn meter) (bookCells b) h) (refl, refl)
 
-  module _ (h : bookCells b ≤ length meter) where
+  module _ (h : bookCells b ≤ roomIn meter) where
     pub refused-26 : length memory < length (fileBytes (parts b meter)) → Gives b meter memory (no 26) memory
     unfolding writeBook writeConditions lowest
     refused-26 short =
         rw (
           e,
           cells-sound b meter e,
-          le-ltb (length meter) (bookCells b) h,
+          le-ltb (roomIn meter) (bookCells b) h,
           file-is b meter e,
           lt-ltb (length memory) (length (fileBytes (parts b meter))) short,
         ) (refl, refl)
@@ -128,7 +127,7 @@ module _ (b : Book) (meter : List ℤ) (memory : List ℕ) (e : sound b ≡ true
         rw (
           e,
           cells-sound b meter e,
-          le-ltb (length meter) (bookCells b) h,
+          le-ltb (roomIn meter) (bookCells b) h,
           file-is b meter e,
           le-ltb (length memory) (length (fileBytes (parts b meter))) long,
         ) (

@@ -20,7 +20,7 @@ use Rattle.commands.specs.declared.entries.Command.{Command}
 use Rattle.commands.specs.declared.entries.Command.the-variants.{Contract as contractᶜ, Window as windowᶜ, Instruction as instructionᶜ, Default as defaultᶜ, Reading as readingᶜ, Close as closeᶜ}
 use Rattle.rules.proofs.Operands.{write-long}
 use Rattle.rules.proofs.Taken.{concatMap-append}
-use Rattle.meter.specs.Meter.{cell, missing}
+use Rattle.meter.specs.Meter.{cell, Memory, kwAt}
 use Rattle.book.specs.declared.Book.{Book}
 use Rattle.rules.proofs.Lists.{getD-within}
 use Rattle.writer.specs.Laid.{fileBytes, Room, Laid, placesIn, usedIn, entries, readings, parts, Tabled}
@@ -113,9 +113,9 @@ cell-length z m = go (isReading z)
     go true = ap length (bytes-one (readingᶜ (record { minute = record { 0 = m }; kw = record { 0 = z } }))) ∙ write-long (readingᶜ (record { minute = record { 0 = m }; kw = record { 0 = z } }))
     go false = refl
 
-module _ (meter : List ℤ) where
+module _ (meter : Memory) where
   abbrev turn : ℕ → List Command
-  turn m = readingAt (cell (getD meter m missing)) m
+  turn m = readingAt (cell (kwAt meter m)) m
 
   pub readings-turns : (n : ℕ) → Turns (readings meter) turn n
   unfolding readings concatMap
@@ -126,20 +126,20 @@ module _ (meter : List ℤ) where
   unfolding readings concatMap between run
   readings-none = refl
 
-  pub readings-count : (m : ℕ) → length (readings meter (m + 1)) ≡ length (readings meter m) + cond (isReading (getD meter m missing)) 1 0
+  pub readings-count : (m : ℕ) → length (readings meter (m + 1)) ≡ length (readings meter m) + cond (isReading (kwAt meter m)) 1 0
   readings-count m =
-      ap length (readings-turns (m + 1) .more m (omega arith)) ∙ length-append (readings meter m) (turn m) ∙ ap (λ n. length (readings meter m) + n) (cell-count (getD meter m missing) m)
+      ap length (readings-turns (m + 1) .more m (omega arith)) ∙ length-append (readings meter m) (turn m) ∙ ap (λ n. length (readings meter m) + n) (cell-count (kwAt meter m) m)
 
   pub readings-few : (n : ℕ) → length (readings meter n) ≤ n
   readings-few zero = rw readings-none (le-refl 0)
-  readings-few (suc n) = rw (← add-one n) (omega (arith, readings-few n, readings-count n, once-most (isReading (getD meter n missing))))
+  readings-few (suc n) = rw (← add-one n) (omega (arith, readings-few n, readings-count n, once-most (isReading (kwAt meter n))))
 
   sevens : (n : ℕ) → length (fileBytes (readings meter n)) ≡ length (readings meter n) * 7
   unfolding concatMap
   sevens zero = rw readings-none
   sevens (suc n) =
       rw (← add-one n, readings-turns (n + 1) .more n (omega arith))
-      (omega (arith, length-both (readings meter n) (turn n), length-append (readings meter n) (turn n), sevens n, cell-length (getD meter n missing) n))
+      (omega (arith, length-both (readings meter n) (turn n), length-append (readings meter n) (turn n), sevens n, cell-length (kwAt meter n) n))
 
   pub readings-length : {n span long : ℕ} (r : Reading) (k : ℕ) → span ≡ k → n ≡ length (readings meter span) → long ≡ n * length (write (readingᶜ r)) → long ≡ length (fileBytes (readings meter k))
   unfolding table widthsOf total
@@ -157,7 +157,7 @@ unfolding concatMap
 once-short true c = rw (bytes-one c) (write-short c)
 once-short false c = omega arith
 
-module _ (b : Book) (meter : List ℤ) where
+module _ (b : Book) (meter : Memory) where
   -- the length of the whole is that of the parts
   pub parts-length :
       length (fileBytes (cond (b .agreed) (contractᶜ (b .contract) ∷ []) [])) + length (fileBytes (entries b Windows)) + length (fileBytes (entries b Instructions)) + length (fileBytes (entries b Defaults))
@@ -183,7 +183,7 @@ module _ (b : Book) (meter : List ℤ) where
       )
 
 -- room for each part after those before it
-module _ (b : Book) (meter : List ℤ) {m : List ℕ} (room : Room (parts b meter) m 0) where
+module _ (b : Book) (meter : Memory) {m : List ℕ} (room : Room (parts b meter) m 0) where
   abbrev contracts : List Command
   contracts = cond (b .agreed) (contractᶜ (b .contract) ∷ []) []
 

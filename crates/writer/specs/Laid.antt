@@ -2,14 +2,13 @@
 use mathlib.Core.Bool.{cond}
 use mathlib.Core.List.{List, [], _∷_, _++_, map}
 use Prim.Native.Nat.{ℕ, _+_, _≤_, _<_}
-use lib.IntN.{ℤ}
-use lib.ListN.{length, getD, take}
+use lib.ListN.{length, take}
 use Rattle.commands.specs.Input.{mostMinute}
 use Rattle.energy.specs.Lists.{concatMap, between, Laid as LaidBytes}
 use Rattle.rules.specs.File.{write, readingAt}
 use Rattle.commands.specs.declared.entries.Command.{Command}
 use Rattle.commands.specs.declared.entries.Command.the-variants.{Contract as contractᶜ, Window as windowᶜ, Instruction as instructionᶜ, Default as defaultᶜ, Close as closeᶜ}
-use Rattle.meter.specs.Meter.{cell, missing}
+use Rattle.meter.specs.Meter.{cell, Memory, lent, kwAt}
 use Rattle.book.specs.Book.{bookSpan}
 use Rattle.book.specs.declared.Book.{Book}
 use Rattle.writer.specs.declared.entries.Table.{Table}
@@ -46,11 +45,11 @@ abbrev pub entries : Book → Table → List Command
 entries b t = take (usedIn b t) (placesIn b t)
 
 -- the readings of the first minutes, by rising minute
-unfoldable pub readings : List ℤ → ℕ → List Command
-readings meter span = concatMap (λ m. readingAt (cell (getD meter m missing)) m) (between 0 span)
+unfoldable pub readings : Memory → ℕ → List Command
+readings meter span = concatMap (λ m. readingAt (cell (kwAt meter m)) m) (between 0 span)
 
 -- what a book that commands leave is written as, table by table
-unfoldable pub parts : Book → List ℤ → List Command
+unfoldable pub parts : Book → Memory → List Command
 parts b meter =
     cond (b .agreed) (contractᶜ (b .contract) ∷ []) [] ++ entries b Windows ++ entries b Instructions ++ entries b Defaults
     ++ readings meter (bookSpan b)

@@ -3,9 +3,9 @@ use mathlib.Core.Bool.{Bool, not}
 use mathlib.Core.List.{List, [], _∷_, _++_}
 use mathlib.Core.Option.{Option, none, some}
 use Prim.Native.Nat.{ℕ}
-use lib.IntN.{ℤ}
 use lib.Dec.{ltb}
 use lib.ListN.{length, drop}
+use Rattle.meter.specs.Meter.{Memory, lent, roomIn}
 use Rattle.commands.specs.Input.{Condition, _when_, lowest}
 use Rattle.rules.specs.Ledger.{Ledger, cellsIn}
 use Rattle.rules.specs.Refusal.{answerOf}
@@ -35,6 +35,6 @@ writtenBy none g memory =
 writtenBy (some n) g memory = record { written = record { answer = answerOf (some n); size = 0 }; memory = memory }
 
 -- writing a book
-unfoldable pub writeBook : Book → List ℤ → List ℕ → WrittenBytes
+unfoldable pub writeBook : Book → Memory → List ℕ → WrittenBytes
 writeBook b meter memory =
-    writtenBy (lowest (writeConditions (not (sound b)) (length meter) (length memory) (ledgerIn b meter))) (ledgerIn b meter) memory
+    writtenBy (lowest (writeConditions (not (sound b)) (roomIn meter) (length memory) (ledgerIn b meter))) (ledgerIn b meter) memory

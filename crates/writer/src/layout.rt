@@ -2,10 +2,9 @@
 ghost use mathlib.Core.Bool.{cond};
 ghost use mathlib.Core.List.{[], _∷_};
 ghost use Prim.Native.Nat.{_≤_};
-ghost use lib.ListN.{length};
 ghost use Rattle.commands.specs.Input.{mostMinute};
 ghost use Rattle.rules.specs.File.{readingAt};
-ghost use Rattle.meter.specs.Meter.{cell};
+ghost use Rattle.meter.specs.Meter.{cell, lent, roomIn};
 ghost use Rattle.writer.specs.Laid.{Room, Laid, entries, Tabled, readings, parts, Kept};
 use crate::entries::Table;
 use crate::entries::entry;
@@ -67,8 +66,8 @@ fn put_cell(minute: Minutes, kw: Kw, out: &mut [u8], at: usize) -> usize
 
 // The readings of the first minutes, by rising minute.
 fn put_readings(meter: &[i32], span: usize, out: &mut [u8], at: usize) -> usize
-    requires { ⌜ (span ≤ length (now meter)) × (span ≤ mostMinute) × Room (readings (now meter) span) (now out) at ⌝ }
-    ensures { λ r. ⌜ Laid (readings (now (meter .entry)) span) (now (out .entry)) at (now (out .exit)) r ⌝ }
+    requires { ⌜ (span ≤ roomIn (lent (now meter))) × (span ≤ mostMinute) × Room (readings (lent (now meter)) span) (now out) at ⌝ }
+    ensures { λ r. ⌜ Laid (readings (lent (now (meter .entry))) span) (now (out .entry)) at (now (out .exit)) r ⌝ }
 {
     let mut place = at;
     let mut m: usize = 0;
@@ -82,8 +81,8 @@ fn put_readings(meter: &[i32], span: usize, out: &mut [u8], at: usize) -> usize
 
 // A book's file from the first byte on; its length. Each name is the position where that part starts.
 pub(crate) fn put_book(b: Book, meter: &[i32], out: &mut [u8]) -> usize
-    requires { ⌜ Kept b (length (now meter)) × Room (parts b (now meter)) (now out) 0 ⌝ }
-    ensures { λ r. ⌜ Laid (parts b (now (meter .entry))) (now (out .entry)) 0 (now (out .exit)) r ⌝ }
+    requires { ⌜ Kept b (roomIn (lent (now meter))) × Room (parts b (lent (now meter))) (now out) 0 ⌝ }
+    ensures { λ r. ⌜ Laid (parts b (lent (now (meter .entry)))) (now (out .entry)) 0 (now (out .exit)) r ⌝ }
 {
     let k = b.contract;
     let windows = put_if(b.agreed, Command::Contract(k), out, 0);

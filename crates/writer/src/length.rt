@@ -3,6 +3,7 @@ ghost use mathlib.Core.Path.{_≡_};
 ghost use mathlib.Core.Bool.{cond};
 ghost use Prim.Native.Nat.{_≤_, _*_};
 ghost use lib.ListN.{length};
+ghost use Rattle.meter.specs.Meter.{lent, roomIn};
 ghost use Rattle.commands.specs.Input.{mostMinute};
 ghost use Rattle.rules.specs.File.{write};
 ghost use Rattle.writer.specs.Laid.{fileBytes, entries, Tabled, readings, parts, Kept};
@@ -42,8 +43,8 @@ fn table_length(b: Book, table: Table) -> usize
 
 // How many of the first minutes have a reading.
 fn readings_in(meter: &[i32], span: usize) -> usize
-    requires { ⌜ span ≤ length (now meter) ⌝ }
-    ensures { λ r. ⌜ r ≡ length (readings (now (meter .entry)) span) ⌝ }
+    requires { ⌜ span ≤ roomIn (lent (now meter)) ⌝ }
+    ensures { λ r. ⌜ r ≡ length (readings (lent (now (meter .entry))) span) ⌝ }
 {
     let mut n: usize = 0;
     let mut minute: usize = 0;
@@ -56,8 +57,8 @@ fn readings_in(meter: &[i32], span: usize) -> usize
 
 // The length of a book's file.
 pub(crate) fn file_length(b: Book, meter: &[i32]) -> usize
-    requires { ⌜ Kept b (length (now meter)) ⌝ }
-    ensures { λ r. ⌜ r ≡ length (fileBytes (parts b (now (meter .entry)))) ⌝ }
+    requires { ⌜ Kept b (roomIn (lent (now meter))) ⌝ }
+    ensures { λ r. ⌜ r ≡ length (fileBytes (parts b (lent (now (meter .entry))))) ⌝ }
 {
     let k = b.contract;
     let contract = as_long(once(b.agreed), Command::Contract(k));

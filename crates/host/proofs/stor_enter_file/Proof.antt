@@ -3,6 +3,7 @@ use mathlib.Core.Path.{_≡_, _∙_, ap}
 use mathlib.Core.List.{List}
 use Prim.Native.Nat.{ℕ}
 use lib.IntN.{ℤ}
+use Rattle.meter.specs.Meter.{Memory, lent}
 use Rattle.book.specs.Book.{emptyBook}
 use Rattle.stor.specs.Files.{load}
 use Rattle.stor.specs.declared.file.Loaded.{Loaded}
@@ -14,7 +15,7 @@ use Rattle.host.proofs.stor_enter_file.Tie as tie
 
 -- the answer, from how entering ended
 answered :
-    (file : List ℕ) (meter : List ℤ) (r n : ℕ) (l : Loaded) → l ≡ load file emptyBook meter .loaded → n ≡ numberOf (l .answer) → r ≡ packed n (l .at)
+    (file : List ℕ) (meter : Memory) (r n : ℕ) (l : Loaded) → l ≡ load file emptyBook meter .loaded → n ≡ numberOf (l .answer) → r ≡ packed n (l .at)
     → r ≡ enterFile file meter .answer
 unfolding enterFile
 answered file meter r n l el en er =
@@ -37,7 +38,7 @@ unfolding enterFile
 returns c =
     let a = c .before .before .before .before .before .before .args in
     let e = c .before .before .before .load-file .ensures in
-    (answered (a .file .now) (a .meter .now) _ _ (c .before .before .before .load-file .result) (e .0) (c .before .number-of .ensures) (c .pack .ensures), e .1)
+    (answered (a .file .now) (lent (a .meter .now)) _ _ (c .before .before .before .load-file .result) (e .0) (c .before .number-of .ensures) (c .pack .ensures), e .1)
 
 pub stor-enter-file-spec : {M : Type 1} → statement M
 stor-enter-file-spec =

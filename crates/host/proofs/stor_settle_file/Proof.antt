@@ -6,6 +6,7 @@ use native.Mathlib.Omega.{arith}
 use lib.IntN.{ℤ}
 use lib.ListN.{length}
 use borrow.Author.Tests.{le-ltb, lt-ltb}
+use Rattle.meter.specs.Meter.{Memory, lent}
 use Rattle.rules.specs.declared.answer.Answer.{Answer}
 use Rattle.rules.specs.declared.answer.Answer.the-variants.{Taken, Refused}
 use Rattle.book.specs.Book.{emptyBook}
@@ -18,7 +19,7 @@ use borrow.Author.Needs.{needs}
 use Rattle.host.proofs.stor_settle_file.Statement.{statement}
 use Rattle.host.proofs.stor_settle_file.Tie as tie
 
-module _ (file : List ℕ) (meter lines sums : List ℤ) where
+module _ (file : List ℕ) (meter : Memory) (lines sums : List ℤ) where
   abbrev whole : SettledFile
   whole = settleFile file meter lines sums
 
@@ -35,14 +36,14 @@ module _ (file : List ℕ) (meter lines sums : List ℤ) where
     long a e = rw (le-ltb (length sums) 262 h) (ap (λ z. settlesBy z entered lines sums) (ap (λ (z : Loaded). z .answer) (sym el) ∙ e))
 
     taken :
-        (r n : ℕ) (meter′ lines′ sums′ : List ℤ) → l .answer ≡ Taken → meter′ ≡ entered .meter
+        (r n : ℕ) (meter′ : Memory) (lines′ sums′ : List ℤ) → l .answer ≡ Taken → meter′ ≡ entered .meter
         → n ≡ settleInto (l .book) meter′ lines sums .number → lines′ ≡ settleInto (l .book) meter′ lines sums .lines
         → sums′ ≡ settleInto (l .book) meter′ lines sums .sums → r ≡ packed n (l .at)
         → (r ≡ whole .answer) × (meter′ ≡ whole .meter) × (lines′ ≡ whole .lines) × (sums′ ≡ whole .sums)
     taken r n meter′ lines′ sums′ e em en els es er = rw (long Taken e, ← el, ← em) (er ∙ ap (λ z. packed z (l .at)) en, refl, els, es)
 
     refused :
-        (r n : ℕ) (meter′ : List ℤ) → l .answer ≡ Refused n → meter′ ≡ entered .meter → r ≡ packed n (l .at)
+        (r n : ℕ) (meter′ : Memory) → l .answer ≡ Refused n → meter′ ≡ entered .meter → r ≡ packed n (l .at)
         → (r ≡ whole .answer) × (meter′ ≡ whole .meter) × (lines ≡ whole .lines) × (sums ≡ whole .sums)
     refused r n meter′ e em er = rw (long (Refused n) e, ← el) (er, em, refl, refl)
 
@@ -52,7 +53,7 @@ pack-requires c κs = search needs
 returns : tie.Need-returns
 returns c =
     let a = c .before .before .before .args in
-    short (a .file .now) (a .meter .now) (a .lines .now) (a .sums .now) _ (c .before .if1 .taken) (c .pack .ensures)
+    short (a .file .now) (lent (a .meter .now)) (a .lines .now) (a .sums .now) _ (c .before .if1 .taken) (c .pack .ensures)
 
 load-file-requires : tie.Need-load-file-requires
 load-file-requires c κs = search needs
@@ -88,7 +89,7 @@ returns-2 c =
     let a = c .before .before .before .before .before .before .before .before .before .before .before .before .before .before .before .args in
     let l = c .before .before .before .before .before .before .before .before .before .before .before .load-file in
     let s = c .before .before .before .settle-book in
-    taken (a .file .now) (a .meter .now) (a .lines .now) (a .sums .now) (c .before .before .before .before .before .before .before .before .before .before .before .before .before .if1 .left) (l .result) (l .ensures .0) _ (s .result) _ _ _
+    taken (a .file .now) (lent (a .meter .now)) (a .lines .now) (a .sums .now) (c .before .before .before .before .before .before .before .before .before .before .before .before .before .if1 .left) (l .result) (l .ensures .0) _ (s .result) _ _ _
     (c .before .before .before .before .before .before .before .enum-told .given .1) (l .ensures .1)
     (s .ensures .0) (s .ensures .1) (s .ensures .2) (c .pack2 .ensures)
 
@@ -99,7 +100,7 @@ returns-3 : tie.Need-returns-3
 returns-3 c =
     let a = c .before .before .before .before .before .before .before .before .before .before .args in
     let l = c .before .before .before .before .before .before .load-file in
-    refused (a .file .now) (a .meter .now) (a .lines .now) (a .sums .now) (c .before .before .before .before .before .before .before .before .if1 .left) (l .result) (l .ensures .0) _ _ _
+    refused (a .file .now) (lent (a .meter .now)) (a .lines .now) (a .sums .now) (c .before .before .before .before .before .before .before .before .if1 .left) (l .result) (l .ensures .0) _ _ _
     (c .before .before .answer .given .1) (l .ensures .1) (c .pack3 .ensures)
 
 pub stor-settle-file-spec : {M : Type 1} → statement M

@@ -8,6 +8,7 @@ use native.Mathlib.Omega.{arith}
 use lib.IntN.{ℤ}
 use lib.ListN.{length}
 use borrow.Author.Tests.{le-ltb, lt-ltb, not-true, not-false}
+use Rattle.meter.specs.Meter.{Memory, lent}
 use Rattle.book.specs.declared.Book.{Book}
 use Rattle.host.specs.Calls.{SettledBook, settleInto, settleTables}
 use Rattle.given.specs.Tables.{bookOf, entire}
@@ -15,7 +16,7 @@ use borrow.Author.Needs.{needs}
 use Rattle.host.proofs.stor_settle_tables.Statement.{statement}
 use Rattle.host.proofs.stor_settle_tables.Tie as tie
 
-module _ (contract windows instructions defaults : List ℕ) (meter lines sums : List ℤ) where
+module _ (contract windows instructions defaults : List ℕ) (meter : Memory) (lines sums : List ℤ) where
   abbrev whole : SettledBook
   whole = settleTables contract windows instructions defaults meter lines sums
 
@@ -47,7 +48,7 @@ module _ (contract windows instructions defaults : List ℕ) (meter lines sums :
 returns : tie.Need-returns
 returns c =
     let a = c .before .before .before .before .before .args in
-    short (a .contract .now) (a .windows .now) (a .instructions .now) (a .defaults .now) (a .meter .now) (a .lines .now) (a .sums .now) (c .if1 .taken)
+    short (a .contract .now) (a .windows .now) (a .instructions .now) (a .defaults .now) (lent (a .meter .now)) (a .lines .now) (a .sums .now) (c .if1 .taken)
 
 entire-tables-requires : tie.Need-entire-tables-requires
 entire-tables-requires c κs = search needs
@@ -55,7 +56,7 @@ entire-tables-requires c κs = search needs
 returns-2 : tie.Need-returns-2
 returns-2 c =
     let a = c .before .before .before .before .before .before .before .args in
-    cut (a .contract .now) (a .windows .now) (a .instructions .now) (a .defaults .now) (a .meter .now) (a .lines .now) (a .sums .now) (c .before .before .if1 .left)
+    cut (a .contract .now) (a .windows .now) (a .instructions .now) (a .defaults .now) (lent (a .meter .now)) (a .lines .now) (a .sums .now) (c .before .before .if1 .left)
     (sym (c .before .entire-tables .ensures) ∙ not-true (c .before .entire-tables .result) (c .if2 .taken))
 
 book-of-requires : tie.Need-book-of-requires
@@ -67,7 +68,7 @@ settle-book-requires c κs =
     let a = at .args in
     let b = c .before .before .book-of in (
       c .before .before .before .before .before .if1 .left,
-      few (a .contract .now) (a .windows .now) (a .instructions .now) (a .defaults .now) (a .meter .now) (a .lines .now) (a .sums .now) (b .result) (b .ensures)
+      few (a .contract .now) (a .windows .now) (a .instructions .now) (a .defaults .now) (lent (a .meter .now)) (a .lines .now) (a .sums .now) (b .result) (b .ensures)
           (at .good .1 .0 .0),
     )
 
@@ -83,7 +84,7 @@ returns-3 c =
     let a = else .before .before .before .before .before .before .before .args in
     let b = c .before .before .before .before .before .book-of in
     let e = c .before .before .settle-book .ensures in
-    settled (a .contract .now) (a .windows .now) (a .instructions .now) (a .defaults .now) (a .meter .now) (a .lines .now) (a .sums .now) (b .result) _ _ _
+    settled (a .contract .now) (a .windows .now) (a .instructions .now) (a .defaults .now) (lent (a .meter .now)) (a .lines .now) (a .sums .now) (b .result) _ _ _
     (b .ensures) (else .before .before .if1 .left) (sym (else .before .entire-tables .ensures) ∙ not-false (else .before .entire-tables .result) (else .if2 .left)) (e .0) (e .1) (e .2)
 
 pub stor-settle-tables-spec : {M : Type 1} → statement M

@@ -6,6 +6,7 @@ use Prim.Native.Nat.{ℕ}
 use lib.IntN.{ℤ}
 use lib.ListN.{length}
 use borrow.Author.Tests.{not-true, not-false}
+use Rattle.meter.specs.Meter.{Memory, lent}
 use Rattle.given.specs.Tables.{bookOf, entire}
 use Rattle.writer.specs.Write.{writeBook}
 use Rattle.writer.specs.declared.Written.{Written}
@@ -16,7 +17,7 @@ use borrow.Author.Needs.{needs}
 use Rattle.host.proofs.stor_write_tables.Statement.{statement}
 use Rattle.host.proofs.stor_write_tables.Tie as tie
 
-module _ (contract windows instructions defaults : List ℕ) (meter : List ℤ) (file : List ℕ) where
+module _ (contract windows instructions defaults : List ℕ) (meter : Memory) (file : List ℕ) where
   abbrev whole : WrittenFile
   whole = writeTables contract windows instructions defaults meter file
 
@@ -44,7 +45,7 @@ returns : tie.Need-returns
 returns c =
     let a = c .before .before .before .before .before .before .before .before .args in
     let t = c .before .before .entire-tables in
-    cut (a .contract .now) (a .windows .now) (a .instructions .now) (a .defaults .now) (a .meter .now) (a .file .now) _
+    cut (a .contract .now) (a .windows .now) (a .instructions .now) (a .defaults .now) (lent (a .meter .now)) (a .file .now) _
     (sym (t .ensures) ∙ not-true (t .result) (c .before .if1 .taken)) (c .pack .ensures)
 
 book-of-requires : tie.Need-book-of-requires
@@ -69,7 +70,7 @@ returns-2 c =
     let t = else .before .entire-tables in
     let b = c .before .before .before .before .before .before .book-of in
     let w = c .before .before .before .before .write-book in
-    written (a .contract .now) (a .windows .now) (a .instructions .now) (a .defaults .now) (a .meter .now) (a .file .now) (b .result) (w .result) _ _ _
+    written (a .contract .now) (a .windows .now) (a .instructions .now) (a .defaults .now) (lent (a .meter .now)) (a .file .now) (b .result) (w .result) _ _ _
     (b .ensures) (sym (t .ensures) ∙ not-false (t .result) (else .if1 .left)) (w .ensures .0) (w .ensures .1) (c .before .number-of .ensures) (c .pack2 .ensures)
 
 pub stor-write-tables-spec : {M : Type 1} → statement M

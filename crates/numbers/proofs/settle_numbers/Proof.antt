@@ -1,6 +1,7 @@
 -- `numbers::settle_numbers` meets its contract: `prepare` decides before a number is written, `fill_numbers` stores the lines, and `sum_up` adds their sums to the answer. Assumes nothing.
 use mathlib.Core.Path.{sym, _∙_, ap, subst}
 use borrow.Author.Needs.{needs}
+use Rattle.meter.specs.Meter.{lent}
 use Rattle.energy.specs.Number.{Within}
 use Rattle.lines.specs.declared.cursor.Cursor.{Cursor}
 use Rattle.settlement.specs.Prepared.{summed}
@@ -33,8 +34,8 @@ returns c =
     let a = c .before .before .before .before .before .before .before .before .before .args in
     let p = c .before .before .before .before .before .before .before .before .prepare in
     let f = c .before .before .fill-numbers in (
-      c .sum-up .ensures ∙ ap (summed (p .result .settlement)) (f .ensures .0) ∙ numbered-answer (a .b) (a .meter .now) (a .numbers .now) (p .result) (p .ensures),
-      f .ensures .1 ∙ numbered-memory (a .b) (a .meter .now) (a .numbers .now) (p .result) (p .ensures),
+      c .sum-up .ensures ∙ ap (summed (p .result .settlement)) (f .ensures .0) ∙ numbered-answer (a .b) (lent (a .meter .now)) (a .numbers .now) (p .result) (p .ensures),
+      f .ensures .1 ∙ numbered-memory (a .b) (lent (a .meter .now)) (a .numbers .now) (p .result) (p .ensures),
     )
 
 pub settle-numbers-spec : {M : Type 1} → statement M

@@ -47,6 +47,7 @@ use denote.Triple.Spec.{Meets, tripleOf}
 use denote.Triple.Table.{entered, cited}
 use denote.Triple.Walked.{says, Stays, stay-none-slice, stay-slice, gave-slice, walkOf, goes-none-slice, goes-slice, goes-gave-slice, Walks, ends-at, walked, walk-meets}
 use denote.Exit.{yes}
+use Rattle.meter.specs.Meter.{lent}
 use Rattle.rules.specs.declared.statement.Line.{Line}
 use Rattle.book.specs.Book.{emptyBook}
 use Rattle.book.specs.Sound.{sound as soundBook}
@@ -161,10 +162,10 @@ module _ {M : Type 1} (𝓤 : URA M) (H : Heap 𝓤) (A : Atoms 𝓤) (W : Given
 
   -- what the calls say
   abbrev Loads : Loaded → List ℤ → Type 0
-  Loads l zs = (l ≡ loadOf (fs .now) emptyBook ys .loaded) × (zs ≡ loadOf (fs .now) emptyBook ys .meter) × (soundBook (l .book) ≡ true)
+  Loads l zs = (l ≡ loadOf (fs .now) emptyBook (lent ys) .loaded) × (lent zs ≡ loadOf (fs .now) emptyBook (lent ys) .meter) × (soundBook (l .book) ≡ true)
 
   abbrev Settles : Book → List ℤ → Settlement → List Line → Type 0
-  Settles k zs t ws = (t ≡ settleBook k zs (x .now) .settlement) × (ws ≡ settleBook k zs (x .now) .memory)
+  Settles k zs t ws = (t ≡ settleBook k (lent zs) (x .now) .settlement) × (ws ≡ settleBook k (lent zs) (x .now) .memory)
 
   -- the call of `load_file`
   abbrev to-load : ℕ → GName → LoadC 𝓤 H A at-mem run .Ghost
@@ -219,7 +220,7 @@ module _ {M : Type 1} (𝓤 : URA M) (H : Heap 𝓤) (A : Atoms 𝓤) (W : Given
     exits l zs e len t ws e₂ len₂ r er is-r =
         qed W (‵ (flft κ₂ q₂) ∷ ‵ (fobs γ (codedHoleys i32 .code (heres i32 zs))) ∷ ‵ (fbor κ₁ (Held i32 (length zs) b o γ)) ∷ ‵ (flft κ₁ q₁) ∷ ‵ (finally R (x .name) ws) ∷ ‵ (flft κ q) ∷ ‵ FileOwn ∷ []) ∵
         suffices ! _ (ends-at 𝓤 H A this.ended stayed (this.clauses 𝓤 H A at-mem run) W (((κ, (κ₁, (κ₂, tt))), (q, (q₁, (q₂, tt))), tt, a, vals), tt) (answer r) r (tt, (zs, (ws, tt))) (tt, (len, (len₂, tt)))) $
-        says ! (settled (fs .now) ys zs (x .now) ws l t r (e .0) (e .1) (e₂ .0) (e₂ .1) er) $
+        says ! (settled (fs .now) (lent ys) (lent zs) (x .now) ws l t r (e .0) (e .1) (e₂ .0) (e₂ .1) er) $
         nothing ! $ move ! (1 ∷ 0 ∷ []) $ join ! $ move ! (3 ∷ 0 ∷ []) $ join ! $ move ! (4 ∷ 0 ∷ []) $ join ! $ frame ! $
         fjoin ! $ pureI ! (at-slice i32 (ms γ zs) (meter ∷ [])) (tt, (tt, tt)) (ap (λ (m : ℕ). sliceVal (b, o) m ∷ []) (sym len), subst (Room i32) (sym len) room-m) $ fjoin ! $
         nothing ! $ move ! (2 ∷ 0 ∷ []) $ fjoin ! $ move ! (1 ∷ 0 ∷ []) $ fjoin ! $ move ! (1 ∷ 0 ∷ []) $ fjoin ! $

@@ -6,6 +6,7 @@ use native.Mathlib.Omega.{arith}
 use borrow.Author.Needs.{needs}
 use borrow.Author.Tests.{not-true, not-false}
 use lib.ListN.{length}
+use Rattle.meter.specs.Meter.{lent, roomIn}
 use Rattle.book.specs.Book.{bookCells}
 use Rattle.book.specs.Sound.{sound}
 use Rattle.writer.specs.Laid.{fileBytes, parts}
@@ -23,7 +24,7 @@ returns : tie.Need-returns
 returns c =
     let f = c .before .before in
     let s = f .before .before in
-    rw (c .refused .ensures) (refused-11 (s .args .b) (s .args .meter .now) (s .args .out .now) (sym (f .sound .ensures) ∙ not-true _ (c .before .if1 .taken)))
+    rw (c .refused .ensures) (refused-11 (s .args .b) (lent (s .args .meter .now)) (s .args .out .now) (sym (f .sound .ensures) ∙ not-true _ (c .before .if1 .taken)))
 
 -- past 11
 left : (c : tie.Else1) → sound (c .before .before .before .args .b) ≡ true
@@ -40,18 +41,18 @@ returns-2 c =
     let p = c .before .before in
     let e = p .before in
     let s = e .before .before .before in
-    rw (c .refused2 .ensures) (refused-15 (s .args .b) (s .args .meter .now) (s .args .out .now) (left e) (rw (p .cells .ensures) at (c .before .if2 .taken)))
+    rw (c .refused2 .ensures) (refused-15 (s .args .b) (lent (s .args .meter .now)) (s .args .out .now) (left e) (rw (p .cells .ensures) at (c .before .if2 .taken)))
 
 -- past 15
 within : (c : tie.Else2)
-    → bookCells (c .before .before .before .before .before .args .b) ≤ length (c .before .before .before .before .before .args .meter .now)
+    → bookCells (c .before .before .before .before .before .args .b) ≤ roomIn (lent (c .before .before .before .before .before .args .meter .now))
 within c = rw (c .before .cells .ensures) at (c .if2 .left)
 
 file-length-requires : tie.Need-file-length-requires
 file-length-requires c κs =
     let e = c .before .before in
     let s = e .before .before .before in
-    kept (s .args .b) (s .args .meter .now) (left e) (within c)
+    kept (s .args .b) (lent (s .args .meter .now)) (left e) (within c)
 
 refused-requires-3 : tie.Need-refused-requires-3
 refused-requires-3 c κs = search needs
@@ -62,11 +63,11 @@ returns-3 c =
     let e = f .before .before .before in
     let s = e .before .before .before in
     rw (c .refused3 .ensures)
-    (refused-26 (s .args .b) (s .args .meter .now) (s .args .out .now) (left e) (within (f .before)) (rw (f .file-length .ensures) at (c .before .if3 .taken)))
+    (refused-26 (s .args .b) (lent (s .args .meter .now)) (s .args .out .now) (left e) (within (f .before)) (rw (f .file-length .ensures) at (c .before .if3 .taken)))
 
 -- past 26
 long : (c : tie.Else3)
-    → length (fileBytes (parts (c .before .before .before .before .before .before .before .args .b) (c .before .before .before .before .before .before .before .args .meter .now)))
+    → length (fileBytes (parts (c .before .before .before .before .before .before .before .args .b) (lent (c .before .before .before .before .before .before .before .args .meter .now))))
     ≤ length (c .before .before .before .before .before .before .before .args .out .now)
 long c = rw (c .before .file-length .ensures) at (c .if3 .left)
 
@@ -75,7 +76,7 @@ put-book-requires c κs =
     let w = c .before .before .before in
     let e = w .before .before in
     let s = e .before .before .before in
-    (kept (s .args .b) (s .args .meter .now) (left e) (within w), record { fits = omega (arith, long (c .before)) })
+    (kept (s .args .b) (lent (s .args .meter .now)) (left e) (within w), record { fits = omega (arith, long (c .before)) })
 
 same-length : tie.Need-same-length
 same-length c = search needs
@@ -87,7 +88,7 @@ returns-4 c =
     let w = l .before .before in
     let e = w .before .before in
     let s = e .before .before .before in
-    written-whole (s .args .b) (s .args .meter .now) (s .args .out .now) (left e) (within w) (long l) (p .put-book .ensures)
+    written-whole (s .args .b) (lent (s .args .meter .now)) (s .args .out .now) (left e) (within w) (long l) (p .put-book .ensures)
 
 pub write-book-spec : {M : Type 1} → statement M
 write-book-spec =

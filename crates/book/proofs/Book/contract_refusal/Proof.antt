@@ -1,5 +1,6 @@
 -- `book::contract_refusal` meets its contract: nothing after 15 is asked of a contract.
 use borrow.Author.Needs.{needs}
+use Rattle.meter.specs.Meter.{lent}
 use Rattle.commands.specs.declared.entries.Command.the-variants.{Contract as contractᶜ}
 use Rattle.book.proofs.Numbers.{met-early, contract-later}
 use Rattle.book.proofs.Book.contract_refusal.Statement.{statement}
@@ -17,8 +18,8 @@ first-number-requires c κs = search needs
 returns : tie.Need-returns
 returns c =
     let at = c .before .before .before in
-    met-early (at .args .self) (at .args .meter .now) (contractᶜ (at .args .k)) (c .first-number .result)
-    (rw (c .first-number .ensures, c .before .before .input-refusal .ensures, c .before .span-of .ensures, at .pre)) (contract-later (at .args .self) (at .args .meter .now) (at .args .k))
+    met-early (at .args .self) (lent (at .args .meter .now)) (contractᶜ (at .args .k)) (c .first-number .result)
+    (rw (c .first-number .ensures, c .before .before .input-refusal .ensures, c .before .span-of .ensures, at .pre)) (contract-later (at .args .self) (lent (at .args .meter .now)) (at .args .k))
 
 pub contract-refusal-spec : {M : Type 1} → statement M
 contract-refusal-spec =

@@ -3,6 +3,7 @@ use borrow.Author.Needs.{needs}
 use mathlib.Core.Path.{_≡_, sym, _∙_}
 use Prim.Native.Nat.{_≤_}
 use lib.ListN.{length, take}
+use Rattle.meter.specs.Meter.{lent}
 use Rattle.energy.proofs.Tests.{of-T}
 use Rattle.rules.specs.Reached.{windowsSound}
 use Rattle.commands.specs.declared.entries.Command.the-variants.{Default as defaultᶜ}
@@ -20,7 +21,7 @@ first-refusal-requires : tie.Need-first-refusal-requires
 first-refusal-requires c κs = search needs
 
 -- the number up to 15
-first : (c : tie.After-first-refusal) → c .first-refusal .result ≡ firstOf (c .before .before .args .self) (c .before .before .args .meter .now) (defaultᶜ (c .before .before .args .d))
+first : (c : tie.After-first-refusal) → c .first-refusal .result ≡ firstOf (c .before .before .args .self) (lent (c .before .before .args .meter .now)) (defaultᶜ (c .before .before .args .d))
 first c = c .first-refusal .ensures ∙ rw (c .before .input-refusal .ensures, c .before .before .pre)
 
 -- the table's length
@@ -30,13 +31,13 @@ cells c = search (length-mapped, needs)
 returns : tie.Need-returns
 returns c =
     let at = c .before .before .before in
-    met-first (at .args .self) (at .args .meter .now) (defaultᶜ (at .args .d)) (c .before .first-refusal .result) (first (c .before)) (c .if1 .taken)
+    met-first (at .args .self) (lent (at .args .meter .now)) (defaultᶜ (at .args .d)) (c .before .first-refusal .result) (first (c .before)) (c .if1 .taken)
 
 -- no condition up to 15 holds
-late : (c : tie.Else1) → Late (c .before .before .before .args .self) (c .before .before .before .args .meter .now) (defaultᶜ (c .before .before .before .args .d))
+late : (c : tie.Else1) → Late (c .before .before .before .args .self) (lent (c .before .before .before .args .meter .now)) (defaultᶜ (c .before .before .before .args .d))
 late c =
     let at = c .before .before .before in
-    met-late (at .args .self) (at .args .meter .now) (defaultᶜ (at .args .d)) (c .before .first-refusal .result) (first (c .before)) (c .if1 .left)
+    met-late (at .args .self) (lent (at .args .meter .now)) (defaultᶜ (at .args .d)) (c .before .first-refusal .result) (first (c .before)) (c .if1 .left)
 
 -- the tables in use
 used : (c : tie.Else1) → Tables (c .before .before .before .args .self)
@@ -55,7 +56,7 @@ returns-2 c =
     let b = at .args .self in
     let n : b .ndefaults ≤ length (b .defaults) = rw (cells at) (used past .defaults) in
     rw (c .default-number .ensures, c .before .before .span .ensures)
-    (sym (late past .number ∙ default-later b (at .args .meter .now) (late past .contracted) (at .args .d) n))
+    (sym (late past .number ∙ default-later b (lent (at .args .meter .now)) (late past .contracted) (at .args .d) n))
 
 pub default-refusal-spec : {M : Type 1} → statement M
 default-refusal-spec = tie.close (tie.spec input-refusal-requires first-refusal-requires returns (λ c κs. search needs) default-number-requires returns-2)

@@ -1,4 +1,5 @@
 use borrow.Author.Needs.{needs}
+use Rattle.meter.specs.Meter.{lent}
 use Rattle.commands.specs.declared.entries.Command.the-variants.{Contract as contractᶜ}
 use Rattle.book.proofs.Entered.{refused-entry, taken-entry, contract-fits}
 use Rattle.book.proofs.Book.enter_contract.Statement.{statement}
@@ -16,7 +17,7 @@ same-length c = search needs
 returns : tie.Need-returns
 returns c =
     let at = c .before .before .before .before in
-    rw (c .refused .ensures) (refused-entry (at .args .self) (at .args .meter .now) (contractᶜ (at .args .k)) (c .before .before .contract-refusal .result) (c .before .before .contract-refusal .ensures) (c .before .if1 .taken))
+    rw (c .refused .ensures) (refused-entry (at .args .self) (lent (at .args .meter .now)) (contractᶜ (at .args .k)) (c .before .before .contract-refusal .result) (c .before .before .contract-refusal .ensures) (c .before .if1 .taken))
 
 span-of-requires : tie.Need-span-of-requires
 span-of-requires c κs = search needs
@@ -24,7 +25,7 @@ span-of-requires c κs = search needs
 mark-requires : tie.Need-mark-requires
 mark-requires c κs =
     let at = c .before .before .before .before .before in
-    rw (c .span-of .ensures) (contract-fits (at .args .self) (at .args .meter .now) (c .before .before .before .contract-refusal .result) (at .args .k) (c .before .before .before .contract-refusal .ensures) (c .before .before .if1 .left))
+    rw (c .span-of .ensures) (contract-fits (at .args .self) (lent (at .args .meter .now)) (c .before .before .before .contract-refusal .result) (at .args .k) (c .before .before .before .contract-refusal .ensures) (c .before .before .if1 .left))
 
 taken-requires : tie.Need-taken-requires
 taken-requires c κs = search needs
@@ -35,7 +36,7 @@ same-length-2 c = search needs
 returns-2 : tie.Need-returns-2
 returns-2 c =
     let at = c .before .before .before .before .before .before .before .before in
-    rw (c .taken .ensures, c .before .before .mark .ensures, c .before .before .before .span-of .ensures) (taken-entry (at .args .self) (at .args .meter .now) (contractᶜ (at .args .k)) (c .before .before .before .before .before .before .contract-refusal .result) (c .before .before .before .before .before .before .contract-refusal .ensures) (c .before .before .before .before .before .if1 .left))
+    rw (c .taken .ensures, c .before .before .mark .ensures, c .before .before .before .span-of .ensures) (taken-entry (at .args .self) (lent (at .args .meter .now)) (contractᶜ (at .args .k)) (c .before .before .before .before .before .before .contract-refusal .result) (c .before .before .before .before .before .before .contract-refusal .ensures) (c .before .before .before .before .before .if1 .left))
 
 pub enter-contract-spec : {M : Type 1} → statement M
 enter-contract-spec =

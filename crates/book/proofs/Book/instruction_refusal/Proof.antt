@@ -2,6 +2,7 @@
 use borrow.Author.Needs.{needs}
 use mathlib.Core.Path.{_≡_, sym, _∙_}
 use Prim.Native.Nat.{_≤_}
+use Rattle.meter.specs.Meter.{lent}
 use Rattle.energy.proofs.Tests.{of-T}
 use Rattle.commands.specs.Input.{inRange}
 use Rattle.commands.specs.declared.entries.Command.the-variants.{Contract as contractᶜ, Instruction as instructionᶜ}
@@ -17,19 +18,19 @@ first-refusal-requires : tie.Need-first-refusal-requires
 first-refusal-requires c κs = search needs
 
 -- the number up to 15
-first : (c : tie.After-first-refusal) → c .first-refusal .result ≡ firstOf (c .before .before .args .self) (c .before .before .args .meter .now) (instructionᶜ (c .before .before .args .i))
+first : (c : tie.After-first-refusal) → c .first-refusal .result ≡ firstOf (c .before .before .args .self) (lent (c .before .before .args .meter .now)) (instructionᶜ (c .before .before .args .i))
 first c = c .first-refusal .ensures ∙ rw (c .before .input-refusal .ensures, c .before .before .pre)
 
 returns : tie.Need-returns
 returns c =
     let at = c .before .before .before in
-    met-first (at .args .self) (at .args .meter .now) (instructionᶜ (at .args .i)) (c .before .first-refusal .result) (first (c .before)) (c .if1 .taken)
+    met-first (at .args .self) (lent (at .args .meter .now)) (instructionᶜ (at .args .i)) (c .before .first-refusal .result) (first (c .before)) (c .if1 .taken)
 
 -- no condition up to 15 holds
-late : (c : tie.Else1) → Late (c .before .before .before .args .self) (c .before .before .before .args .meter .now) (instructionᶜ (c .before .before .before .args .i))
+late : (c : tie.Else1) → Late (c .before .before .before .args .self) (lent (c .before .before .before .args .meter .now)) (instructionᶜ (c .before .before .before .args .i))
 late c =
     let at = c .before .before .before in
-    met-late (at .args .self) (at .args .meter .now) (instructionᶜ (at .args .i)) (c .before .first-refusal .result) (first (c .before)) (c .if1 .left)
+    met-late (at .args .self) (lent (at .args .meter .now)) (instructionᶜ (at .args .i)) (c .before .first-refusal .result) (first (c .before)) (c .if1 .left)
 
 -- the instructions in use are of the table
 used : (c : tie.Else1) → c .before .before .before .args .self .ninstructions ≤ 64
@@ -46,7 +47,7 @@ returns-2 c =
     let past = c .before .before .before .before in
     let at = past .before .before .before in
     rw (c .instruction-number .ensures, c .before .before .span .ensures)
-    (sym (late past .number ∙ instruction-later (at .args .self) (at .args .meter .now) (late past .contracted) (at .args .i)))
+    (sym (late past .number ∙ instruction-later (at .args .self) (lent (at .args .meter .now)) (late past .contracted) (at .args .i)))
 
 pub instruction-refusal-spec : {M : Type 1} → statement M
 instruction-refusal-spec = tie.close (tie.spec input-refusal-requires first-refusal-requires returns (λ c κs. search needs) instruction-number-requires returns-2)

@@ -1,6 +1,7 @@
 -- `host::settling::settle_book` meets its contract: the answer decides whether sums are written, and the lines fit the memory lent for them.
 use mathlib.Core.Path.{_≡_, ap}
 use native.Mathlib.Omega.{arith}
+use Rattle.meter.specs.Meter.{lent}
 use Rattle.numbers.specs.Numbers.{numberBook}
 use Rattle.settlement.specs.declared.Settlement.{Settlement}
 use Rattle.host.proofs.Settled.{few-lines, settled-taken, settled-refused}
@@ -18,9 +19,9 @@ put-sums-requires : tie.Need-put-sums-requires
 put-sums-requires c κs =
     let at = c .before .before .before .before .before .before .before in
     let s = c .before .before .before .before .before .settle-numbers in
-    let same : s .result .statement .lines ≡ numberBook (at .args .b) (at .args .meter .now) (at .args .lines .now) .settlement .statement .lines =
+    let same : s .result .statement .lines ≡ numberBook (at .args .b) (lent (at .args .meter .now)) (at .args .lines .now) .settlement .statement .lines =
     ap (λ (z : Settlement). z .statement .lines) (s .ensures .0) in
-    (at .pre .0, omega (arith, same, few-lines (at .args .b) (at .args .meter .now) (at .args .lines .now), at .good .1 .1 .0 .0), at .pre .1)
+    (at .pre .0, omega (arith, same, few-lines (at .args .b) (lent (at .args .meter .now)) (at .args .lines .now), at .good .1 .1 .0 .0), at .pre .1)
 
 enum-known-answer : tie.Need-enum-known-answer
 enum-known-answer c = search needs
@@ -35,7 +36,7 @@ returns : tie.Need-returns
 returns c =
     let a = c .before .before .before .before .before .before .before .before .before .args in
     let s = c .before .before .before .before .before .before .before .settle-numbers in
-    settled-taken (a .b) (a .meter .now) (a .lines .now) (a .sums .now) _ (s .result) (s .ensures .0) (s .ensures .1) _
+    settled-taken (a .b) (lent (a .meter .now)) (a .lines .now) (a .sums .now) _ (s .result) (s .ensures .0) (s .ensures .1) _
     (c .before .before .before .enum-told .given .1) (c .before .put-sums .ensures)
 
 same-length-3 : tie.Need-same-length-3
@@ -45,7 +46,7 @@ returns-2 : tie.Need-returns-2
 returns-2 c =
     let a = c .before .before .before .before .before .before .before .args in
     let s = c .before .before .before .before .before .settle-numbers in
-    settled-refused (a .b) (a .meter .now) (a .lines .now) (a .sums .now) _ (s .result) (s .ensures .0) (s .ensures .1) (c .before .answer .given .0 .0)
+    settled-refused (a .b) (lent (a .meter .now)) (a .lines .now) (a .sums .now) _ (s .result) (s .ensures .0) (s .ensures .1) (c .before .answer .given .0 .0)
     (c .before .answer .given .1)
 
 pub settle-book-spec : {M : Type 1} → statement M

@@ -8,6 +8,7 @@ use native.Mathlib.Omega.{arith}
 use lib.Dec.{T}
 use lib.ListN.{length, take}
 use lib.Seq.{length-take-le}
+use Rattle.meter.specs.Meter.{lent, roomIn}
 use Rattle.rules.specs.FileLength.{mostBytes}
 use Rattle.book.specs.Sound.{sound}
 use Rattle.book.proofs.Follow.{starts}
@@ -18,19 +19,19 @@ use Rattle.lister.proofs.input.enter_input.Tie as tie
 
 abbrev Inv-loop : tie.InvT-loop
 Inv-loop buffer₀ meter₀ e₀ kept₀ buffer meter e kept =
-    (sound (e .book) ≡ true) × (kept ≤ length buffer) × (length buffer ≡ length buffer₀) × (length meter ≡ length meter₀) × SoFar meter₀ e meter (take kept buffer)
+    (sound (e .book) ≡ true) × (kept ≤ length buffer) × (length buffer ≡ length buffer₀) × (length meter ≡ length meter₀) × SoFar (lent meter₀) e (lent meter) (take kept buffer)
 
 abbrev μ-loop : tie.MeasureT-loop
-μ-loop buffer₀ meter₀ e₀ kept₀ buffer meter e kept = mostBytes (length meter) - e .offset
+μ-loop buffer₀ meter₀ e₀ kept₀ buffer meter e kept = mostBytes (roomIn (lent meter)) - e .offset
 
 -- a turn, once the bytes that the buffer holds are entered
 turned : (c : tie.After-load Inv-loop μ-loop)
-    → Turn (c .before .before .before .before .before .before .before .before .before .before .before .args .meter .now) (c .before .before .before .before .before .before .before .before .loop .e) (c .before .before .before .before .before .before .fill .last .0) (c .before .before .before .before .before .before .fill .result) (c .load .result) (c .load .last .1 .1 .0)
+    → Turn (lent (c .before .before .before .before .before .before .before .before .before .before .before .args .meter .now)) (c .before .before .before .before .before .before .before .before .loop .e) (c .before .before .before .before .before .before .fill .last .0) (c .before .before .before .before .before .before .fill .result) (c .load .result) (lent (c .load .last .1 .1 .0))
 turned c =
     let l = c .load in
     let f = c .before .before .before .before .before .before .fill in
     let t = c .before .before .before .before .before .before .before .before .loop in
-    turn (t .inv .4) (f .last .0) (t .kept) (f .result) (f .ensures .0) (f .ensures .1) (f .ensures .2) (l .result) (l .last .1 .1 .0) (l .ensures .0) (l .ensures .1) (l .ensures .3)
+    turn (t .inv .4) (f .last .0) (t .kept) (f .result) (f .ensures .0) (f .ensures .1) (f .ensures .2) (l .result) (lent (l .last .1 .1 .0)) (l .ensures .0) (l .ensures .1) (l .ensures .3)
 
 -- where the loop goes on, more bytes can change the answer, and the buffer is full
 full : (c : tie.Else1 Inv-loop μ-loop) → T (unfinished (c .before .before .before .before .load .result .answer)) × (c .before .before .before .before .before .before .before .before .before .before .fill .result ≡ length (c .before .before .before .before .before .before .before .before .before .before .fill .last .0))
@@ -44,7 +45,7 @@ empty-requires : tie.Need-empty-requires Inv-loop μ-loop
 empty-requires c κs = search needs
 
 loop-holds : tie.Need-loop-holds Inv-loop μ-loop
-loop-holds c = (rw (c .empty .ensures) (starts [] .left), omega arith, refl, refl, begins _ _ (c .empty .ensures))
+loop-holds c = (rw (c .empty .ensures) (starts (lent []) .left), omega arith, refl, refl, begins _ _ (c .empty .ensures))
 
 fill-requires : tie.Need-fill-requires Inv-loop μ-loop
 fill-requires c κs = search needs

@@ -44,6 +44,7 @@ use denote.Triple.Spec.{Meets, tripleOf}
 use denote.Triple.Table.{entered, cited}
 use denote.Triple.Walked.{says, Stays, stay-none, stay-none-slice, walkOf, goes-none, goes-none-slice, Walks, ends-at, walked, walk-meets}
 use denote.Exit.{yes}
+use Rattle.meter.specs.Meter.{lent}
 use Rattle.rules.specs.declared.statement.Line.{Line}
 use Rattle.book.specs.declared.Book.{Book}
 use Rattle.settlement.specs.declared.Settlement.{Settlement}
@@ -117,7 +118,7 @@ module _ {M : Type 1} (𝓤 : URA M) (H : Heap 𝓤) (A : Atoms 𝓤) (W : Given
   bs = replicate 719 noLine
 
   abbrev Said : Settlement → List Line → Type 0
-  Said r zs = (r ≡ settleBook bk (ms .now) bs .settlement) × (zs ≡ settleBook bk (ms .now) bs .memory)
+  Said r zs = (r ≡ settleBook bk (lent (ms .now)) bs .settlement) × (zs ≡ settleBook bk (lent (ms .now)) bs .memory)
 
   room : Room R (length bs)
   room = subst (Room R) (sym (length-replicate 719 noLine)) (lit< tt, lit< tt)
@@ -159,7 +160,7 @@ module _ {M : Type 1} (𝓤 : URA M) (H : Heap 𝓤) (A : Atoms 𝓤) (W : Given
     is-got : (r : Settlement) (zs : List Line) (w v : Val) → Is N.the-row r (w ∷ []) → Is (Array R 719) zs (v ∷ []) → Is L.the-row (got r zs) (mach w v ∷ [])
     is-got r zs w v is is-lines = ((w ∷ [], (v ∷ [], tt)), (refl, (is, (is-same (T.the-field .row) Line (T.the-field .into) (T.the-field .into-one) 719 zs (v ∷ []) is-lines, tt))))
 
-    right : (r : Settlement) (zs : List Line) → Said r zs → got r zs ≡ listBook bk (ms .now)
+    right : (r : Settlement) (zs : List Line) → Said r zs → got r zs ≡ listBook bk (lent (ms .now))
     unfolding listBook
     right r zs e = λ i. record { settlement = e .0 i; lines = e .1 i }
 

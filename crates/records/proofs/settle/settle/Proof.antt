@@ -44,6 +44,7 @@ use denote.Triple.Spec.{Meets, tripleOf}
 use denote.Triple.Table.{entered, cited}
 use denote.Triple.Walked.{says, Stays, stay-none, stay-none-slice, gave-slice, walkOf, goes-none, goes-none-slice, goes-gave-slice, Walks, ends-at, walked, walk-meets}
 use denote.Exit.{yes}
+use Rattle.meter.specs.Meter.{lent}
 use Rattle.energy.specs.Number.{Within}
 use Rattle.rules.specs.declared.statement.Line.{Line}
 use Rattle.book.specs.declared.Book.{Book}
@@ -172,7 +173,7 @@ module _ {M : Type 1} (𝓤 : URA M) (H : Heap 𝓤) (A : Atoms 𝓤) (W : Given
 
   -- what is prepared, and that it is what `prepare` says
   abbrev Ready′ : Prepared → Type 0
-  Ready′ r = Prepares bk (ms .now) (length ys) r
+  Ready′ r = Prepares bk (lent (ms .now)) (length ys) r
 
   -- what `fill` says: the cursor after the lines, and the records
   abbrev Filled : Prepared → Cursor → List Line → Type 0
@@ -290,7 +291,7 @@ module _ {M : Type 1} (𝓤 : URA M) (H : Heap 𝓤) (A : Atoms 𝓤) (W : Given
         exits t et is-t zs ez l =
             qed W ((‵ (flft κ q) ⊛ ‵ ftrue) ∷ ‵ (flft κ′ q′) ∷ ‵ (finally R (x .name) zs) ∷ ‵ MeterOwn ∷ []) ∵
             suffices ! _ (ends-at 𝓤 H A settle.ended stayed (settle.clauses 𝓤 H A at-mem run) W (((κ, (κ′, tt)), (q, (q′, tt)), tt, a, vals), tt) (O′.lowered t) t (tt, (tt, (zs, tt))) (tt, (tt, (l, tt)))) $
-            says ! (et ∙ ap (summed (r .settlement)) e ∙ settled-answer bk (ms .now) ys r P, ez ∙ settled-memory bk (ms .now) ys r P) $
+            says ! (et ∙ ap (summed (r .settlement)) e ∙ settled-answer bk (lent (ms .now)) ys r P, ez ∙ settled-memory bk (lent (ms .now)) ys r P) $
             split ! $ move ! (2 ∷ 1 ∷ []) $ join ! $ move ! (1 ∷ 0 ∷ []) $ join ! $ frame ! $
             nothing ! $ move ! (1 ∷ 0 ∷ []) $ fjoin ! $ move ! (1 ∷ 0 ∷ []) $ fjoin ! $
             owned ! B.the-row (Is B.the-row) ((LL.makes B.the-type B′.the-plain) 𝓤 H A) bk _ is-book $ fjoin ! $

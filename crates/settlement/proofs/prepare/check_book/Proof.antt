@@ -6,6 +6,7 @@ use native.Mathlib.Omega.{arith}
 use lib.ListN.{length}
 use borrow.Author.Needs.{needs}
 use borrow.Author.Tests.{not-true, not-false}
+use Rattle.meter.specs.Meter.{lent}
 use Rattle.book.specs.Book.{bookCells}
 use Rattle.book.specs.Sound.{sound}
 use Rattle.settlement.specs.Prepared.{Prepares}
@@ -20,8 +21,8 @@ returns : tie.Need-returns
 returns c =
     let s = c .before .before in
     let a = s .args in
-    subst (Prepares (a .b) (a .meter .now) (a .room)) (sym (c .refuse .ensures))
-    (refused (a .b) (a .meter .now) (a .room) 11 (is-11 (a .b) (a .meter .now) (a .room) (sym (s .pre) ∙ not-true (a .left) (c .before .if1 .taken))))
+    subst (Prepares (a .b) (lent (a .meter .now)) (a .room)) (sym (c .refuse .ensures))
+    (refused (a .b) (lent (a .meter .now)) (a .room) 11 (is-11 (a .b) (lent (a .meter .now)) (a .room) (sym (s .pre) ∙ not-true (a .left) (c .before .if1 .taken))))
 
 cells-requires : tie.Need-cells-requires
 cells-requires c κs = search needs
@@ -35,8 +36,8 @@ left-sound c = sym (c .before .pre) ∙ not-false (c .before .args .left) (c .if
 returns-2 : tie.Need-returns-2
 returns-2 c =
     let a = c .before .before .before .before .args in
-    subst (Prepares (a .b) (a .meter .now) (a .room)) (sym (c .refuse2 .ensures))
-    (refused (a .b) (a .meter .now) (a .room) 15 (is-15 (a .b) (a .meter .now) (a .room) (left-sound (c .before .before .before)) (omega (arith, c .before .before .cells .ensures, c .before .if2 .taken))))
+    subst (Prepares (a .b) (lent (a .meter .now)) (a .room)) (sym (c .refuse2 .ensures))
+    (refused (a .b) (lent (a .meter .now)) (a .room) 15 (is-15 (a .b) (lent (a .meter .now)) (a .room) (left-sound (c .before .before .before)) (omega (arith, c .before .before .cells .ensures, c .before .if2 .taken))))
 
 refuse-requires-3 : tie.Need-refuse-requires-3
 refuse-requires-3 c κs = search needs
@@ -45,8 +46,8 @@ returns-3 : tie.Need-returns-3
 returns-3 c =
     let a = c .before .before .before .before .before .args in
     let h : bookCells (a .b) ≤ length (a .meter .now) = omega (arith, c .before .before .before .cells .ensures, c .before .before .if2 .left) in
-    subst (Prepares (a .b) (a .meter .now) (a .room)) (sym (c .refuse3 .ensures))
-    (refused (a .b) (a .meter .now) (a .room) 24 (is-24 (a .b) (a .meter .now) (a .room) (left-sound (c .before .before .before .before)) h (not-true (a .b .closed) (c .before .if3 .taken))))
+    subst (Prepares (a .b) (lent (a .meter .now)) (a .room)) (sym (c .refuse3 .ensures))
+    (refused (a .b) (lent (a .meter .now)) (a .room) 24 (is-24 (a .b) (lent (a .meter .now)) (a .room) (left-sound (c .before .before .before .before)) h (not-true (a .b .closed) (c .before .if3 .taken))))
 
 check-lines-requires : tie.Need-check-lines-requires
 check-lines-requires c κs = (left-sound (c .before .before .before), not-false (c .before .before .before .before .args .b .closed) (c .if3 .left), omega (arith, c .before .before .cells .ensures, c .before .if2 .left))

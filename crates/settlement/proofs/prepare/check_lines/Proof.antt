@@ -8,6 +8,7 @@ use lib.IntN.{ℤ}
 use lib.ListN.{length}
 use borrow.Author.Needs.{needs}
 use borrow.Author.Tests.{not-true, not-false}
+use Rattle.meter.specs.Meter.{Memory, lent}
 use Rattle.rules.specs.Ledger.{Ledger}
 use Rattle.rules.specs.Segment.{complete, segments}
 use Rattle.book.specs.Book.{ledgerIn}
@@ -35,11 +36,14 @@ module _ (s : tie.Start) where
   abbrev meter : List ℤ
   meter = s .args .meter .now
 
+  abbrev readings : Memory
+  readings = lent (s .args .meter .now)
+
   abbrev room : ℕ
   room = s .args .room
 
   abbrev g : Ledger
-  g = ledgerIn (s .args .b) (s .args .meter .now)
+  g = ledgerIn (s .args .b) (lent (s .args .meter .now))
 
   shape : Shaped (s .args .b)
   shape = record { windows = search (length-mapped, needs); instructions = search (length-mapped, needs); defaults = search (length-mapped, needs) }
@@ -48,14 +52,14 @@ module _ (s : tie.Start) where
   book = sound-book b (s .pre .0) (closed-agreed b (s .pre .0) (s .pre .1))
 
   module _ (times : List ℕ) (e : Timed (s .args .b .instructions) 64 times) where
-    grounds : Grounds (s .args .b) times (s .args .meter .now)
+    grounds : Grounds (s .args .b) times (lent (s .args .meter .now))
     grounds = record { sound = book; agreed = closed-agreed b (s .pre .0) (s .pre .1); shape = shape; room = s .pre .2; timed = e }
 
     abbrev t : Terms
     t = termsOf (s .args .b .contract) (s .args .b .ninstructions)
 
-    survey : Surveyed (ledgerIn (s .args .b) (s .args .meter .now)) t times (s .args .meter .now)
-    survey = surveyed b times meter grounds
+    survey : Surveyed (ledgerIn (s .args .b) (lent (s .args .meter .now))) t times (s .args .meter .now)
+    survey = surveyed b times readings grounds
 
     module _ (v : Survey) (q : v ≡ surveyTo t times (s .args .meter .now) (t .calls)) where
       complete-is : v .complete ≡ complete g
@@ -64,15 +68,15 @@ module _ (s : tie.Start) where
       count-is : v .count ≡ length (segments g)
       count-is = ap (λ (z : Survey). z .count) q ∙ survey-count g t times meter survey
 
-      as-25 : v .complete ≡ false → Prepares b meter room (refusalOf 25)
-      as-25 h = refused b meter room 25 (is-25 b meter room (s .pre .0) (s .pre .2) (s .pre .1) (sym complete-is ∙ h))
+      as-25 : v .complete ≡ false → Prepares b readings room (refusalOf 25)
+      as-25 h = refused b readings room 25 (is-25 b readings room (s .pre .0) (s .pre .2) (s .pre .1) (sym complete-is ∙ h))
 
       module _ (h : v .complete ≡ true) where
-        as-26 : room < v .count → Prepares b meter room (refusalOf 26)
-        as-26 l = refused b meter room 26 (is-26 b meter room (s .pre .0) (s .pre .2) (s .pre .1) (sym complete-is ∙ h) (omega (arith, count-is)))
+        as-26 : room < v .count → Prepares b readings room (refusalOf 26)
+        as-26 l = refused b readings room 26 (is-26 b readings room (s .pre .0) (s .pre .2) (s .pre .1) (sym complete-is ∙ h) (omega (arith, count-is)))
 
-        as-taken : v .count ≤ room → (p : Prepared) → LaidOut b t times (v .count) p → Prepares b meter room p
-        as-taken l p O = prepares b times meter grounds room (v .count) p O (sym complete-is ∙ h) count-is (is-taken b meter room (s .pre .0) (s .pre .2) (s .pre .1) (sym complete-is ∙ h) (omega (arith, count-is))) l
+        as-taken : v .count ≤ room → (p : Prepared) → LaidOut b t times (v .count) p → Prepares b readings room p
+        as-taken l p O = prepares b times readings grounds room (v .count) p O (sym complete-is ∙ h) count-is (is-taken b readings room (s .pre .0) (s .pre .2) (s .pre .1) (sym complete-is ∙ h) (omega (arith, count-is))) l
 
 terms-of-requires : tie.Need-terms-of-requires
 terms-of-requires c κs = let k = book (c .before .before) .contract in (k .plain, k .kw .1)
@@ -102,7 +106,7 @@ returns c =
     let s = c .before .before .before .before .before .before .before .before .before in
     let x = c .before .before .before .before .before .times-of in
     let v = c .before .before .before in
-    subst (Prepares (b s) (meter s) (room s)) (sym (c .refuse .ensures)) (as-25 s (x .result) (x .ensures) (v .survey-all .result) (told v) (not-true (v .survey-all .result .complete) (c .before .if1 .taken)))
+    subst (Prepares (b s) (readings s) (room s)) (sym (c .refuse .ensures)) (as-25 s (x .result) (x .ensures) (v .survey-all .result) (told v) (not-true (v .survey-all .result .complete) (c .before .if1 .taken)))
 
 refuse-requires-2 : tie.Need-refuse-requires-2
 refuse-requires-2 c κs = search needs
@@ -112,7 +116,7 @@ returns-2 c =
     let s = c .before .before .before .before .before .before .before .before .before .before in
     let x = c .before .before .before .before .before .before .times-of in
     let v = c .before .before .before .before in
-    subst (Prepares (b s) (meter s) (room s)) (sym (c .refuse2 .ensures))
+    subst (Prepares (b s) (readings s) (room s)) (sym (c .refuse2 .ensures))
     (as-26 s (x .result) (x .ensures) (v .survey-all .result) (told v) (not-false (v .survey-all .result .complete) (c .before .before .if1 .left)) (c .before .if2 .taken))
 
 lay-out-requires : tie.Need-lay-out-requires

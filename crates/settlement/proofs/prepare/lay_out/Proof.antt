@@ -6,6 +6,7 @@ use native.Mathlib.Omega.{arith}
 use lib.IntN.{ℤ, pos}
 use lib.ListN.{replicate, length-replicate}
 use borrow.Author.Needs.{needs}
+use Rattle.meter.specs.Meter.{Memory, lent}
 use Rattle.energy.specs.Number.{Within}
 use Rattle.commands.specs.Input.{kwOf, downMinutes}
 use Rattle.book.specs.Book.{bookCells}
@@ -28,8 +29,8 @@ module _ (s : tie.Start) where
   shape : Shaped (s .args .b)
   shape = record { windows = search (length-mapped, needs); instructions = search (length-mapped, needs); defaults = search (length-mapped, needs) }
 
-  meter : List ℤ
-  meter = replicate (bookCells (s .args .b)) (pos 0)
+  meter : Memory
+  meter = lent (replicate (bookCells (s .args .b)) (pos 0))
 
   grounds : Grounds (s .args .b) (s .args .t3) meter
   unfolding meter

@@ -48,6 +48,7 @@ use denote.Triple.Spec.{Meets, tripleOf}
 use denote.Triple.Table.{entered, cited}
 use denote.Triple.Walked.{says, needs, Stays, stay-none, stay-none-slice, walkOf, goes-none, goes-none-slice, Walks, ends-at, walked, walk-meets}
 use denote.Exit.{yes}
+use Rattle.meter.specs.Meter.{lent}
 use Rattle.rules.specs.declared.statement.Line.{Line}
 use Rattle.book.specs.declared.Book.{Book}
 use Rattle.settlement.specs.declared.Settlement.{Settlement}
@@ -127,7 +128,7 @@ module _ {M : Type 1} (𝓤 : URA M) (H : Heap 𝓤) (A : Atoms 𝓤) (W : Given
   rest = replicate (1679 - n) markOf
 
   abbrev Said : Settlement → List Line → Type 0
-  Said r zs = (r ≡ settleBook bk (ms .now) bs .settlement) × (zs ≡ settleBook bk (ms .now) bs .memory)
+  Said r zs = (r ≡ settleBook bk (lent (ms .now)) bs .settlement) × (zs ≡ settleBook bk (lent (ms .now)) bs .memory)
 
   room : n ≤ 1679 → Room R (length bs)
   room most = subst (Room R) (sym (length-replicate n markOf)) (lt-of-le-of-lt most (lit< tt), lt-of-le-of-lt (mul-le-mul-right (mem R .size) most) (lit< tt))
@@ -181,7 +182,7 @@ module _ {M : Type 1} (𝓤 : URA M) (H : Heap 𝓤) (A : Atoms 𝓤) (W : Given
     is-got : (r : Settlement) (zs : List Line) (w v : Val) → Is N.the-row r (w ∷ []) → Is (Array R 1679) (zs ++ rest) (v ∷ []) → Is L.the-row (got r zs) (mach w v ∷ [])
     is-got r zs w v is is-lines = ((w ∷ [], (v ∷ [], tt)), (refl, (is, (is-same (T.the-field .row) Line (T.the-field .into) (T.the-field .into-one) 1679 (zs ++ rest) (v ∷ []) is-lines, tt))))
 
-    right : (r : Settlement) (zs : List Line) → Said r zs → got r zs ≡ monthOf bk (ms .now) n
+    right : (r : Settlement) (zs : List Line) → Said r zs → got r zs ≡ monthOf bk (lent (ms .now)) n
     unfolding monthOf
     right r zs e = λ i. record { settlement = e .0 i; lines = e .1 i ++ rest }
 

@@ -5,6 +5,7 @@ use Prim.Native.Nat.{_+_, _-_, _≤_}
 use native.Mathlib.Omega.{arith}
 use borrow.Author.Needs.{needs}
 use lib.ListN.{length}
+use Rattle.meter.specs.Meter.{lent, roomIn}
 use Rattle.book.specs.Readings.{openSpan}
 use Rattle.book.specs.Sound.{Shaped}
 use Rattle.book.proofs.Kept.{Kept}
@@ -17,8 +18,8 @@ use Rattle.stor.proofs.file.load.Tie as tie
 
 abbrev Inv-loop : tie.InvT-loop
 Inv-loop s meter₀ l₀ going₀ span₀ meter l going span =
-    (rest s going l meter ≡ from s 0 (l₀ .book) meter₀) × Kept (l .book) × (l .at ≤ length s) × (length meter ≡ length meter₀)
-    × (span ≡ openSpan (l .book) (length meter))
+    (rest s going l (lent meter) ≡ from s 0 (l₀ .book) (lent meter₀)) × Kept (l .book) × (l .at ≤ length s) × (length meter ≡ length meter₀)
+    × (span ≡ openSpan (l .book) (roomIn (lent meter)))
 
 abbrev μ-loop : tie.MeasureT-loop
 μ-loop s meter₀ l₀ going₀ span₀ meter l going span = (length s - l .at) + more going
@@ -42,7 +43,7 @@ loop-less : tie.Need-loop-less Inv-loop μ-loop
 loop-less c =
     let at = c .before .before .before .before .before in
     let e = c .before .before .after-reading .ensures in
-    let ends = read-inside (at .before .before .before .args .s .now) (at .loop .l) (at .loop .span) (at .loop .meter) (c .before .before .after-reading .result) _ (e .0) (e .1) (at .loop .inv .2) in
+    let ends = read-inside (at .before .before .before .args .s .now) (at .loop .l) (at .loop .span) (lent (at .loop .meter)) (c .before .before .after-reading .result) _ (e .0) (e .1) (at .loop .inv .2) in
     rw (c .before .before .before .before .loop-test .taken) (omega (arith, ends, c .if1 .taken))
 
 loop-again : tie.Need-loop-again Inv-loop μ-loop
@@ -53,9 +54,9 @@ loop-again c =
     let e = c .before .before .after-reading .ensures in
     let inv = at .loop .inv in
     let going = c .before .before .before .before .loop-test .taken in (
-      rw going (sym (read-again s (at .loop .l) (at .loop .span) (at .loop .meter) next _ (e .0) (e .1) (inv .1) (inv .4)) ∙ (rw going at (inv .0))),
+      rw going (sym (read-again s (at .loop .l) (at .loop .span) (lent (at .loop .meter)) next _ (e .0) (e .1) (inv .1) (inv .4)) ∙ (rw going at (inv .0))),
       inv .1,
-      read-inside s (at .loop .l) (at .loop .span) (at .loop .meter) next _ (e .0) (e .1) (inv .2),
+      read-inside s (at .loop .l) (at .loop .span) (lent (at .loop .meter)) next _ (e .0) (e .1) (inv .2),
       search needs,
       inv .4 ∙ ap (openSpan (at .loop .l .book)) (search needs),
     )
@@ -85,7 +86,7 @@ loop-again-2 c =
     let a = d .before .before .before .before .before .after-reading .ensures in
     let inv = at .loop .inv in (
       sym (again s (at .loop .l) _ r _ (e .0) (e .1))
-          ∙ ap (from s (at .loop .l .at) (at .loop .l .book)) (read-none s (at .loop .l) (at .loop .span) (at .loop .meter) _ _ (a .0) (a .1) (d .before .before .before .if1 .left))
+          ∙ ap (from s (at .loop .l .at) (at .loop .l .book)) (read-none s (at .loop .l) (at .loop .span) (lent (at .loop .meter)) _ _ (a .0) (a .1) (d .before .before .before .if1 .left))
           ∙ (rw (d .before .before .before .before .before .before .before .loop-test .taken) at (inv .0)),
       keeps s (at .loop .l) _ r _ (e .0) (e .1) (inv .1),
       inside s (at .loop .l) _ r _ (e .0) (e .1) (inv .2),

@@ -1,6 +1,7 @@
 -- `stor::file::load_file` meets its contract: the empty book is sound.
 use borrow.Author.Needs.{needs}
 use mathlib.Core.List.{[]}
+use Rattle.meter.specs.Meter.{lent}
 use Rattle.book.proofs.Follow.{starts}
 use Rattle.stor.proofs.file.load_file.Statement.{statement}
 use Rattle.stor.proofs.file.load_file.Tie as tie
@@ -9,7 +10,7 @@ empty-requires : tie.Need-empty-requires
 empty-requires c κs = search needs
 
 load-requires : tie.Need-load-requires
-load-requires c κs = rw (c .before .empty .ensures) (starts [] .left)
+load-requires c κs = rw (c .before .empty .ensures) (starts (lent []) .left)
 
 same-length : tie.Need-same-length
 same-length c = search needs

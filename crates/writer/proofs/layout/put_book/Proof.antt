@@ -1,5 +1,6 @@
 -- `writer::layout::put_book` meets its contract: each part goes after those before it.
 use borrow.Author.Needs.{needs}
+use Rattle.meter.specs.Meter.{lent}
 use Rattle.book.specs.Sound.{Shaped}
 use Rattle.rules.proofs.Folds.{length-mapped}
 use Rattle.writer.specs.Laid.{Tabled}
@@ -18,20 +19,20 @@ tables s = tabled (s .args .b) shaped (s .pre .0)
 put-if-requires : tie.Need-put-if-requires
 put-if-requires c κs =
     let s = c .before .before .before in
-    room-contract (s .args .b) (s .args .meter .now) (s .pre .1)
+    room-contract (s .args .b) (lent (s .args .meter .now)) (s .pre .1)
 
 put-table-requires : tie.Need-put-table-requires
 put-table-requires c κs =
     let c₁ = c .before .before .before in
     let s = c₁ .before .before .before .before in
-    (tables s _, room-windows (s .args .b) (s .args .meter .now) (s .pre .1) (c₁ .put-if .ensures))
+    (tables s _, room-windows (s .args .b) (lent (s .args .meter .now)) (s .pre .1) (c₁ .put-if .ensures))
 
 put-table-requires-2 : tie.Need-put-table-requires-2
 put-table-requires-2 c κs =
     let c₂ = c .before .before .before in
     let c₁ = c₂ .before .before .before .before in
     let s = c₁ .before .before .before .before in
-    (tables s _, room-instructions (s .args .b) (s .args .meter .now) (s .pre .1) (c₁ .put-if .ensures) (c₂ .put-table .ensures))
+    (tables s _, room-instructions (s .args .b) (lent (s .args .meter .now)) (s .pre .1) (c₁ .put-if .ensures) (c₂ .put-table .ensures))
 
 put-table-requires-3 : tie.Need-put-table-requires-3
 put-table-requires-3 c κs =
@@ -39,7 +40,7 @@ put-table-requires-3 c κs =
     let c₂ = c₃ .before .before .before .before in
     let c₁ = c₂ .before .before .before .before in
     let s = c₁ .before .before .before .before in
-    (tables s _, room-defaults (s .args .b) (s .args .meter .now) (s .pre .1) (c₁ .put-if .ensures) (c₂ .put-table .ensures) (c₃ .put-table2 .ensures))
+    (tables s _, room-defaults (s .args .b) (lent (s .args .meter .now)) (s .pre .1) (c₁ .put-if .ensures) (c₂ .put-table .ensures) (c₃ .put-table2 .ensures))
 
 span-requires : tie.Need-span-requires
 span-requires c κs = search needs
@@ -54,7 +55,7 @@ put-readings-requires c κs =
     rw (c .before .span .ensures) (
       s .pre .0 .memory,
       s .pre .0 .month,
-      room-readings (s .args .b) (s .args .meter .now) (s .pre .1) (c₁ .put-if .ensures) (c₂ .put-table .ensures) (c₃ .put-table2 .ensures) (c₄ .put-table3 .ensures),
+      room-readings (s .args .b) (lent (s .args .meter .now)) (s .pre .1) (c₁ .put-if .ensures) (c₂ .put-table .ensures) (c₃ .put-table2 .ensures) (c₄ .put-table3 .ensures),
     )
 
 put-if-requires-2 : tie.Need-put-if-requires-2
@@ -66,7 +67,7 @@ put-if-requires-2 c κs =
     let c₂ = c₃ .before .before .before .before in
     let c₁ = c₂ .before .before .before .before in
     let s = c₁ .before .before .before .before in
-    room-close (s .args .b) (s .args .meter .now) (s .pre .1) (c₁ .put-if .ensures) (c₂ .put-table .ensures) (c₃ .put-table2 .ensures) (c₄ .put-table3 .ensures) (rw span at (c₅ .put-readings .ensures))
+    room-close (s .args .b) (lent (s .args .meter .now)) (s .pre .1) (c₁ .put-if .ensures) (c₂ .put-table .ensures) (c₃ .put-table2 .ensures) (c₄ .put-table3 .ensures) (rw span at (c₅ .put-readings .ensures))
 
 same-length : tie.Need-same-length
 same-length c = search needs
@@ -81,7 +82,7 @@ returns c =
     let c₂ = c₃ .before .before .before .before in
     let c₁ = c₂ .before .before .before .before in
     let s = c₁ .before .before .before .before in
-    parts-laid (s .args .b) (s .args .meter .now) (s .pre .1) (c₁ .put-if .ensures) (c₂ .put-table .ensures) (c₃ .put-table2 .ensures) (c₄ .put-table3 .ensures) (rw span at (c₅ .put-readings .ensures)) (c₆ .put-if2 .ensures)
+    parts-laid (s .args .b) (lent (s .args .meter .now)) (s .pre .1) (c₁ .put-if .ensures) (c₂ .put-table .ensures) (c₃ .put-table2 .ensures) (c₄ .put-table3 .ensures) (rw span at (c₅ .put-readings .ensures)) (c₆ .put-if2 .ensures)
 
 pub put-book-spec : {M : Type 1} → statement M
 put-book-spec =

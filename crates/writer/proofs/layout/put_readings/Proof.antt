@@ -3,6 +3,7 @@ use mathlib.Core.Path.{_≡_}
 use Prim.Native.Nat.{_-_, _≤_}
 use native.Mathlib.Omega.{arith}
 use borrow.Author.Needs.{needs}
+use Rattle.meter.specs.Meter.{lent}
 use Rattle.writer.specs.Laid.{Laid, readings}
 use Rattle.writer.proofs.WrittenLaid.{laid-none, laid-long, room-so, room-turn, laid-turn}
 use Rattle.writer.proofs.WrittenParts.{readings-none, readings-turns}
@@ -10,13 +11,13 @@ use Rattle.writer.proofs.layout.put_readings.Statement.{statement}
 use Rattle.writer.proofs.layout.put_readings.Tie as tie
 
 abbrev Inv-loop : tie.InvT-loop
-Inv-loop meter span out₀ at place₀ m₀ out place m = (m ≤ span) × Laid (readings meter m) out₀ at out place
+Inv-loop meter span out₀ at place₀ m₀ out place m = (m ≤ span) × Laid (readings (lent meter) m) out₀ at out place
 
 abbrev μ-loop : tie.MeasureT-loop
 μ-loop meter span out₀ at place₀ m₀ out place m = span - m
 
 loop-holds : tie.Need-loop-holds Inv-loop μ-loop
-loop-holds c = (search needs, rw (readings-none (c .before .args .meter .now)) (laid-none _ _))
+loop-holds c = (search needs, rw (readings-none (lent (c .before .args .meter .now))) (laid-none _ _))
 
 cast-t9 : tie.Need-cast-t9 Inv-loop μ-loop
 cast-t9 c = omega (arith, c .before .before .before .pre .1)
@@ -28,7 +29,7 @@ put-cell-requires : tie.Need-put-cell-requires Inv-loop μ-loop
 put-cell-requires c κs =
     let l = c .before .before in
     let s = l .before .before .before in
-    rw (c .before .kw-at .ensures) (room-turn (readings-turns (s .args .meter .now) (s .args .span)) (s .pre .2) (l .loop-test .taken) (l .before .loop .inv .1))
+    rw (c .before .kw-at .ensures) (room-turn (readings-turns (lent (s .args .meter .now)) (s .args .span)) (s .pre .2) (l .loop-test .taken) (l .before .loop .inv .1))
 
 add-m : tie.Need-add-m Inv-loop μ-loop
 add-m c = search needs
@@ -43,13 +44,13 @@ loop-again c =
     let l = k .before in
     let s = l .before .before .before in (
       search needs,
-      laid-turn (readings-turns (s .args .meter .now) (s .args .span)) (s .pre .2) (l .loop-test .taken) (l .before .loop .inv .1) (rw (k .kw-at .ensures) at (p .put-cell .ensures)),
+      laid-turn (readings-turns (lent (s .args .meter .now)) (s .args .span)) (s .pre .2) (l .loop-test .taken) (l .before .loop .inv .1) (rw (k .kw-at .ensures) at (p .put-cell .ensures)),
     )
 
 same-length : tie.Need-same-length Inv-loop μ-loop
 same-length c =
     let s = c .before .before .before in
-    laid-long (room-so (readings-turns (s .args .meter .now) (s .args .span)) (s .pre .2) (c .before .loop .m) (c .before .loop .inv .0)) (c .before .loop .inv .1)
+    laid-long (room-so (readings-turns (lent (s .args .meter .now)) (s .args .span)) (s .pre .2) (c .before .loop .m) (c .before .loop .inv .0)) (c .before .loop .inv .1)
 
 returns : tie.Need-returns Inv-loop μ-loop
 returns c =

@@ -4,6 +4,7 @@ use Prim.Native.Nat.{_+_, _≤_}
 use native.Mathlib.Omega.{arith}
 use borrow.Author.Needs.{needs}
 use lib.ListN.{length}
+use Rattle.meter.specs.Meter.{lent}
 use Rattle.commands.specs.declared.entries.Command.the-variants.{Contract as contractᶜ, Close as closeᶜ}
 use Rattle.book.specs.Book.{bookSpan}
 use Rattle.book.specs.Sound.{Shaped}
@@ -45,7 +46,7 @@ readings-in-requires c κs = search needs
 as-long-requires-2 : tie.Need-as-long-requires-2
 as-long-requires-2 c κs =
     let s = c .before .before .before .before .before .before .before .before in
-    omega (arith, c .readings-in .ensures, readings-few (s .args .meter .now) (c .before .span .result), c .before .span .ensures, s .pre .month)
+    omega (arith, c .readings-in .ensures, readings-few (lent (s .args .meter .now)) (c .before .span .result), c .before .span .ensures, s .pre .month)
 
 once-requires-2 : tie.Need-once-requires-2
 once-requires-2 c κs = search needs
@@ -60,7 +61,7 @@ whole : (c : tie.After-as-long3)
     + c .before .before .before .before .before .table-length3 .result
     + c .before .before .as-long2 .result
     + c .as-long3 .result
-    ≡ length (fileBytes (parts (c .before .before .before .before .before .before .before .before .before .before .before .args .b) (c .before .before .before .before .before .before .before .before .before .before .before .args .meter .now)))
+    ≡ length (fileBytes (parts (c .before .before .before .before .before .before .before .before .before .before .before .args .b) (lent (c .before .before .before .before .before .before .before .before .before .before .before .args .meter .now))))
 whole c =
     let t = c .before .before .before .before .before in
     let s = t .before .before .before .before .before .before in
@@ -71,16 +72,16 @@ whole c =
       t .before .before .table-length .ensures,
       t .before .table-length2 .ensures,
       t .table-length3 .ensures,
-      readings-length (s .args .meter .now) _ (bookSpan b) (c .before .before .before .before .span .ensures) (c .before .before .before .readings-in .ensures) (c .before .before .as-long2 .ensures),
+      readings-length (lent (s .args .meter .now)) _ (bookSpan b) (c .before .before .before .before .span .ensures) (c .before .before .before .readings-in .ensures) (c .before .before .as-long2 .ensures),
       once-length (b .closed) closeᶜ (c .before .once2 .ensures) (c .as-long3 .ensures),
-      parts-length b (s .args .meter .now),
+      parts-length b (lent (s .args .meter .now)),
     )
 
 short : (c : tie.After-as-long3)
-    → length (fileBytes (parts (c .before .before .before .before .before .before .before .before .before .before .before .args .b) (c .before .before .before .before .before .before .before .before .before .before .before .args .meter .now))) ≤ 2000000
+    → length (fileBytes (parts (c .before .before .before .before .before .before .before .before .before .before .before .args .b) (lent (c .before .before .before .before .before .before .before .before .before .before .before .args .meter .now)))) ≤ 2000000
 short c =
     let s = c .before .before .before .before .before .before .before .before .before .before .before in
-    parts-short (s .args .b) (s .args .meter .now) (tables s) (s .pre .month)
+    parts-short (s .args .b) (lent (s .args .meter .now)) (tables s) (s .pre .month)
 
 add-result : tie.Need-add-result
 add-result c = omega (arith, whole c, short c)

@@ -4,13 +4,14 @@ use Prim.Native.Nat.{_-_, _≤_}
 use native.Mathlib.Omega.{arith}
 use borrow.Author.Needs.{needs}
 use lib.ListN.{length}
+use Rattle.meter.specs.Meter.{lent}
 use Rattle.writer.specs.Laid.{readings}
 use Rattle.writer.proofs.WrittenParts.{once-most, readings-none, readings-count, readings-few}
 use Rattle.writer.proofs.length.readings_in.Statement.{statement}
 use Rattle.writer.proofs.length.readings_in.Tie as tie
 
 abbrev Inv-loop : tie.InvT-loop
-Inv-loop meter span n₀ minute₀ n minute = (minute ≤ span) × (n ≡ length (readings meter minute))
+Inv-loop meter span n₀ minute₀ n minute = (minute ≤ span) × (n ≡ length (readings (lent meter) minute))
 
 abbrev μ-loop : tie.MeasureT-loop
 μ-loop meter span n₀ minute₀ n minute = span - minute
@@ -30,7 +31,7 @@ once-requires c κs = search needs
 add-n : tie.Need-add-n Inv-loop μ-loop
 add-n c =
     let l = c .before .before .before .before in
-    omega (arith, c .once .ensures, once-most (c .before .is-reading .result), readings-few (l .before .args .meter .now) (l .loop .minute), l .loop .inv .1, l .loop .inv .0, l .before .pre)
+    omega (arith, c .once .ensures, once-most (c .before .is-reading .result), readings-few (lent (l .before .args .meter .now)) (l .loop .minute), l .loop .inv .1, l .loop .inv .0, l .before .pre)
 
 add-minute : tie.Need-add-minute Inv-loop μ-loop
 add-minute c = search needs
@@ -42,7 +43,7 @@ loop-again : tie.Need-loop-again Inv-loop μ-loop
 loop-again c =
     let l = c .before .before .before .before in (
       search needs,
-      rw (l .loop .inv .1, c .once .ensures, c .before .is-reading .ensures, c .before .before .kw-at .ensures) (sym (readings-count (l .before .args .meter .now) (l .loop .minute))),
+      rw (l .loop .inv .1, c .once .ensures, c .before .is-reading .ensures, c .before .before .kw-at .ensures) (sym (readings-count (lent (l .before .args .meter .now)) (l .loop .minute))),
     )
 
 returns : tie.Need-returns Inv-loop μ-loop
