@@ -8,8 +8,8 @@ use Prim.Native.Nat.{ℕ, _≤_, _<_}
 use native.Mathlib.Omega.{arith}
 use lib.Dec.{T, ltb, ltb→lt}
 use lib.ListN.{length}
-use borrow.Author.Tests.{leb-false, ltb-false, not-false}
-use Rattle.energy.proofs.Tests.{T-and}
+use borrow.Author.Tests.{le-leb, lt-ltb, leb-false, ltb-false, not-false}
+use Rattle.energy.proofs.Tests.{T-and, of-T}
 use Rattle.rules.specs.Ledger.{spanOf, cellsIn}
 use Rattle.rules.specs.Refusal.{conditions, refusal}
 use Rattle.commands.specs.Input.{isReading, from-to, Condition, lowest, orZero, mostMinute}
@@ -20,14 +20,15 @@ use Rattle.commands.specs.declared.entries.Instruction.{Instruction}
 use Rattle.commands.specs.declared.entries.Default.{Default}
 use Rattle.commands.specs.declared.entries.Reading.{Reading}
 use Rattle.commands.specs.declared.entries.Command.{Command}
-use Rattle.commands.specs.declared.entries.Command.the-variants.{Contract as contractᶜ, Window as windowᶜ, Instruction as instructionᶜ, Default as defaultᶜ, Reading as readingᶜ}
+use Rattle.commands.specs.declared.entries.Command.the-variants.{Contract as contractᶜ, Window as windowᶜ, Instruction as instructionᶜ, Default as defaultᶜ, Reading as readingᶜ, Close as closeᶜ}
 use Rattle.rules.proofs.Span.{span-cells}
 use Rattle.rules.proofs.Taken.{Allowed, allowed, clear}
 use Rattle.meter.specs.Meter.{putMeter, Memory, roomIn}
 use Rattle.book.specs.Book.{ledgerIn, putBook}
-use Rattle.book.specs.Enter.{Enters, enterBook}
+use Rattle.book.specs.Enter.{Enters, enterBook, enteredBy}
 use Rattle.book.specs.Numbers.{refusalOf}
-use Rattle.book.specs.Sound.{sound}
+use Rattle.book.specs.Put.{hasPlace, hasCells}
+use Rattle.book.specs.Sound.{sound, Shaped}
 use Rattle.book.specs.declared.Book.{Book}
 use Rattle.tables.proofs.Tables.{has-room}
 use Rattle.book.proofs.Tested.{sound-parts}
@@ -103,3 +104,29 @@ module _ (b : Book) (meter : Memory) (n : ℕ) where
   reading-fits r e z =
       let f = free b meter (readingᶜ r) n e z in
       (omega (arith, leb-false _ (r .minute .0) (f .inside), span-cells (ledgerIn b meter), ltb-false (roomIn meter) (cellsIn (ledgerIn b meter)) (f .memory)), T-and (from-to 0 mostMinute (r .minute .0)) (isReading (r .kw .0)) (f .operands) .1)
+
+  -- so each command can be put where it goes
+  pub has-place : (c : Command) → n ≡ refusalOf b meter c → n ≡ 0 → Shaped b → hasPlace b c ≡ true
+  has-place (contractᶜ k) e z s = refl
+  has-place (windowᶜ w) e z s = lt-ltb (b .nwindows) 128 (window-room w e z (s .windows))
+  has-place (instructionᶜ i) e z s = lt-ltb (b .ninstructions) 64 (instruction-room i e z (s .instructions))
+  has-place (defaultᶜ d) e z s = lt-ltb (b .ndefaults) 128 (default-room d e z (s .defaults))
+  has-place (readingᶜ r) e z s = refl
+  has-place closeᶜ e z s = refl
+
+  pub has-cells : (c : Command) → n ≡ refusalOf b meter c → n ≡ 0 → hasCells meter c ≡ true
+  has-cells (contractᶜ k) e z = le-leb (spanOf k) (roomIn meter) (contract-fits k e z)
+  has-cells (windowᶜ w) e z = refl
+  has-cells (instructionᶜ i) e z = refl
+  has-cells (defaultᶜ d) e z = refl
+  has-cells (readingᶜ r) e z = let f = reading-fits r e z in rw (lt-ltb (r .minute .0) (roomIn meter) (f .0), of-T (isReading (r .kw .0)) (f .1))
+  has-cells closeᶜ e z = refl
+
+-- a command that puts nothing into memory leaves it
+pub still : (b : Book) (meter : Memory) (c : Command) → putMeter meter c ≡ meter → meter ≡ enterBook b meter c .meter
+unfolding enterBook
+still b meter c e = go (refusal (not (sound b)) (roomIn meter) (ledgerIn b meter) c)
+  where
+    go : (o : Option ℕ) → meter ≡ enteredBy o b meter c .meter
+    go none = sym e
+    go (some n) = refl

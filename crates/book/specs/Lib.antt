@@ -3,3 +3,4 @@ pub mod Sound
 pub mod Enter
 pub mod Numbers
 pub mod Readings
+pub mod Put

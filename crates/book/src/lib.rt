@@ -1,18 +1,15 @@
 // The book of one unit: what has been entered, by value, and one method for each entry.
 //
-// Each method tests whether commands leave the book at all (11), and hands the answer on as `left` to the method behind it, which finds the
-// refusal or puts the entry into the book. Whoever enters a list of commands tests once and goes by `enter_known`; a reading among them
-// goes by `meter::take_reading`, which is not handed the book.
-mod agreement;
-mod defaults;
+// Each method tests whether commands leave the book at all (11). A command is then asked for its refusal, and where it meets none put into lent
+// memory and into the book. Whoever enters a list of commands tests once and goes by `enter_known`; a reading among them goes by
+// `meter::take_reading`, which is not handed the book.
 mod empty;
 mod enter;
-mod instructions;
-mod reading;
+mod entries;
+mod put;
 mod refusals;
 mod sound;
 mod span;
-mod windows;
 
 use commands::contract::Contract;
 use commands::entries::Default;

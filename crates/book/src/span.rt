@@ -1,6 +1,7 @@
-// The minutes of a book's month, and the cells of meter memory that it needs.
+// The minutes of a book's month, the cells of meter memory that it needs, and the span in which it takes readings.
 ghost use mathlib.Core.Path.{_≡_};
 ghost use Rattle.book.specs.Book.{bookSpan, bookCells};
+ghost use Rattle.book.specs.Readings.{openSpan};
 use crate::Book;
 use tables::agreement::span_of;
 
@@ -19,5 +20,18 @@ impl Book {
     {
         let k = self.contract;
         span_of(k)
+    }
+
+    // The span in which readings are taken into meter memory of `room` cells, 0 where none is. Only a contract and a close change it.
+    pub fn open_span(self, room: usize) -> usize
+        ensures { λ r. ⌜ r ≡ openSpan self room ⌝ }
+    {
+        let span = self.span();
+        let cells = self.cells();
+        if self.agreed & !self.closed & (cells <= room) {
+            span
+        } else {
+            0
+        }
     }
 }

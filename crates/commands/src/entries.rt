@@ -102,6 +102,22 @@ impl Reading {
     }
 }
 
+impl Command {
+    pub fn input_refusal(self) -> u8
+        ensures { λ r. ⌜ r ≡ inputRefusal self ⌝ }
+    {
+        let c = self;
+        match c {
+            Command::Contract(k) => k.input_refusal(),
+            Command::Window(w) => w.input_refusal(),
+            Command::Instruction(i) => i.input_refusal(),
+            Command::Default(d) => d.input_refusal(),
+            Command::Reading(r) => r.input_refusal(),
+            Command::Close => 0,
+        }
+    }
+}
+
 // The kinds of default, and every other byte.
 fn known_kind(kind: u8) -> bool
     ensures { λ r. ⌜ r ≡ from-to 1 4 kind ⌝ }
