@@ -15,7 +15,7 @@ pub const READING_BYTE: u8 = 0x4D;
 
 pub const CLOSE_BYTE: u8 = 0x5A;
 
-// A reading's row, for the decoder's own way with readings: the widths of its minute and its kW, and its whole length.
+// A reading's row, for `stor`, which takes readings by widths that the compiler knows: those of its minute and its kW, and its whole length.
 pub const MINUTE_WIDTH: u8 = 2;
 
 pub const KW_WIDTH: u8 = 4;

@@ -47,9 +47,12 @@ fn is_taken(span: usize, r: Reading, meter: &[i32]) -> bool
 {
     let minute = r.minute;
     let at = minute.0 as usize;
+    if meter.len() <= at {
+        return false;
+    }
     let held = cell(meter, minute);
     let full = kw_from_to(Contract::READING_LEAST, Contract::READING_MOST, held);
-    (r.input_refusal() == 0) & (at < span) & (at < meter.len()) & !full
+    (r.input_refusal() == 0) & (at < span) & !full
 }
 
 // The cell of a minute; past the end it counts as marked.

@@ -91,7 +91,7 @@ fn default_of(v: [u64; 11]) -> Default
     }
 }
 
-pub fn reading_of(v: [u64; 11]) -> Reading
+fn reading_of(v: [u64; 11]) -> Reading
     requires { ⌜ Sized 0x4D v ⌝ }
     ensures { λ r. ⌜ readingᶜ r ≡ commandOf 0x4D v ⌝ }
 {

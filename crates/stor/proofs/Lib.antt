@@ -4,3 +4,5 @@ pub mod RoundTrip
 pub mod Pieces
 pub mod Files
 pub mod Turns
+pub mod Near
+pub mod Runs

@@ -2,11 +2,13 @@
 use mathlib.Core.Path.{_≡_, refl, sym, ap, _∙_}
 use mathlib.Core.Bool.{Bool, true, false, cond, true≢false, false≢true}
 use mathlib.Core.List.{List}
-use Prim.Native.Nat.{ℕ, _+_, _-_, _≤_, _<_}
+use Prim.Native.Nat.{ℕ, zero, suc, _+_, _-_, _≤_, _<_}
 use native.Mathlib.Omega.{arith}
-use lib.ListN.{length}
+use lib.ListN.{length, length-set}
 use Rattle.rules.specs.File.{readAt}
 use Rattle.commands.specs.declared.entries.Command.{Command}
+use Rattle.commands.specs.declared.entries.Command.the-variants.{Contract as contractᶜ, Window as windowᶜ, Instruction as instructionᶜ, Default as defaultᶜ, Reading as readingᶜ, Close as closeᶜ}
+use Rattle.commands.specs.declared.entries.Reading.{Reading}
 use Rattle.rules.specs.declared.answer.Answer.{Answer}
 use Rattle.rules.specs.declared.answer.Answer.the-variants.{Taken, Refused}
 use Rattle.rules.specs.declared.file.Read.{Read}
@@ -21,7 +23,7 @@ use Rattle.book.proofs.Kept.{Kept, kept}
 use Rattle.book.proofs.Readings.{reading-enters}
 use Rattle.unitfile.proofs.Steps.{got-within}
 use Rattle.stor.specs.Files.{LoadedFile, carriesOn, loadsOn}
-use Rattle.stor.specs.Turn.{goesBy, turnBy, turnAt, Stand, standBy, standAt}
+use Rattle.stor.specs.Turn.{goesBy, turnBy, turnAt, Stand, standBy, standAt, stands, Run}
 use Rattle.stor.specs.declared.file.Loaded.{Loaded}
 use Rattle.stor.specs.declared.file.Turn.{Turn}
 use Rattle.stor.proofs.Pieces.{from, from-step}
@@ -114,33 +116,39 @@ module _ (span : ℕ) (s : List ℕ) (at : ℕ) (meter : Memory) where
       go (refusedʳ n) e = refl
       go End e = refl
 
-  -- it is within the file
-  stand-inside : at ≤ length s → standAt span s at meter .at ≤ length s
-  unfolding standAt
-  stand-inside h = go (readAt s at) refl
+  -- meter memory has the room that it had
+  stand-room : roomIn (standAt span s at meter .meter) ≡ roomIn meter
+  unfolding standAt takesReading
+  stand-room = go (readAt s at)
     where
-      answered : (c : Command) (next : ℕ) (x : Bool) → next ≤ length s → chosen x at next meter c .at ≤ length s
-      answered c next true l = l
-      answered c next false l = h
+      answered : (x : Bool) (next : ℕ) (r : Reading) → roomIn (chosen x at next meter (readingᶜ r) .meter) ≡ roomIn meter
+      answered true next r = length-set (meter .cells) (r .minute .0) (r .kw .0)
+      answered false next r = refl
 
-      go : (r : Read) → readAt s at ≡ r → standBy span at meter r .at ≤ length s
-      go (Got c next) e = answered c next (takesReading span meter c) (got-within s at e .1)
-      go (refusedʳ n) e = h
-      go End e = h
+      go : (r : Read) → roomIn (standBy span at meter r .meter) ≡ roomIn meter
+      go (Got (contractᶜ k) next) = refl
+      go (Got (windowᶜ w) next) = refl
+      go (Got (instructionᶜ i) next) = refl
+      go (Got (defaultᶜ d) next) = refl
+      go (Got (readingᶜ r) next) = answered (takesReading span meter (readingᶜ r)) next r
+      go (Got closeᶜ next) = refl
+      go (refusedʳ n) = refl
+      go End = refl
 
-  -- where it has not moved, meter memory is as it was
-  stand-still : standAt span s at meter .at ≤ at → standAt span s at meter .meter ≡ meter
-  unfolding standAt
-  stand-still = go (readAt s at) refl
-    where
-      answered : (c : Command) (next : ℕ) (x : Bool) → at < next → chosen x at next meter c .at ≤ at → chosen x at next meter c .meter ≡ meter
-      answered c next true l h = absurd (omega arith)
-      answered c next false l h = refl
+-- so many turns without the book: what is left then is what was left before them
+module _ (span : ℕ) (s : List ℕ) (x : Stand) where
+  stands-room : (n : ℕ) → roomIn (stands n span s x .meter) ≡ roomIn (x .meter)
+  unfolding stands
+  stands-room zero = refl
+  stands-room (suc n) = stand-room span s (stands n span s x .at) (stands n span s x .meter) ∙ stands-room n
 
-      go : (r : Read) → readAt s at ≡ r → standBy span at meter r .at ≤ at → standBy span at meter r .meter ≡ meter
-      go (Got c next) e h = answered c next (takesReading span meter c) (got-within s at e .0) h
-      go (refusedʳ n) e h = refl
-      go End e h = refl
+  stands-rest : (b : Book) → sound b ≡ true → span ≡ openSpan b (roomIn (x .meter)) → (n : ℕ)
+      → from s (x .at) b (x .meter) ≡ from s (stands n span s x .at) b (stands n span s x .meter)
+  unfolding stands
+  stands-rest b k o zero = refl
+  stands-rest b k o (suc n) =
+      stands-rest b k o n
+      ∙ stand-rest span s (stands n span s x .at) (stands n span s x .meter) b k (o ∙ ap (openSpan b) (sym (stands-room n)))
 
 -- ---- the loop
 
@@ -150,42 +158,37 @@ more true = 1
 more false = 0
 
 -- a turn of the loop, as the code has it
-module _ (s : List ℕ) (l : Loaded) (meter : Memory) (r : Turn) (after : Memory) (turned : r ≡ turnAt s (l .at) (l .book) meter .turn)
-    (left : after ≡ turnAt s (l .at) (l .book) meter .meter) where
-  pub again : from s (l .at) (l .book) meter ≡ rest s (r .going) (r .loaded) after
-  again = turn-rest s (l .at) (l .book) meter ∙ sym (rw (turned, left) refl)
+module _ (s : List ℕ) (at : ℕ) (b : Book) (meter : Memory) (r : Turn) (after : Memory) (turned : r ≡ turnAt s at b meter .turn)
+    (left : after ≡ turnAt s at b meter .meter) where
+  pub again : from s at b meter ≡ rest s (r .going) (r .loaded) after
+  again = turn-rest s at b meter ∙ sym (rw (turned, left) refl)
 
-  pub keeps : Kept (l .book) → Kept (r .loaded .book)
-  keeps k = rw turned (turn-keeps s (l .at) (l .book) meter k)
+  pub keeps : Kept b → Kept (r .loaded .book)
+  keeps k = rw turned (turn-keeps s at b meter k)
 
-  moves : r .going ≡ true → (l .at < r .loaded .at) × (r .loaded .at ≤ length s)
-  moves = rw turned (turn-moves s (l .at) (l .book) meter)
+  moves : r .going ≡ true → (at < r .loaded .at) × (r .loaded .at ≤ length s)
+  moves = rw turned (turn-moves s at b meter)
 
-  stays : r .going ≡ false → r .loaded .at ≡ l .at
-  stays = rw turned (turn-stays s (l .at) (l .book) meter)
+  stays : r .going ≡ false → r .loaded .at ≡ at
+  stays = rw turned (turn-stays s at b meter)
 
-  pub inside : l .at ≤ length s → r .loaded .at ≤ length s
+  pub inside : at ≤ length s → r .loaded .at ≤ length s
   inside h = go (r .going) refl
     where
       go : (b : Bool) → r .going ≡ b → r .loaded .at ≤ length s
       go true e = moves e .1
       go false e = omega (arith, stays e)
 
-  pub less : l .at ≤ length s → (length s - r .loaded .at) + more (r .going) < (length s - l .at) + 1
+  pub less : at ≤ length s → (length s - r .loaded .at) + more (r .going) < (length s - at) + 1
   less h = go (r .going) refl
     where
-      go : (b : Bool) → r .going ≡ b → (length s - r .loaded .at) + more b < (length s - l .at) + 1
+      go : (b : Bool) → r .going ≡ b → (length s - r .loaded .at) + more b < (length s - at) + 1
       go true e = omega (arith, moves e)
       go false e = omega (arith, stays e)
 
--- a turn without the book, as the code has it
-module _ (s : List ℕ) (l : Loaded) (span : ℕ) (meter : Memory) (next : ℕ) (after : Memory) (stood : next ≡ standAt span s (l .at) meter .at)
-    (left : after ≡ standAt span s (l .at) meter .meter) where
-  pub read-again : Kept (l .book) → span ≡ openSpan (l .book) (roomIn meter) → from s (l .at) (l .book) meter ≡ from s next (l .book) after
-  read-again k o = rw (stood, left) (stand-rest span s (l .at) meter (l .book) (k .left) o)
-
-  pub read-inside : l .at ≤ length s → next ≤ length s
-  read-inside h = rw stood (stand-inside span s (l .at) meter h)
-
-  pub read-none : next ≤ l .at → after ≡ meter
-  read-none h = left ∙ stand-still span s (l .at) meter (rw stood at h)
+-- a run of turns without the book, as the code has it
+pub run-again : (s : List ℕ) (at : ℕ) (b : Book) (span : ℕ) (meter : Memory) (next : ℕ) (after : Memory) → Run span s at meter next after → Kept b
+    → span ≡ openSpan b (roomIn meter) → from s at b meter ≡ from s next b after
+run-again s at b span meter next after r k o =
+    let x : Stand = record { at = at; meter = meter } in
+    rw (r .reached) at (stands-rest span s x b (k .left) o (r .turns))

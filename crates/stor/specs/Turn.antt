@@ -1,7 +1,10 @@
 -- One turn of the loop over a file: the command at a position is read and entered. What the loop's own functions promise.
-use mathlib.Core.Bool.{true, false, cond}
+use mathlib.Core.Path.{_≡_}
+use mathlib.Core.Bool.{Bool, true, false, cond, _&&_}
 use mathlib.Core.List.{List}
-use Prim.Native.Nat.{ℕ}
+use Prim.Native.Nat.{ℕ, zero, suc, _-_, _≤_}
+use lib.Dec.{eqb, leb, ltb}
+use lib.ListN.{length, getD}
 use Rattle.rules.specs.File.{readAt}
 use Rattle.rules.specs.declared.answer.Answer.{Answer}
 use Rattle.rules.specs.declared.answer.Answer.the-variants.{Taken, Refused}
@@ -54,3 +57,21 @@ standBy span at meter End = record { at = at; meter = meter }
 -- after the reading at a position
 unfoldable pub standAt : ℕ → List ℕ → ℕ → Memory → Stand
 standAt span s at meter = standBy span at meter (readAt s at)
+
+-- ---- many of them
+
+-- a whole reading stands at a position
+unfoldable pub wholeReading : List ℕ → ℕ → Bool
+wholeReading s at = ltb at (length s) && eqb (getD s at 0) 0x4D && leb 7 (length s - at)
+
+-- so many turns
+unfoldable pub stands : ℕ → ℕ → List ℕ → Stand → Stand
+stands zero span s x = x
+stands (suc n) span s x = standAt span s (stands n span s x .at) (stands n span s x .meter)
+
+-- from a position and meter memory to others, in turns without the book
+pub record Run (span : ℕ) (s : List ℕ) (at : ℕ) (meter : Memory) (next : ℕ) (after : Memory) : Type 0 where
+  pub turns : ℕ
+  pub reached : stands turns span s (record { at = at; meter = meter }) ≡ record { at = next; meter = after }
+  pub forward : at ≤ next
+  pub inside : at ≤ length s → next ≤ length s

@@ -7,10 +7,10 @@ ghost use Rattle.meter.specs.Meter.{lent};
 ghost use Rattle.book.specs.Book.{emptyBook};
 ghost use Rattle.book.specs.Sound.{sound};
 ghost use Rattle.stor.specs.Files.{load as loadOf};
-ghost use Rattle.stor.specs.Turn.{stopsAt, goesBy, turnAt, standAt};
+ghost use Rattle.stor.specs.Turn.{stopsAt, goesBy, turnAt};
+use crate::readings::take_readings;
 use book::Book;
 use book::Entry;
-use meter::take_reading;
 use rules::answer::Answer;
 use rules::file::Read;
 use settlement::Settlement;
@@ -84,20 +84,6 @@ fn read_and_enter(b: Book, s: &[u8], at: usize, meter: &mut [i32]) -> Turn
     }
 }
 
-// The position after the reading at `at`, where one stands there and is taken in the span; else `at`, and meter memory is as it was.
-fn after_reading(span: usize, s: &[u8], at: usize, meter: &mut [i32]) -> usize
-    ensures { λ r. ⌜ (r ≡ standAt span (now (s .entry)) at (lent (now (meter .entry))) .at) × (lent (now (meter .exit)) ≡ standAt span (now (s .entry)) at (lent (now (meter .entry))) .meter) ⌝ }
-{
-    match read_at(s, at) {
-        Read::End => at,
-        Read::Refused(_) => at,
-        Read::Got(c, next) => {
-            let taken = take_reading(span, c, meter);
-            if taken { next } else { at }
-        }
-    }
-}
-
 // All commands of a file, or of a piece of one, into a sound book. 11 is not asked again at each command: entering keeps the book sound.
 // Readings, of which a file has most, are taken without the book, by its open span, which is asked again after every other command.
 pub fn load(b: Book, s: &[u8], meter: &mut [i32]) -> Loaded
@@ -112,19 +98,14 @@ pub fn load(b: Book, s: &[u8], meter: &mut [i32]) -> Loaded
     let mut going = true;
     let mut span = b.open_span(meter.len());
     while going {
-        let at = l.at;
-        let next = after_reading(span, s, at, meter);
-        if at < next {
-            l.at = next;
-        } else {
-            let book = l.book;
-            let t = read_and_enter(book, s, at, meter);
-            going = t.going;
-            let turned = t.loaded;
-            l = turned;
-            let after = l.book;
-            span = after.open_span(meter.len());
-        }
+        let book = l.book;
+        let at = take_readings(span, s, l.at, meter);
+        let t = read_and_enter(book, s, at, meter);
+        going = t.going;
+        let turned = t.loaded;
+        l = turned;
+        let after = l.book;
+        span = after.open_span(meter.len());
     }
     l
 }

@@ -1,2 +1,3 @@
 // Whole unit files and pieces of them, read and entered.
 pub mod file;
+mod readings;

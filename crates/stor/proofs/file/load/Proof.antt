@@ -12,7 +12,7 @@ use Rattle.book.proofs.Kept.{Kept}
 use Rattle.rules.proofs.Folds.{length-mapped}
 use Rattle.stor.specs.Files.{load}
 use Rattle.stor.proofs.Pieces.{from}
-use Rattle.stor.proofs.Turns.{rest, more, again, keeps, inside, less, read-again, read-inside, read-none}
+use Rattle.stor.proofs.Turns.{rest, more, again, keeps, inside, less, run-again}
 use Rattle.stor.proofs.file.load.Statement.{statement}
 use Rattle.stor.proofs.file.load.Tie as tie
 
@@ -34,62 +34,39 @@ open-span-requires c κs = search needs
 loop-holds : tie.Need-loop-holds Inv-loop μ-loop
 loop-holds c = (refl, record { left = c .before .before .pre; shaped = shaped (c .before .before) }, omega arith, refl, c .open-span .ensures)
 
-after-reading-requires : tie.Need-after-reading-requires Inv-loop μ-loop
-after-reading-requires c κs = search needs
-
--- ---- a turn without the book
-
-loop-less : tie.Need-loop-less Inv-loop μ-loop
-loop-less c =
-    let at = c .before .before .before .before .before in
-    let e = c .before .before .after-reading .ensures in
-    let ends = read-inside (at .before .before .before .args .s .now) (at .loop .l) (at .loop .span) (lent (at .loop .meter)) (c .before .before .after-reading .result) _ (e .0) (e .1) (at .loop .inv .2) in
-    rw (c .before .before .before .before .loop-test .taken) (omega (arith, ends, c .if1 .taken))
-
-loop-again : tie.Need-loop-again Inv-loop μ-loop
-loop-again c =
-    let at = c .before .before .before .before .before in
-    let s = at .before .before .before .args .s .now in
-    let next = c .before .before .after-reading .result in
-    let e = c .before .before .after-reading .ensures in
-    let inv = at .loop .inv in
-    let going = c .before .before .before .before .loop-test .taken in (
-      rw going (sym (read-again s (at .loop .l) (at .loop .span) (lent (at .loop .meter)) next _ (e .0) (e .1) (inv .1) (inv .4)) ∙ (rw going at (inv .0))),
-      inv .1,
-      read-inside s (at .loop .l) (at .loop .span) (lent (at .loop .meter)) next _ (e .0) (e .1) (inv .2),
-      search needs,
-      inv .4 ∙ ap (openSpan (at .loop .l .book)) (search needs),
-    )
-
--- ---- a turn with it
+take-readings-requires : tie.Need-take-readings-requires Inv-loop μ-loop
+take-readings-requires c κs = search needs
 
 read-and-enter-requires : tie.Need-read-and-enter-requires Inv-loop μ-loop
-read-and-enter-requires c κs = c .before .before .before .before .before .before .before .loop .inv .1 .left
+read-and-enter-requires c κs = c .before .before .before .before .before .before .loop .inv .1 .left
 
 open-span-requires-2 : tie.Need-open-span-requires-2 Inv-loop μ-loop
 open-span-requires-2 c κs = search needs
 
-loop-less-2 : tie.Need-loop-less-2 Inv-loop μ-loop
-loop-less-2 c =
+loop-less : tie.Need-loop-less Inv-loop μ-loop
+loop-less c =
     let d = c .before .before .before .before in
-    let at = d .before .before .before .before .before .before .before .before in
+    let r = d .before .before .before in
+    let at = r .before .before .before .before in
     let e = d .read-and-enter .ensures in
-    rw (d .before .before .before .before .before .before .before .loop-test .taken) (less (at .before .before .before .args .s .now) (at .loop .l) _ (d .read-and-enter .result) _ (e .0) (e .1) (at .loop .inv .2))
+    let run = r .take-readings .ensures .0 in
+    rw (r .before .before .before .loop-test .taken)
+    (omega (arith, run .forward, less (at .before .before .before .args .s .now) (r .take-readings .result) (at .loop .l .book) _ (d .read-and-enter .result) _ (e .0) (e .1) (run .inside (at .loop .inv .2))))
 
-loop-again-2 : tie.Need-loop-again-2 Inv-loop μ-loop
-loop-again-2 c =
+loop-again : tie.Need-loop-again Inv-loop μ-loop
+loop-again c =
     let d = c .before .before .before .before in
-    let at = d .before .before .before .before .before .before .before .before in
+    let r = d .before .before .before in
+    let at = r .before .before .before .before in
     let s = at .before .before .before .args .s .now in
-    let r = d .read-and-enter .result in
     let e = d .read-and-enter .ensures in
-    let a = d .before .before .before .before .before .after-reading .ensures in
+    let run = r .take-readings .ensures .0 in
     let inv = at .loop .inv in (
-      sym (again s (at .loop .l) _ r _ (e .0) (e .1))
-          ∙ ap (from s (at .loop .l .at) (at .loop .l .book)) (read-none s (at .loop .l) (at .loop .span) (lent (at .loop .meter)) _ _ (a .0) (a .1) (d .before .before .before .if1 .left))
-          ∙ (rw (d .before .before .before .before .before .before .before .loop-test .taken) at (inv .0)),
-      keeps s (at .loop .l) _ r _ (e .0) (e .1) (inv .1),
-      inside s (at .loop .l) _ r _ (e .0) (e .1) (inv .2),
+      sym (again s (r .take-readings .result) (at .loop .l .book) _ (d .read-and-enter .result) _ (e .0) (e .1))
+          ∙ sym (run-again s (at .loop .l .at) (at .loop .l .book) (at .loop .span) (lent (at .loop .meter)) _ _ run (inv .1) (inv .4))
+          ∙ (rw (r .before .before .before .loop-test .taken) at (inv .0)),
+      keeps s (r .take-readings .result) (at .loop .l .book) _ (d .read-and-enter .result) _ (e .0) (e .1) (inv .1),
+      inside s (r .take-readings .result) (at .loop .l .book) _ (d .read-and-enter .result) _ (e .0) (e .1) (run .inside (inv .2)),
       search needs,
       c .open-span2 .ensures,
     )
@@ -112,12 +89,10 @@ load-spec =
     μ-loop
     open-span-requires
     loop-holds
-    after-reading-requires
-    loop-less
-    loop-again
+    take-readings-requires
     read-and-enter-requires
     open-span-requires-2
-    loop-less-2
-    loop-again-2
+    loop-less
+    loop-again
     same-length
     returns)

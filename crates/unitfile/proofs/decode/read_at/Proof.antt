@@ -60,26 +60,20 @@ returns c = sym (found-reads (ended (c .if1 .taken)))
 shared-slice-read-byte : tie.Need-shared-slice-read-byte
 shared-slice-read-byte c = search needs
 
-reading-at-requires : tie.Need-reading-at-requires
-reading-at-requires c κs = (c .before .before .if1 .left, c .if2 .taken)
-
-returns-2 : tie.Need-returns-2
-returns-2 c = c .reading-at .ensures
-
 row-of-requires : tie.Need-row-of-requires
 row-of-requires c κs = search needs
 
 cast-length : tie.Need-cast-length
 cast-length c = search needs
 
+returns-2 : tie.Need-returns-2
+returns-2 c = not-there _ _ (c .before .before .before .before .if1 .left) _ (c .before .before .row-of .ensures) (c .if2 .taken)
+
+sub-if3 : tie.Need-sub-if3
+sub-if3 c = search needs
+
 returns-3 : tie.Need-returns-3
-returns-3 c = not-there _ _ (c .before .before .before .before .before .if1 .left) _ (c .before .before .row-of .ensures) (c .if3 .taken)
-
-sub-if4 : tie.Need-sub-if4
-sub-if4 c = search needs
-
-returns-4 : tie.Need-returns-4
-returns-4 c = too-short _ _ (c .before .before .before .before .before .before .if1 .left) _ (c .before .before .before .row-of .ensures) (c .before .if3 .left) (c .if4 .taken)
+returns-3 c = too-short _ _ (c .before .before .before .before .before .if1 .left) _ (c .before .before .before .row-of .ensures) (c .before .if2 .left) (c .if3 .taken)
 
 add-operands-at : tie.Need-add-operands-at
 add-operands-at c = search needs
@@ -89,18 +83,18 @@ cast-operands-at c = search needs
 
 operands-at-requires : tie.Need-operands-at-requires
 operands-at-requires c κs =
-    asked (c .before .before .before .before .before .before .before .before .before .before .args .s .now) _ (c .before .before .before .before .before .before .before .before .if1 .left) _ (c .before .before .before .before .before .row-of .ensures) (c .before .before .before .if3 .left) (c .before .before .if4 .left)
+    asked (c .before .before .before .before .before .before .before .before .before .args .s .now) _ (c .before .before .before .before .before .before .before .if1 .left) _ (c .before .before .before .before .before .row-of .ensures) (c .before .before .before .if2 .left) (c .before .before .if3 .left)
 
 command-of-requires : tie.Need-command-of-requires
 command-of-requires c κs =
-    fits _ _ (c .before .before .before .before .before .before .before .before .before .if1 .left) _ (c .before .before .before .before .before .before .row-of .ensures) (c .before .before .before .before .if3 .left) (c .before .before .before .if4 .left) _ (c .operands-at .ensures) (λ k. c .before .before .before .before .before .before .before .before .before .before .shared-slice-known .given k .fits)
+    fits _ _ (c .before .before .before .before .before .before .before .before .if1 .left) _ (c .before .before .before .before .before .before .row-of .ensures) (c .before .before .before .before .if2 .left) (c .before .before .before .if3 .left) _ (c .operands-at .ensures) (λ k. c .before .before .before .before .before .before .before .before .before .shared-slice-known .given k .fits)
 
 add-t9 : tie.Need-add-t9
 add-t9 c = search needs
 
-returns-5 : tie.Need-returns-5
-returns-5 c =
-    got _ _ (c .before .before .before .before .before .before .before .before .before .before .if1 .left) _ (c .before .before .before .before .before .before .before .row-of .ensures) (c .before .before .before .before .before .if3 .left) (c .before .before .before .before .if4 .left) _ (c .before .operands-at .ensures) _ (c .command-of .ensures)
+returns-4 : tie.Need-returns-4
+returns-4 c =
+    got _ _ (c .before .before .before .before .before .before .before .before .before .if1 .left) _ (c .before .before .before .before .before .before .before .row-of .ensures) (c .before .before .before .before .before .if2 .left) (c .before .before .before .before .if3 .left) _ (c .before .operands-at .ensures) _ (c .command-of .ensures)
 
 pub read-at-spec : {M : Type 1} → statement M
 read-at-spec =
@@ -108,16 +102,14 @@ read-at-spec =
     (tie.spec
     returns
     shared-slice-read-byte
-    reading-at-requires
-    returns-2
     row-of-requires
     cast-length
+    returns-2
+    sub-if3
     returns-3
-    sub-if4
-    returns-4
     add-operands-at
     cast-operands-at
     operands-at-requires
     command-of-requires
     add-t9
-    returns-5)
+    returns-4)
