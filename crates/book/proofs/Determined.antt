@@ -13,7 +13,7 @@ use Rattle.commands.specs.declared.entries.Window.{Window}
 use Rattle.commands.specs.declared.entries.Instruction.{Instruction}
 use Rattle.commands.specs.declared.entries.Default.{Default}
 use Rattle.rules.specs.Ledger.{noWindow, noInstruction, noDefault}
-use Rattle.tables.specs.Unused.{isNoWindow, isNoInstruction, isNoDefault}
+use Rattle.book_sound.specs.Unused.{isNoWindow, isNoInstruction, isNoDefault}
 use Rattle.book.specs.Sound.{sound, Shaped}
 use Rattle.book.specs.declared.Book.{Book}
 use Rattle.book.proofs.Tested.{Tables, sound-parts}

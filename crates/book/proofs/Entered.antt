@@ -23,14 +23,14 @@ use Rattle.commands.specs.declared.entries.Command.{Command}
 use Rattle.commands.specs.declared.entries.Command.the-variants.{Contract as contractᶜ, Window as windowᶜ, Instruction as instructionᶜ, Default as defaultᶜ, Reading as readingᶜ, Close as closeᶜ}
 use Rattle.rules.proofs.Span.{span-cells}
 use Rattle.rules.proofs.Taken.{Allowed, allowed, clear}
-use Rattle.meter.specs.Meter.{putMeter, Memory, roomIn}
+use Rattle.book_memory.specs.Meter.{putMeter, Memory, roomIn}
 use Rattle.book.specs.Book.{ledgerIn, putBook}
 use Rattle.book.specs.Enter.{Enters, enterBook, enteredBy}
 use Rattle.book.specs.Numbers.{refusalOf}
 use Rattle.book.specs.Put.{hasPlace, hasCells}
 use Rattle.book.specs.Sound.{sound, Shaped}
 use Rattle.book.specs.declared.Book.{Book}
-use Rattle.tables.proofs.Tables.{has-room}
+use Rattle.book_sound.proofs.Tables.{has-room}
 use Rattle.book.proofs.Tested.{sound-parts}
 
 -- ---- numbers and refusals

@@ -27,13 +27,13 @@ use Rattle.commands.specs.declared.entries.Command.the-variants.{Contract as co
 use Rattle.rules.proofs.Reached.{step, start}
 use Rattle.rules.proofs.Taken.{grown, ledgerOf-snoc, Allowed, allowed}
 use Rattle.rules.proofs.FileLength.{cells-fit}
-use Rattle.meter.specs.Meter.{putMeter, cell, missing, Memory, roomIn, kwAt}
+use Rattle.book_memory.specs.Meter.{putMeter, cell, missing, Memory, roomIn, kwAt}
 use Rattle.book.specs.Book.{emptyBook, bookSpan, bookCells, ledgerIn, putBook}
-use Rattle.tables.specs.Unused.{noContractTests, isNoWindow, isNoInstruction, isNoDefault}
+use Rattle.book_sound.specs.Unused.{noContractTests, isNoWindow, isNoInstruction, isNoDefault}
 use Rattle.book.specs.Sound.{sound, Shaped, tableTests, emptyTests}
 use Rattle.book.specs.Enter.{enterBook, enteredBy}
 use Rattle.book.specs.declared.Book.{Book}
-use Rattle.tables.proofs.Tables.{has-room}
+use Rattle.book_sound.proofs.Tables.{has-room}
 use Rattle.book.proofs.Tested.{Tables, contents, sound-parts, is-sound}
 use Rattle.book.proofs.Month.{span-cells, span-is, cells-is, span-empty}
 pub use Rattle.book.proofs.Tested.{contract-is}

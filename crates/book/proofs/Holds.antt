@@ -21,7 +21,7 @@ use Rattle.commands.specs.declared.entries.Default.{Default}
 use Rattle.commands.specs.declared.entries.Reading.{Reading}
 use Rattle.commands.specs.declared.entries.Command.the-variants.{Contract as contractᶜ, Window as windowᶜ, Instruction as instructionᶜ, Default as defaultᶜ, Reading as readingᶜ, Close as closeᶜ}
 use Rattle.rules.proofs.Taken.{grown}
-use Rattle.meter.specs.Meter.{putMeter, cell, missing, Memory, roomIn, kwAt}
+use Rattle.book_memory.specs.Meter.{putMeter, cell, missing, Memory, roomIn, kwAt}
 use Rattle.book.specs.Book.{bookSpan, ledgerIn, putBook}
 use Rattle.book.specs.declared.Book.{Book}
 

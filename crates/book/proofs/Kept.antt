@@ -7,7 +7,7 @@ use Prim.Native.Nat.{ℕ, _≤_}
 use native.Mathlib.Omega.{arith}
 use borrow.Author.Tests.{ltb-false}
 use lib.Dec.{ltb}
-use Rattle.meter.specs.Meter.{Memory, roomIn}
+use Rattle.book_memory.specs.Meter.{Memory, roomIn}
 use Rattle.energy.specs.Lists.{isEmpty}
 use Rattle.rules.specs.Ledger.{Ledger, ledgerOf, cellsIn}
 use Rattle.rules.specs.Refusal.{refusal}

@@ -19,7 +19,7 @@ use Rattle.rules.specs.File.{written}
 use Rattle.rules.specs.Rewritten.{Rewritten}
 use Rattle.commands.specs.declared.entries.Command.{Command}
 use Rattle.rules.proofs.Rewritten.{rewritten}
-use Rattle.meter.specs.Meter.{putMeter, cell, missing, Memory, kwAt, lent}
+use Rattle.book_memory.specs.Meter.{putMeter, cell, missing, Memory, kwAt, lent}
 use Rattle.book.specs.Book.{emptyBook, bookSpan, bookCells, ledgerIn, putBook, putAll}
 use Rattle.book.specs.Sound.{sound, Shaped, Left, Left·theorem}
 use Rattle.book.specs.declared.Book.{Book}

@@ -4,7 +4,7 @@ use mathlib.Core.Bool.{Bool, true, false, cond}
 use mathlib.Core.List.{[], _∷_}
 use Prim.Native.Nat.{ℕ, _≤_}
 use native.Mathlib.Omega.{arith}
-use Rattle.meter.specs.Meter.{Memory}
+use Rattle.book_memory.specs.Meter.{Memory}
 use Rattle.commands.specs.Input.{mostMinute}
 use Rattle.rules.specs.Ledger.{spanOf, spanIn, cellsIn}
 use Rattle.rules.proofs.Span.{cells-none, span-cells as span-below}

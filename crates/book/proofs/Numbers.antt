@@ -24,9 +24,9 @@ use Rattle.commands.specs.declared.entries.Reading.{Reading}
 use Rattle.commands.specs.declared.entries.Command.{Command}
 use Rattle.commands.specs.declared.entries.Command.the-variants.{Contract as contractᶜ, Window as windowᶜ, Instruction as instructionᶜ, Default as defaultᶜ, Reading as readingᶜ, Close as closeᶜ}
 use Rattle.energy.proofs.Tests.{T-and}
-use Rattle.meter.specs.Meter.{Memory, roomIn, kwAt}
+use Rattle.book_memory.specs.Meter.{Memory, roomIn, kwAt}
 use Rattle.book.specs.Book.{bookSpan, bookCells, ledgerIn}
-use Rattle.entering.specs.Numbers.{firstNumber, windowNumber, instructionNumber, defaultNumber, readingNumber}
+use Rattle.book_refusal.specs.Numbers.{firstNumber, windowNumber, instructionNumber, defaultNumber, readingNumber}
 use Rattle.book.specs.Numbers.{refusalOf}
 use Rattle.book.specs.Sound.{sound}
 use Rattle.book.specs.declared.Book.{Book}

@@ -11,9 +11,9 @@ use Rattle.rules.specs.declared.answer.Answer.the-variants.{Taken}
 use Rattle.commands.specs.declared.entries.Reading.{Reading}
 use Rattle.commands.specs.declared.entries.Command.{Command}
 use Rattle.commands.specs.declared.entries.Command.the-variants.{Contract as contractᶜ, Window as windowᶜ, Instruction as instructionᶜ, Default as defaultᶜ, Reading as readingᶜ, Close as closeᶜ}
-use Rattle.meter.specs.Meter.{putMeter, takesReading, Memory, roomIn}
+use Rattle.book_memory.specs.Meter.{putMeter, takesReading, Memory, roomIn}
 use Rattle.book.specs.Enter.{Entered, enterBook}
-use Rattle.entering.specs.Numbers.{firstNumber, readingNumber}
+use Rattle.book_refusal.specs.Numbers.{firstNumber, readingNumber}
 use Rattle.book.specs.Numbers.{refusalOf}
 use Rattle.book.specs.Readings.{openSpan}
 use Rattle.book.specs.Sound.{sound}
@@ -21,7 +21,7 @@ use Rattle.book.specs.declared.Book.{Book}
 use Rattle.book.specs.declared.Entry.{Entry}
 use Rattle.book.proofs.Numbers.{firstOf, met-late, reading-later}
 use Rattle.book.proofs.Entered.{taken-entry}
-use Rattle.meter.proofs.Taking.{tests}
+use Rattle.book_memory.proofs.Taking.{tests}
 
 -- ---- the open span
 

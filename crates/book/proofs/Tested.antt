@@ -6,7 +6,7 @@ use Prim.Native.Nat.{ℕ, _≤_}
 use lib.IntN.{ℤ, pos, negsuc}
 use lib.Dec.{T, eqb→eq, leb→le, le→leb}
 use lib.ListN.{take, drop}
-use Rattle.meter.specs.Meter.{Memory}
+use Rattle.book_memory.specs.Meter.{Memory}
 use Rattle.energy.specs.Lists.{all, first, pass}
 use Rattle.energy.proofs.Tests.{to-T, of-T, T-and, and-T, passes, passed}
 use Rattle.rules.specs.Ledger.{contractOf, noContract}
@@ -18,7 +18,7 @@ use Rattle.commands.specs.declared.entries.Default.{Default}
 use Rattle.commands.proofs.Chain.{not-on}
 use Rattle.rules.proofs.Reached.{Parts, parts}
 use Rattle.book.specs.Book.{bookSpan, ledgerIn}
-use Rattle.tables.specs.Unused.{isNoWindow, isNoInstruction, isNoDefault, isZero, noContractTests}
+use Rattle.book_sound.specs.Unused.{isNoWindow, isNoInstruction, isNoDefault, isZero, noContractTests}
 use Rattle.book.specs.Sound.{emptyTests, tableTests, sound}
 use Rattle.book.specs.declared.Book.{Book}
 

@@ -9,7 +9,7 @@ use Rattle.rules.specs.Ledger.{Ledger, noContract, spanOf}
 use Rattle.commands.specs.Command.{onContract, onWindow, onInstruction, onDefault, onClose, always}
 use Rattle.commands.specs.declared.entries.Command.{Command}
 pub use Rattle.rules.specs.Ledger.{noWindow, noInstruction, noDefault}
-use Rattle.meter.specs.Meter.{cell, Memory, kwAt}
+use Rattle.book_memory.specs.Meter.{cell, Memory, kwAt}
 use Rattle.book.specs.declared.Book.{Book}
 
 -- the empty book: no contract, and zeros

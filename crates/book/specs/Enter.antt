@@ -5,7 +5,7 @@ use mathlib.Core.Option.{Option, none, some}
 use Prim.Native.Nat.{ℕ}
 use Rattle.rules.specs.Refusal.{refusal, answerOf}
 use Rattle.commands.specs.declared.entries.Command.{Command}
-use Rattle.meter.specs.Meter.{putMeter, Memory, roomIn}
+use Rattle.book_memory.specs.Meter.{putMeter, Memory, roomIn}
 use Rattle.book.specs.Book.{ledgerIn, putBook}
 use Rattle.book.specs.Sound.{sound}
 use Rattle.book.specs.declared.Book.{Book}

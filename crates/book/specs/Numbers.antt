@@ -1,7 +1,7 @@
 -- What the book's own functions answer on the way: a refusal as one number, 0 for none.
 use mathlib.Core.Bool.{not}
 use Prim.Native.Nat.{ℕ}
-use Rattle.meter.specs.Meter.{Memory, roomIn}
+use Rattle.book_memory.specs.Meter.{Memory, roomIn}
 use Rattle.rules.specs.Refusal.{refusal}
 use Rattle.commands.specs.Input.{orZero}
 use Rattle.commands.specs.declared.entries.Command.{Command}

@@ -5,7 +5,7 @@ use Rattle.commands.specs.Command.{onContract, onWindow, onInstruction, onDefau
 use Rattle.commands.specs.Input.{isReading}
 use Rattle.commands.specs.declared.entries.Command.{Command}
 use Rattle.rules.specs.Ledger.{spanOf}
-use Rattle.meter.specs.Meter.{Memory, roomIn}
+use Rattle.book_memory.specs.Meter.{Memory, roomIn}
 use Rattle.book.specs.declared.Book.{Book}
 
 -- its table has a place for it

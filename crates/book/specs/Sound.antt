@@ -9,8 +9,8 @@ use lib.ListN.{length, take, drop}
 use Rattle.energy.specs.Lists.{all, pass}
 use Rattle.rules.specs.Refusal.{taken}
 use Rattle.rules.specs.Reached.{agreedTests}
-use Rattle.tables.specs.Unused.{isNoWindow, isNoInstruction, isNoDefault}
-unfoldable pub use Rattle.tables.specs.Unused.{noContractTests}
+use Rattle.book_sound.specs.Unused.{isNoWindow, isNoInstruction, isNoDefault}
+unfoldable pub use Rattle.book_sound.specs.Unused.{noContractTests}
 use Rattle.book.specs.Book.{emptyBook, bookSpan, putAll}
 use Rattle.commands.specs.declared.entries.Command.{Command}
 use Rattle.book.specs.declared.Book.{Book}

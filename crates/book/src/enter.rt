@@ -1,7 +1,7 @@
 // Any command: asked for its refusal, then put into memory and into the book.
 ghost use mathlib.Core.Path.{_≡_};
 ghost use mathlib.Core.Bool.{true};
-ghost use Rattle.meter.specs.Meter.{lent};
+ghost use Rattle.book_memory.specs.Meter.{lent};
 ghost use Rattle.book.specs.Enter.{Enters, enterBook};
 ghost use Rattle.book.specs.Sound.{sound};
 use crate::Book;

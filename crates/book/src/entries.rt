@@ -1,6 +1,6 @@
 // One method for each entry.
 ghost use mathlib.Core.Path.{_≡_};
-ghost use Rattle.meter.specs.Meter.{lent};
+ghost use Rattle.book_memory.specs.Meter.{lent};
 ghost use Rattle.book.specs.Enter.{Enters};
 use crate::Book;
 use crate::Entry;

@@ -2,7 +2,7 @@
 //
 // Each method tests whether commands leave the book at all (11). A command is then asked for its refusal, and where it meets none put into lent
 // memory and into the book. Whoever enters a list of commands tests once and goes by `enter_known`; a reading among them goes by
-// `meter::take_reading`, which is not handed the book.
+// `book_memory::take_reading`, which is not handed the book.
 mod empty;
 mod enter;
 mod entries;

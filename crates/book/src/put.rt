@@ -1,14 +1,14 @@
 // A taken command put into memory and into the book.
 ghost use mathlib.Core.Path.{_≡_};
 ghost use mathlib.Core.Bool.{true};
-ghost use Rattle.meter.specs.Meter.{lent, putMeter};
+ghost use Rattle.book_memory.specs.Meter.{lent, putMeter};
 ghost use Rattle.book.specs.Book.{putBook};
 ghost use Rattle.book.specs.Put.{hasPlace, hasCells};
 use crate::Book;
+use book_memory::mark;
+use book_memory::put_reading;
+use book_sound::agreement::span_of;
 use commands::entries::Command;
-use meter::mark;
-use meter::put_reading;
-use tables::agreement::span_of;
 
 // Marks a contract's span, or puts a reading into its cell.
 pub(crate) fn put_memory(c: Command, meter: &mut [i32])

@@ -4,21 +4,21 @@ ghost use lib.Dec.{ltb};
 ghost use Rattle.commands.specs.Command.{onContract, always};
 ghost use Rattle.commands.specs.Input.{inputRefusal};
 ghost use Rattle.rules.specs.Ledger.{isContract, spanOf};
-ghost use Rattle.meter.specs.Meter.{lent};
-ghost use Rattle.entering.specs.Numbers.{firstNumber};
+ghost use Rattle.book_memory.specs.Meter.{lent};
+ghost use Rattle.book_refusal.specs.Numbers.{firstNumber};
 ghost use Rattle.book.specs.Book.{bookCells};
 ghost use Rattle.book.specs.Numbers.{refusalOf};
 ghost use Rattle.book.specs.Sound.{sound};
 use crate::Book;
 use crate::Entry;
+use book_refusal::defaults::default_number;
+use book_refusal::first::first_number;
+use book_refusal::instructions::instruction_number;
+use book_refusal::readings::reading_number;
+use book_refusal::windows::window_number;
+use book_sound::agreement::span_of;
 use commands::entries::Command;
-use entering::defaults::default_number;
-use entering::first::first_number;
-use entering::instructions::instruction_number;
-use entering::readings::reading_number;
-use entering::windows::window_number;
 use rules::answer::Answer;
-use tables::agreement::span_of;
 
 impl Book {
     // The lowest refusal that a command meets, 0 for none.

@@ -3,12 +3,12 @@ ghost use mathlib.Core.Path.{_≡_};
 ghost use Rattle.energy.specs.Lists.{pass};
 ghost use Rattle.book.specs.Sound.{tableTests, emptyTests, sound};
 use crate::Book;
+use book_sound::agreed::agreed_sound;
+use book_sound::agreement::is_no_contract;
+use book_sound::defaults::defaults_unused;
+use book_sound::instructions::instructions_unused;
+use book_sound::windows::windows_unused;
 use commands::contract::Contract;
-use tables::agreed::agreed_sound;
-use tables::agreement::is_no_contract;
-use tables::defaults::defaults_unused;
-use tables::instructions::instructions_unused;
-use tables::windows::windows_unused;
 
 impl Book {
     // Whether commands leave this book.

@@ -3,7 +3,7 @@ ghost use mathlib.Core.Path.{_≡_};
 ghost use Rattle.book.specs.Book.{bookSpan, bookCells};
 ghost use Rattle.book.specs.Readings.{openSpan};
 use crate::Book;
-use tables::agreement::span_of;
+use book_sound::agreement::span_of;
 
 impl Book {
     // The span.

@@ -8,7 +8,7 @@ use lib.Dec.{ltb}
 use lib.IntN.{ℤ}
 use lib.ListN.{length, drop}
 use borrow.Author.Tests.{ltb-false}
-use Rattle.meter.specs.Meter.{Memory}
+use Rattle.book_memory.specs.Meter.{Memory}
 use Rattle.rules.specs.Ledger.{Ledger}
 use Rattle.commands.specs.Input.{_when_, lowest}
 use Rattle.rules.specs.Segment.{segments}
@@ -19,11 +19,11 @@ use Rattle.rules.proofs.LineBound.{lines-segments}
 use Rattle.book.specs.Book.{ledgerIn}
 use Rattle.book.specs.Sound.{sound}
 use Rattle.book.specs.declared.Book.{Book}
-use Rattle.numbers.specs.Numbers.{numberBook, numberedBy}
-use Rattle.settlement.specs.declared.Settlement.{Settlement}
+use Rattle.settle_numbers.specs.Numbers.{numberBook, numberedBy}
+use Rattle.settle.specs.declared.Settlement.{Settlement}
 use Rattle.host.specs.Answers.{numberOf}
 use Rattle.host.specs.Calls.{settleInto, sumsBy}
-use Rattle.sums.specs.Sums.{sumsOf}
+use Rattle.host_sums.specs.Sums.{sumsOf}
 
 -- a statement's lines fit the memory lent for them: else it gets 26
 few-by : (u m c k : Bool) (g : Ledger) (memory : List ℤ) (room : ℕ) (r : Bool) → ltb room (length (segments g)) ≡ r

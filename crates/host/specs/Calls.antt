@@ -5,18 +5,18 @@ use Prim.Native.Nat.{ℕ}
 use lib.Dec.{ltb}
 use lib.IntN.{ℤ}
 use lib.ListN.{length, drop}
-use Rattle.meter.specs.Meter.{Memory}
+use Rattle.book_memory.specs.Meter.{Memory}
 use Rattle.rules.specs.declared.answer.Answer.{Answer}
 use Rattle.rules.specs.declared.answer.Answer.the-variants.{Taken, Refused}
 use Rattle.rules.specs.declared.statement.Statement.{Statement}
 use Rattle.book.specs.Book.{emptyBook}
 use Rattle.book.specs.declared.Book.{Book}
-use Rattle.numbers.specs.Numbers.{Numbered, numberBook}
-use Rattle.stor.specs.Files.{LoadedFile, load}
+use Rattle.settle_numbers.specs.Numbers.{Numbered, numberBook}
+use Rattle.file_load.specs.Load.{LoadedFile, load}
 use Rattle.host.specs.Answers.{numberOf, packed}
-use Rattle.sums.specs.Sums.{sumCount, sumsOf}
-use Rattle.given.specs.Tables.{bookOf, entire}
-use Rattle.writer.specs.Write.{WrittenBytes, writeBook}
+use Rattle.host_sums.specs.Sums.{sumCount, sumsOf}
+use Rattle.host_tables.specs.Tables.{bookOf, entire}
+use Rattle.file_write.specs.Write.{WrittenBytes, writeBook}
 
 -- ---- a file entered
 

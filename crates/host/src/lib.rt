@@ -4,17 +4,17 @@ mod answers;
 mod settling;
 
 ghost use mathlib.Core.Path.{_≡_};
-ghost use Rattle.meter.specs.Meter.{lent};
+ghost use Rattle.book_memory.specs.Meter.{lent};
 ghost use Rattle.host.specs.Calls.{enterFile, settleFile, settleTables, writeTables};
 use answers::number_of;
 use answers::pack;
-use given::book_of;
-use given::entire_tables;
+use file_load::file::load_file;
+use file_write::write_book;
+use host_sums::SUMS;
+use host_tables::book_of;
+use host_tables::entire_tables;
 use rules::answer::Answer;
 use settling::settle_book;
-use stor::file::load_file;
-use sums::SUMS;
-use writer::write_book;
 
 // Enters a whole unit file. The answer is the refusal's number, or 0, and 256 times the offset of the refused command, or the file's length.
 #[no_mangle]

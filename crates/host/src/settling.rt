@@ -2,13 +2,13 @@
 ghost use mathlib.Core.Path.{_≡_};
 ghost use Prim.Native.Nat.{_≤_, _<_, _^_};
 ghost use lib.ListN.{length};
-ghost use Rattle.meter.specs.Meter.{lent};
+ghost use Rattle.book_memory.specs.Meter.{lent};
 ghost use Rattle.host.specs.Calls.{settleInto};
-ghost use Rattle.sums.specs.Sums.{sumCount};
+ghost use Rattle.host_sums.specs.Sums.{sumCount};
 use book::Book;
-use numbers::settle_numbers;
+use host_sums::put_sums;
 use rules::answer::Answer;
-use sums::put_sums;
+use settle_numbers::settle_numbers;
 
 // The number under which settling a book is refused, or 0. Line and sum memory are written only where it is 0.
 pub(crate) fn settle_book(b: Book, meter: &[i32], lines: &mut [i64], sums: &mut [i64]) -> u8

@@ -8,15 +8,16 @@ use borrow.Author.Tests.{eqb-true, eqb-false}
 use lib.Dec.{T, eqb}
 use lib.ListN.{length, take, drop, length-append, length-drop, take-append-drop}
 use lib.Seq.{length-take-le, take-take, drop-append-le, drop-drop}
-use Rattle.meter.specs.Meter.{Memory, roomIn}
+use Rattle.book_memory.specs.Meter.{Memory, roomIn}
 use Rattle.rules.specs.FileLength.{mostBytes}
 use Rattle.rules.specs.declared.answer.Answer.the-variants.{Taken}
 use Rattle.book.specs.Book.{emptyBook}
 use Rattle.book.specs.declared.Book.{Book}
-use Rattle.stor.specs.Files.{endedAt, load, loadFrom, unfinished, later, Pieces·theorem}
-use Rattle.stor.specs.declared.file.Loaded.{Loaded}
-use Rattle.stor.proofs.Pieces.{pieces, unread}
-use Rattle.stor.proofs.Files.{stops-within}
+use Rattle.file_load.specs.Load.{endedAt, load, loadFrom}
+use Rattle.demands.specs.Pieces.{unfinished, later, Pieces·theorem}
+use Rattle.file_load.specs.declared.file.Loaded.{Loaded}
+use Rattle.demands.proofs.Pieces.{pieces, unread}
+use Rattle.demands.proofs.Files.{stops-within}
 use Rattle.lister.specs.Input.{EnteredInput}
 use Rattle.lister.specs.declared.input.Ended.{Ended}
 

@@ -5,9 +5,10 @@ use mathlib.Core.List.{List, _++_}
 use Prim.Native.Nat.{ℕ, _+_, _-_, _≤_, _<_}
 use lib.Dec.{T}
 use lib.ListN.{length, take, drop}
-use Rattle.meter.specs.Meter.{Memory}
+use Rattle.book_memory.specs.Meter.{Memory}
 use Rattle.book.specs.Book.{emptyBook}
-use Rattle.stor.specs.Files.{endedAt, load, unfinished}
+use Rattle.file_load.specs.Load.{endedAt, load}
+use Rattle.demands.specs.Pieces.{unfinished}
 use Rattle.lister.specs.declared.input.Ended.{Ended}
 
 -- bytes that came read by read, entered from the empty book: how that ended, meter memory before and after it, and the buffer as the last read left it

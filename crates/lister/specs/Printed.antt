@@ -2,12 +2,12 @@
 use mathlib.Core.List.{List}
 use Prim.Native.Nat.{ℕ}
 use lib.ListN.{take}
-use Rattle.meter.specs.Meter.{Memory}
+use Rattle.book_memory.specs.Meter.{Memory}
 use Rattle.rules.specs.declared.answer.Answer.{Answer}
 use Rattle.rules.specs.declared.answer.Answer.the-variants.{Taken, Refused}
-use Rattle.records.specs.Listed.{listBook}
-use Rattle.records.specs.declared.Listing.{Listing}
-use Rattle.listing.specs.Rows.{listing, refusalRow}
+use Rattle.settle_records.specs.Listed.{listBook}
+use Rattle.settle_records.specs.declared.Listing.{Listing}
+use Rattle.lister_rows.specs.Rows.{listing, refusalRow}
 use Rattle.lister.specs.declared.input.Ended.{Ended}
 
 -- a settlement's listing, where so many windows were entered; a refusal prints only R, its number and the file's length

@@ -2,13 +2,13 @@
 ghost use mathlib.Core.Path.{_≡_};
 ghost use Prim.Native.Nat.{_-_, _≤_};
 ghost use lib.ListN.{length, take, drop};
-ghost use Rattle.meter.specs.Meter.{lent};
-ghost use Rattle.stor.specs.Files.{unfinished as unfinishedOf};
+ghost use Rattle.book_memory.specs.Meter.{lent};
+ghost use Rattle.demands.specs.Pieces.{unfinished as unfinishedOf};
 ghost use Rattle.lister.specs.Input.{EnteredInput};
 use book::Book;
+use file_load::file::load;
 use libc::STDIN_FILENO;
 use rules::answer::Answer;
-use stor::file::load;
 
 // How a file's entering ended, and the offset of the byte where it did.
 pub struct Ended {

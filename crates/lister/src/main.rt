@@ -4,7 +4,7 @@ mod output;
 
 use commands::contract::Contract;
 use libc::STDOUT_FILENO;
-use printout::BYTES;
+use lister_page::BYTES;
 
 fn main() {
     let mut meter = [Contract::NO_READING; 15840];

@@ -1,14 +1,14 @@
 // All that is printed, as bytes in one buffer.
-ghost use Rattle.meter.specs.Meter.{lent};
+ghost use Rattle.book_memory.specs.Meter.{lent};
 ghost use Rattle.energy.specs.Lists.{Laid};
 ghost use Rattle.lister.specs.Printed.{printed, settlementRows};
 use crate::input::Ended;
-use printout::BYTES;
-use printout::put_listing;
-use printout::put_refusal;
-use records::Listing;
-use records::listed::listed;
+use lister_page::BYTES;
+use lister_page::put_listing;
+use lister_page::put_refusal;
 use rules::answer::Answer;
+use settle_records::Listing;
+use settle_records::listed::listed;
 
 // A settlement's listing, or its refusal with the file's length.
 fn put_settlement(g: Listing, windows: usize, size: usize, out: &mut [u8; BYTES]) -> usize

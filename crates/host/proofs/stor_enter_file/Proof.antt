@@ -3,10 +3,10 @@ use mathlib.Core.Path.{_≡_, _∙_, ap}
 use mathlib.Core.List.{List}
 use Prim.Native.Nat.{ℕ}
 use lib.IntN.{ℤ}
-use Rattle.meter.specs.Meter.{Memory, lent}
+use Rattle.book_memory.specs.Meter.{Memory, lent}
 use Rattle.book.specs.Book.{emptyBook}
-use Rattle.stor.specs.Files.{load}
-use Rattle.stor.specs.declared.file.Loaded.{Loaded}
+use Rattle.file_load.specs.Load.{load}
+use Rattle.file_load.specs.declared.file.Loaded.{Loaded}
 use Rattle.host.specs.Answers.{numberOf, packed}
 use Rattle.host.specs.Calls.{enterFile}
 use borrow.Author.Needs.{needs}
@@ -21,18 +21,6 @@ unfolding enterFile
 answered file meter r n l el en er =
     er ∙ ap (λ z. packed z (l .at)) en ∙ ap (λ (z : Loaded). packed (numberOf (z .answer)) (z .at)) el
 
-load-file-requires : tie.Need-load-file-requires
-load-file-requires c κs = search needs
-
-number-of-requires : tie.Need-number-of-requires
-number-of-requires c κs = search needs
-
-pack-requires : tie.Need-pack-requires
-pack-requires c κs = search needs
-
-same-length : tie.Need-same-length
-same-length c = search needs
-
 returns : tie.Need-returns
 unfolding enterFile
 returns c =
@@ -42,4 +30,4 @@ returns c =
 
 pub stor-enter-file-spec : {M : Type 1} → statement M
 stor-enter-file-spec =
-    tie.close (tie.spec load-file-requires number-of-requires pack-requires same-length returns)
+    tie.close (tie.spec (λ c κs. search needs) (λ c κs. search needs) (λ c κs. search needs) (λ c. search needs) returns)

@@ -6,13 +6,13 @@ use native.Mathlib.Omega.{arith}
 use lib.IntN.{ℤ}
 use lib.ListN.{length}
 use borrow.Author.Tests.{le-ltb, lt-ltb}
-use Rattle.meter.specs.Meter.{Memory, lent}
+use Rattle.book_memory.specs.Meter.{Memory, lent}
 use Rattle.rules.specs.declared.answer.Answer.{Answer}
 use Rattle.rules.specs.declared.answer.Answer.the-variants.{Taken, Refused}
 use Rattle.book.specs.Book.{emptyBook}
 use Rattle.book.proofs.Tested.{sound-parts}
-use Rattle.stor.specs.Files.{LoadedFile, load}
-use Rattle.stor.specs.declared.file.Loaded.{Loaded}
+use Rattle.file_load.specs.Load.{LoadedFile, load}
+use Rattle.file_load.specs.declared.file.Loaded.{Loaded}
 use Rattle.host.specs.Answers.{packed}
 use Rattle.host.specs.Calls.{SettledFile, settleInto, settlesBy, settleFile}
 use borrow.Author.Needs.{needs}
@@ -47,42 +47,15 @@ module _ (file : List ℕ) (meter : Memory) (lines sums : List ℤ) where
         → (r ≡ whole .answer) × (meter′ ≡ whole .meter) × (lines ≡ whole .lines) × (sums ≡ whole .sums)
     refused r n meter′ e em er = rw (long (Refused n) e, ← el) (er, em, refl, refl)
 
-pack-requires : tie.Need-pack-requires
-pack-requires c κs = search needs
-
 returns : tie.Need-returns
 returns c =
     let a = c .before .before .before .args in
     short (a .file .now) (lent (a .meter .now)) (a .lines .now) (a .sums .now) _ (c .before .if1 .taken) (c .pack .ensures)
 
-load-file-requires : tie.Need-load-file-requires
-load-file-requires c κs = search needs
-
-enum-told : tie.Need-enum-told
-enum-told c = search needs
-
 settle-book-requires : tie.Need-settle-book-requires
 settle-book-requires c κs =
     let l = c .before .before .before .before .before .before .before .load-file in
     (c .before .before .before .before .before .before .before .before .before .if1 .left, omega (arith, sound-parts (l .result .book) (l .ensures .2) .tables .windows))
-
-pack-requires-2 : tie.Need-pack-requires-2
-pack-requires-2 c κs = search needs
-
-enum-known-answer : tie.Need-enum-known-answer
-enum-known-answer c = search needs
-
-pack-requires-3 : tie.Need-pack-requires-3
-pack-requires-3 c κs = search needs
-
-same-length : tie.Need-same-length
-same-length c = search needs
-
-same-length-2 : tie.Need-same-length-2
-same-length-2 c = search needs
-
-same-length-3 : tie.Need-same-length-3
-same-length-3 c = search needs
 
 returns-2 : tie.Need-returns-2
 returns-2 c =
@@ -92,9 +65,6 @@ returns-2 c =
     taken (a .file .now) (lent (a .meter .now)) (a .lines .now) (a .sums .now) (c .before .before .before .before .before .before .before .before .before .before .before .before .before .if1 .left) (l .result) (l .ensures .0) _ (s .result) _ _ _
     (c .before .before .before .before .before .before .before .enum-told .given .1) (l .ensures .1)
     (s .ensures .0) (s .ensures .1) (s .ensures .2) (c .pack2 .ensures)
-
-same-length-4 : tie.Need-same-length-4
-same-length-4 c = search needs
 
 returns-3 : tie.Need-returns-3
 returns-3 c =
@@ -107,17 +77,17 @@ pub stor-settle-file-spec : {M : Type 1} → statement M
 stor-settle-file-spec =
     tie.close
     (tie.spec
-    pack-requires
+    (λ c κs. search needs)
     returns
-    load-file-requires
-    enum-told
+    (λ c κs. search needs)
+    (λ c. search needs)
     settle-book-requires
-    pack-requires-2
-    enum-known-answer
-    pack-requires-3
-    same-length
-    same-length-2
-    same-length-3
+    (λ c κs. search needs)
+    (λ c. search needs)
+    (λ c κs. search needs)
+    (λ c. search needs)
+    (λ c. search needs)
+    (λ c. search needs)
     returns-2
-    same-length-4
+    (λ c. search needs)
     returns-3)

@@ -8,10 +8,10 @@ use native.Mathlib.Omega.{arith}
 use lib.IntN.{ℤ}
 use lib.ListN.{length}
 use borrow.Author.Tests.{le-ltb, lt-ltb, not-true, not-false}
-use Rattle.meter.specs.Meter.{Memory, lent}
+use Rattle.book_memory.specs.Meter.{Memory, lent}
 use Rattle.book.specs.declared.Book.{Book}
 use Rattle.host.specs.Calls.{SettledBook, settleInto, settleTables}
-use Rattle.given.specs.Tables.{bookOf, entire}
+use Rattle.host_tables.specs.Tables.{bookOf, entire}
 use borrow.Author.Needs.{needs}
 use Rattle.host.proofs.stor_settle_tables.Statement.{statement}
 use Rattle.host.proofs.stor_settle_tables.Tie as tie
@@ -50,17 +50,11 @@ returns c =
     let a = c .before .before .before .before .before .args in
     short (a .contract .now) (a .windows .now) (a .instructions .now) (a .defaults .now) (lent (a .meter .now)) (a .lines .now) (a .sums .now) (c .if1 .taken)
 
-entire-tables-requires : tie.Need-entire-tables-requires
-entire-tables-requires c κs = search needs
-
 returns-2 : tie.Need-returns-2
 returns-2 c =
     let a = c .before .before .before .before .before .before .before .args in
     cut (a .contract .now) (a .windows .now) (a .instructions .now) (a .defaults .now) (lent (a .meter .now)) (a .lines .now) (a .sums .now) (c .before .before .if1 .left)
     (sym (c .before .entire-tables .ensures) ∙ not-true (c .before .entire-tables .result) (c .if2 .taken))
-
-book-of-requires : tie.Need-book-of-requires
-book-of-requires c κs = search needs
 
 settle-book-requires : tie.Need-settle-book-requires
 settle-book-requires c κs =
@@ -71,12 +65,6 @@ settle-book-requires c κs =
       few (a .contract .now) (a .windows .now) (a .instructions .now) (a .defaults .now) (lent (a .meter .now)) (a .lines .now) (a .sums .now) (b .result) (b .ensures)
           (at .good .1 .0 .0),
     )
-
-same-length : tie.Need-same-length
-same-length c = search needs
-
-same-length-2 : tie.Need-same-length-2
-same-length-2 c = search needs
 
 returns-3 : tie.Need-returns-3
 returns-3 c =
@@ -92,10 +80,10 @@ stor-settle-tables-spec =
     tie.close
     (tie.spec
     returns
-    entire-tables-requires
+    (λ c κs. search needs)
     returns-2
-    book-of-requires
+    (λ c κs. search needs)
     settle-book-requires
-    same-length
-    same-length-2
+    (λ c. search needs)
+    (λ c. search needs)
     returns-3)

@@ -6,10 +6,10 @@ use Prim.Native.Nat.{ℕ}
 use lib.IntN.{ℤ}
 use lib.ListN.{length}
 use borrow.Author.Tests.{not-true, not-false}
-use Rattle.meter.specs.Meter.{Memory, lent}
-use Rattle.given.specs.Tables.{bookOf, entire}
-use Rattle.writer.specs.Write.{writeBook}
-use Rattle.writer.specs.declared.Written.{Written}
+use Rattle.book_memory.specs.Meter.{Memory, lent}
+use Rattle.host_tables.specs.Tables.{bookOf, entire}
+use Rattle.file_write.specs.Write.{writeBook}
+use Rattle.file_write.specs.declared.Written.{Written}
 use Rattle.book.specs.declared.Book.{Book}
 use Rattle.host.specs.Answers.{numberOf, packed}
 use Rattle.host.specs.Calls.{WrittenFile, writeTables}
@@ -35,33 +35,12 @@ module _ (contract windows instructions defaults : List ℕ) (meter : Memory) (f
   unfolding writeTables
   written b w r n after eb e ew ea en er = rw (e, ← eb, ← ew, ← ea) (er ∙ ap (λ z. packed z (w .size)) en, refl)
 
-entire-tables-requires : tie.Need-entire-tables-requires
-entire-tables-requires c κs = search needs
-
-pack-requires : tie.Need-pack-requires
-pack-requires c κs = search needs
-
 returns : tie.Need-returns
 returns c =
     let a = c .before .before .before .before .before .before .before .before .args in
     let t = c .before .before .entire-tables in
     cut (a .contract .now) (a .windows .now) (a .instructions .now) (a .defaults .now) (lent (a .meter .now)) (a .file .now) _
     (sym (t .ensures) ∙ not-true (t .result) (c .before .if1 .taken)) (c .pack .ensures)
-
-book-of-requires : tie.Need-book-of-requires
-book-of-requires c κs = search needs
-
-write-book-requires : tie.Need-write-book-requires
-write-book-requires c κs = search needs
-
-number-of-requires : tie.Need-number-of-requires
-number-of-requires c κs = search needs
-
-pack-requires-2 : tie.Need-pack-requires-2
-pack-requires-2 c κs = search needs
-
-same-length : tie.Need-same-length
-same-length c = search needs
 
 returns-2 : tie.Need-returns-2
 returns-2 c =
@@ -77,12 +56,12 @@ pub stor-write-tables-spec : {M : Type 1} → statement M
 stor-write-tables-spec =
     tie.close
     (tie.spec
-    entire-tables-requires
-    pack-requires
+    (λ c κs. search needs)
+    (λ c κs. search needs)
     returns
-    book-of-requires
-    write-book-requires
-    number-of-requires
-    pack-requires-2
-    same-length
+    (λ c κs. search needs)
+    (λ c κs. search needs)
+    (λ c κs. search needs)
+    (λ c κs. search needs)
+    (λ c. search needs)
     returns-2)

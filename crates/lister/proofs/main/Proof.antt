@@ -7,18 +7,6 @@ use Rattle.energy.proofs.Puts.{laid-within}
 use Rattle.lister.proofs.main.Statement.{statement}
 use Rattle.lister.proofs.main.Tie as tie
 
-slice-aggregate-enter-input : tie.Need-slice-aggregate-enter-input
-slice-aggregate-enter-input c = search needs
-
-slice-aggregate-enter-input-2 : tie.Need-slice-aggregate-enter-input-2
-slice-aggregate-enter-input-2 c = search needs
-
-enter-input-requires : tie.Need-enter-input-requires
-enter-input-requires c κs = search needs
-
-slice-aggregate-put-answer : tie.Need-slice-aggregate-put-answer
-slice-aggregate-put-answer c = search needs
-
 put-answer-requires : tie.Need-put-answer-requires
 put-answer-requires c κs = tt
 
@@ -40,10 +28,10 @@ pub main-spec : {M : Type 1} → statement M
 main-spec =
     tie.close
     (tie.spec
-    slice-aggregate-enter-input
-    slice-aggregate-enter-input-2
-    enter-input-requires
-    slice-aggregate-put-answer
+    (λ c. search needs)
+    (λ c. search needs)
+    (λ c κs. search needs)
+    (λ c. search needs)
     put-answer-requires
     array-share-prefix-rows
     slice-aggregate-write-all

@@ -1,7 +1,7 @@
 use borrow.Author.Needs.{needs}
 use mathlib.Core.Path.{refl}
 use Rattle.commands.specs.declared.entries.Command.the-variants.{Default as defaultᶜ}
-use Rattle.meter.specs.Meter.{lent}
+use Rattle.book_memory.specs.Meter.{lent}
 use Rattle.book.proofs.Entered.{still}
 use Rattle.book.proofs.Book.default.Statement.{statement}
 use Rattle.book.proofs.Book.default.Tie as tie

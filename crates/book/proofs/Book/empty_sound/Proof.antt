@@ -3,14 +3,11 @@ use mathlib.Core.Bool.{not}
 use mathlib.Core.List.{[], _∷_}
 use lib.Dec.{eqb}
 use Rattle.energy.specs.Lists.{pass}
-use Rattle.tables.specs.Unused.{noContractTests}
+use Rattle.book_sound.specs.Unused.{noContractTests}
 use Rattle.book.specs.Sound.{emptyTests}
-use Rattle.tables.proofs.Tables.{chain-pass}
+use Rattle.book_sound.proofs.Tables.{chain-pass}
 use Rattle.book.proofs.Book.empty_sound.Statement.{statement}
 use Rattle.book.proofs.Book.empty_sound.Tie as tie
-
-is-no-contract-requires : tie.Need-is-no-contract-requires
-is-no-contract-requires c κs = search needs
 
 returns : tie.Need-returns
 unfolding emptyTests pass
@@ -25,4 +22,4 @@ returns c =
     ∷ []))
 
 pub empty-sound-spec : {M : Type 1} → statement M
-empty-sound-spec = tie.close (tie.spec is-no-contract-requires returns)
+empty-sound-spec = tie.close (tie.spec (λ c κs. search needs) returns)

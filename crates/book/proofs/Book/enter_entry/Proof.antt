@@ -1,6 +1,6 @@
 -- `book::enter_entry` meets its contract.
 use borrow.Author.Needs.{needs}
-use Rattle.meter.specs.Meter.{lent}
+use Rattle.book_memory.specs.Meter.{lent}
 use Rattle.rules.proofs.Folds.{length-mapped}
 use Rattle.book.specs.Sound.{Shaped}
 use Rattle.book.proofs.Entered.{refused-entry, taken-entry, has-place}

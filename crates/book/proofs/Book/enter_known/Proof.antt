@@ -6,11 +6,5 @@ use Rattle.book.proofs.Book.enter_known.Tie as tie
 enter-command-requires : tie.Need-enter-command-requires
 enter-command-requires c κs = sym (c .before .pre)
 
-same-length : tie.Need-same-length
-same-length c = search needs
-
-returns : tie.Need-returns
-returns c = search needs
-
 pub enter-known-spec : {M : Type 1} → statement M
-enter-known-spec = tie.close (tie.spec enter-command-requires same-length returns)
+enter-known-spec = tie.close (tie.spec enter-command-requires (λ c. search needs) (λ c. search needs))

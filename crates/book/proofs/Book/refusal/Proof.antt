@@ -9,7 +9,7 @@ use Rattle.commands.specs.declared.entries.Command.{Command}
 use Rattle.commands.specs.declared.entries.Command.the-variants.{Contract as contractᶜ}
 use Rattle.rules.specs.Reached.{windowsSound}
 use Rattle.rules.proofs.Folds.{length-mapped}
-use Rattle.meter.specs.Meter.{lent}
+use Rattle.book_memory.specs.Meter.{lent}
 use Rattle.book.specs.Book.{bookSpan}
 use Rattle.book.proofs.Tested.{Tables, sound-parts, sound-used}
 use Rattle.book.proofs.Numbers.{firstOf, Late, met-first, met-late, contract-later, window-later, instruction-later, default-later, reading-later, close-later}

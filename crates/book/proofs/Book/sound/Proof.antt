@@ -10,9 +10,6 @@ use Rattle.book.proofs.Tested.{tables-of}
 use Rattle.book.proofs.Book.sound.Statement.{statement}
 use Rattle.book.proofs.Book.sound.Tie as tie
 
-tables-sound-requires : tie.Need-tables-sound-requires
-tables-sound-requires c κs = search needs
-
 returns : tie.Need-returns
 unfolding sound
 returns c = rw (sym (c .before .tables-sound .ensures) ∙ not-true _ (c .if1 .taken))
@@ -20,9 +17,6 @@ returns c = rw (sym (c .before .tables-sound .ensures) ∙ not-true _ (c .if1 .t
 -- past the first test the tables are in shape
 shaped : (c : tie.Else1) → pass (tableTests (c .before .before .args .self)) ≡ true
 shaped c = sym (c .before .tables-sound .ensures) ∙ not-false _ (c .if1 .left)
-
-empty-sound-requires : tie.Need-empty-sound-requires
-empty-sound-requires c κs = search needs
 
 returns-2 : tie.Need-returns-2
 unfolding sound
@@ -47,9 +41,9 @@ pub sound-spec : {M : Type 1} → statement M
 sound-spec =
     tie.close
     (tie.spec
-    tables-sound-requires
+    (λ c κs. search needs)
     returns
-    empty-sound-requires
+    (λ c κs. search needs)
     returns-2
     (λ c κs. search needs)
     agreed-sound-requires

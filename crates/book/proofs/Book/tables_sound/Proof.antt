@@ -7,10 +7,10 @@ use lib.ListN.{drop}
 use borrow.Author.Tests.{not-true, not-false}
 use Rattle.energy.specs.Lists.{all, pass}
 use Rattle.energy.proofs.Tests.{to-T, passes}
-use Rattle.tables.specs.Unused.{isNoWindow, isNoInstruction, isNoDefault}
+use Rattle.book_sound.specs.Unused.{isNoWindow, isNoInstruction, isNoDefault}
 use Rattle.book.specs.Sound.{tableTests}
 use Rattle.book.specs.declared.Book.{Book}
-use Rattle.tables.proofs.Tables.{chain-pass, pass-append}
+use Rattle.book_sound.proofs.Tables.{chain-pass, pass-append}
 use Rattle.book.proofs.Book.tables_sound.Statement.{statement}
 use Rattle.book.proofs.Book.tables_sound.Tie as tie
 

@@ -1,7 +1,7 @@
 use borrow.Author.Needs.{needs}
 use mathlib.Core.Path.{refl}
 use Rattle.commands.specs.declared.entries.Command.the-variants.{Window as windowᶜ}
-use Rattle.meter.specs.Meter.{lent}
+use Rattle.book_memory.specs.Meter.{lent}
 use Rattle.book.proofs.Entered.{still}
 use Rattle.book.proofs.Book.window.Statement.{statement}
 use Rattle.book.proofs.Book.window.Tie as tie

@@ -7,7 +7,7 @@ use borrow.Author.Tests.{leb-true, ltb-true}
 use Rattle.energy.proofs.Tests.{to-T, on-and}
 use Rattle.commands.specs.Input.{isReading}
 use Rattle.rules.specs.Ledger.{spanOf}
-use Rattle.meter.specs.Meter.{lent, roomIn}
+use Rattle.book_memory.specs.Meter.{lent, roomIn}
 use Rattle.book.specs.Put.{hasCells}
 use Rattle.book.proofs.put.put_memory.Statement.{statement}
 use Rattle.book.proofs.put.put_memory.Tie as tie

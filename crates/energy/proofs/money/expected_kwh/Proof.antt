@@ -8,9 +8,6 @@ use Rattle.energy.proofs.Rounding.{half-up-within}
 use Rattle.energy.proofs.money.expected_kwh.Statement.{statement}
 use Rattle.energy.proofs.money.expected_kwh.Tie as tie
 
-half-up-requires : tie.Need-half-up-requires
-half-up-requires c κs = search needs
-
 most : (c : tie.After-half-up) → c .half-up .result ≤ 500000
 most c = omega (arith, half-up-within (c .before .args .q) 240 (c .half-up .result) (omega arith) (c .half-up .ensures))
 
@@ -21,4 +18,4 @@ returns : tie.Need-returns
 returns c = rw (toZ-pos w64 (c .half-up .result) (omega (arith, most c))) (c .half-up .ensures, omega (arith, most c))
 
 pub expected-kwh-spec : {M : Type 1} → statement M
-expected-kwh-spec = tie.close (tie.spec half-up-requires cast-k returns)
+expected-kwh-spec = tie.close (tie.spec (λ c κs. search needs) cast-k returns)

@@ -6,11 +6,8 @@ use mir.Facts.{toZ-ofZ}
 use Rattle.energy.proofs.money.kwh_of.Statement.{statement}
 use Rattle.energy.proofs.money.kwh_of.Tie as tie
 
-quotient-requires : tie.Need-quotient-requires
-quotient-requires c κs = search needs
-
 returns : tie.Need-returns
 returns c = let f = c .before .fits .quarters in toZ-ofZ (omega arith) ∙ simp toZ-ofZ at (c .quotient .ensures)
 
 pub kwh-of-spec : {M : Type 1} → statement M
-kwh-of-spec = tie.close (tie.spec quotient-requires returns)
+kwh-of-spec = tie.close (tie.spec (λ c κs. search needs) returns)

@@ -42,9 +42,6 @@ fit c =
       by = raised (n c) 1000 500000000 (omega arith) small;
     }
 
-cast-raised : tie.Need-cast-raised
-cast-raised c = search needs
-
 mul-raised : tie.Need-mul-raised
 mul-raised c = let f = fit (c .before .before) in simp (toZ-ofZ, f .fk, f .rate) (f .fn)
 
@@ -86,7 +83,7 @@ pub payment-pence-spec : {M : Type 1} → statement M
 payment-pence-spec =
     tie.close
     (tie.spec
-    cast-raised
+    (λ c. search needs)
     mul-raised
     add-raised
     cast-raised-2

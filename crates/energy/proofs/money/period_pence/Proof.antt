@@ -26,12 +26,6 @@ most c =
 mul-parts : tie.Need-mul-parts
 mul-parts c = omega (arith, most c)
 
-sub-parts : tie.Need-sub-parts
-sub-parts c = search needs
-
-cast-parts : tie.Need-cast-parts
-cast-parts c = search needs
-
 mul-parts-2 : tie.Need-mul-parts-2
 mul-parts-2 c = omega (arith, most c)
 
@@ -50,4 +44,4 @@ returns c = rw (toZ-pos w64 (c .half-up .result) (omega (arith, pence c))) (c .h
 pub period-pence-spec : {M : Type 1} → statement M
 period-pence-spec =
     tie.close
-    (tie.spec mul-parts sub-parts cast-parts mul-parts-2 half-up-requires cast-pence returns)
+    (tie.spec mul-parts (λ c. search needs) (λ c. search needs) mul-parts-2 half-up-requires cast-pence returns)

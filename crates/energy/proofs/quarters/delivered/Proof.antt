@@ -80,17 +80,8 @@ value c =
     sum-delivers (cell (a .meter .now)) (a .kind) (B c) (a .from) (a .to)
     ∙ ap (λ z. cond (eqb (a .kind) 0) (by z) (pos 0 -ℤ by z)) (sym (c .total .ensures))
 
-total-requires : tie.Need-total-requires
-total-requires c κs = search needs
-
 mul-above : tie.Need-mul-above
 mul-above c = let f = fit c in simp (toZ-ofZ, f .fs) (f .f4)
-
-sub-above : tie.Need-sub-above
-sub-above c = search needs
-
-cast-above : tie.Need-cast-above
-cast-above c = search needs
 
 mul-above-2 : tie.Need-mul-above-2
 mul-above-2 c = let f = fit c in simp (toZ-ofZ, f .fb, f .fn) (f .fm)
@@ -117,10 +108,10 @@ pub delivered-spec : {M : Type 1} → statement M
 delivered-spec =
     tie.close
     (tie.spec
-    total-requires
+    (λ c κs. search needs)
     mul-above
-    sub-above
-    cast-above
+    (λ c. search needs)
+    (λ c. search needs)
     mul-above-2
     sub-above-2
     returns

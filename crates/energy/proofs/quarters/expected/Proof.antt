@@ -7,18 +7,12 @@ use Rattle.energy.specs.Energy.{expectedIn}
 use Rattle.energy.proofs.quarters.expected.Statement.{statement}
 use Rattle.energy.proofs.quarters.expected.Tie as tie
 
-mul-result : tie.Need-mul-result
-mul-result c = search needs
-
 mul-result-2 : tie.Need-mul-result-2
 mul-result-2 c = omega (arith, mul-le-mul (c .before .pre .1) (c .before .pre .0))
 
 returns : tie.Need-returns
 unfolding expectedIn
 returns c = (rw (c .if1 .taken) refl, omega (arith, mul-le-mul (c .before .pre .1) (c .before .pre .0)))
-
-mul-result-3 : tie.Need-mul-result-3
-mul-result-3 c = search needs
 
 mul-result-4 : tie.Need-mul-result-4
 mul-result-4 c = omega (arith, mul-le-mul (c .before .pre .1) (c .before .pre .0))
@@ -29,4 +23,4 @@ returns-2 c = (rw (c .if1 .left) refl, omega (arith, mul-le-mul (c .before .pre 
 
 pub expected-spec : {M : Type 1} → statement M
 expected-spec =
-    tie.close (tie.spec mul-result mul-result-2 returns mul-result-3 mul-result-4 returns-2)
+    tie.close (tie.spec (λ c. search needs) mul-result-2 returns (λ c. search needs) mul-result-4 returns-2)

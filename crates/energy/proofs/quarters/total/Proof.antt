@@ -37,12 +37,6 @@ so-far c = let f = part-fits c (c .loop .i) (omega arith) in rw (c .loop .inv .2
 loop-holds : tie.Need-loop-holds Inv-loop μ-loop
 loop-holds c = (omega arith, omega arith, rw (sum-none (cell (c .args .meter .now)) (c .args .from)) refl)
 
-mul-x : tie.Need-mul-x Inv-loop μ-loop
-mul-x c = search needs
-
-shared-slice-copy-out-x : tie.Need-shared-slice-copy-out-x Inv-loop μ-loop
-shared-slice-copy-out-x c = search needs
-
 -- after a turn, the sum over one minute more
 turn : (c : tie.After-x Inv-loop μ-loop)
     → toZ w32 (c .before .before .loop .sum) +ℤ toZ w32 (ofZ w32 (cell (c .before .before .before .args .meter .now) (c .before .before .loop .i)))
@@ -57,12 +51,6 @@ turn c =
 add-sum : tie.Need-add-sum Inv-loop μ-loop
 add-sum c = rw (turn c) (part-fits (c .before .before) (c .before .before .loop .i + 1) (omega arith))
 
-add-i : tie.Need-add-i Inv-loop μ-loop
-add-i c = search needs
-
-loop-less : tie.Need-loop-less Inv-loop μ-loop
-loop-less c = search needs
-
 loop-again : tie.Need-loop-again Inv-loop μ-loop
 loop-again c = (omega arith, omega arith, rw (turn c) refl)
 
@@ -71,4 +59,4 @@ returns c = let e : c .before .loop .i ≡ c .before .before .args .to = omega a
 
 pub total-spec : {M : Type 1} → statement M
 total-spec =
-    tie.close (tie.spec Inv-loop μ-loop loop-holds mul-x shared-slice-copy-out-x add-sum add-i loop-less loop-again returns)
+    tie.close (tie.spec Inv-loop μ-loop loop-holds (λ c. search needs) (λ c. search needs) add-sum (λ c. search needs) (λ c. search needs) loop-again returns)

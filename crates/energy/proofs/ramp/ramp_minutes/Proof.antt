@@ -13,18 +13,6 @@ returns : tie.Need-returns
 unfolding ceiling
 returns c = let e : c .before .args .ramp ≡ 0 = omega arith in rw e (sym (div-zero (c .before .args .kw + (0 - 1))))
 
-sub-raised : tie.Need-sub-raised
-sub-raised c = search needs
-
-cast-raised : tie.Need-cast-raised
-cast-raised c = search needs
-
-add-raised : tie.Need-add-raised
-add-raised c = search needs
-
-div-result : tie.Need-div-result
-div-result c = search needs
-
 cast-result : tie.Need-cast-result
 cast-result c = record { fits = lt-of-le-of-lt (raised-most (c .before .args .kw) _ (c .before .args .ramp) (omega arith)) (omega arith) }
 
@@ -34,4 +22,4 @@ returns-2 c = refl
 
 pub ramp-minutes-spec : {M : Type 1} → statement M
 ramp-minutes-spec =
-    tie.close (tie.spec returns sub-raised cast-raised add-raised div-result cast-result returns-2)
+    tie.close (tie.spec returns (λ c. search needs) (λ c. search needs) (λ c. search needs) (λ c. search needs) cast-result returns-2)

@@ -4,14 +4,8 @@ use Rattle.energy.proofs.Rounding.{half-up}
 use Rattle.energy.proofs.round.half_up.Statement.{statement}
 use Rattle.energy.proofs.round.half_up.Tie as tie
 
-add-result : tie.Need-add-result
-add-result c = search needs
-
-div-result : tie.Need-div-result
-div-result c = search needs
-
 returns : tie.Need-returns
 returns c = half-up (c .args .n) (c .args .d) (c .pre .0)
 
 pub half-up-spec : {M : Type 1} → statement M
-half-up-spec = tie.close (tie.spec add-result div-result returns)
+half-up-spec = tie.close (tie.spec (λ c. search needs) (λ c. search needs) returns)

@@ -9,9 +9,6 @@ use Rattle.energy.specs.declared.round.Rounded.the-variants.{Value}
 use Rattle.energy.proofs.round.nearest.Statement.{statement}
 use Rattle.energy.proofs.round.nearest.Tie as tie
 
-quotient-requires : tie.Need-quotient-requires
-quotient-requires c κs = search needs
-
 returns : tie.Need-returns
 unfolding rounded
 returns c = let s = c .before .before in let f = s .fits .n in rw (le-leb 1 (s .args .d) (omega arith)) (ap Value (toZ-ofZ (omega arith) ∙ simp toZ-ofZ at (c .quotient .ensures)))
@@ -21,4 +18,4 @@ unfolding rounded
 returns-2 c = rw (lt-leb 1 (c .before .args .d) (omega arith)) refl
 
 pub nearest-spec : {M : Type 1} → statement M
-nearest-spec = tie.close (tie.spec quotient-requires returns returns-2)
+nearest-spec = tie.close (tie.spec (λ c κs. search needs) returns returns-2)

@@ -50,9 +50,6 @@ fit c =
       fm = fits-diff w64 (pos 0) (pos (d c)) (omega arith);
     }
 
-cast-m : tie.Need-cast-m
-cast-m c = search needs
-
 div-q : tie.Need-div-q
 div-q c = let f = fit c in (c .pre, simp (toZ-ofZ, f .fn, f .fd) (f .fq))
 
@@ -132,4 +129,4 @@ returns-3 c =
 
 pub quotient-spec : {M : Type 1} → statement M
 quotient-spec =
-    tie.close (tie.spec cast-m div-q div-q mul-if1 add-result returns (λ c. mul-if1 (c .before)) sub-if2 sub-result returns-2 returns-3)
+    tie.close (tie.spec (λ c. search needs) div-q div-q mul-if1 add-result returns (λ c. mul-if1 (c .before)) sub-if2 sub-result returns-2 returns-3)

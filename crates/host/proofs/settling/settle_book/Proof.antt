@@ -1,19 +1,13 @@
 -- `host::settling::settle_book` meets its contract: the answer decides whether sums are written, and the lines fit the memory lent for them.
 use mathlib.Core.Path.{_≡_, ap}
 use native.Mathlib.Omega.{arith}
-use Rattle.meter.specs.Meter.{lent}
-use Rattle.numbers.specs.Numbers.{numberBook}
-use Rattle.settlement.specs.declared.Settlement.{Settlement}
+use Rattle.book_memory.specs.Meter.{lent}
+use Rattle.settle_numbers.specs.Numbers.{numberBook}
+use Rattle.settle.specs.declared.Settlement.{Settlement}
 use Rattle.host.proofs.Settled.{few-lines, settled-taken, settled-refused}
 use borrow.Author.Needs.{needs}
 use Rattle.host.proofs.settling.settle_book.Statement.{statement}
 use Rattle.host.proofs.settling.settle_book.Tie as tie
-
-settle-numbers-requires : tie.Need-settle-numbers-requires
-settle-numbers-requires c κs = search needs
-
-enum-told : tie.Need-enum-told
-enum-told c = search needs
 
 put-sums-requires : tie.Need-put-sums-requires
 put-sums-requires c κs =
@@ -23,24 +17,12 @@ put-sums-requires c κs =
     ap (λ (z : Settlement). z .statement .lines) (s .ensures .0) in
     (at .pre .0, omega (arith, same, few-lines (at .args .b) (lent (at .args .meter .now)) (at .args .lines .now), at .good .1 .1 .0 .0), at .pre .1)
 
-enum-known-answer : tie.Need-enum-known-answer
-enum-known-answer c = search needs
-
-same-length : tie.Need-same-length
-same-length c = search needs
-
-same-length-2 : tie.Need-same-length-2
-same-length-2 c = search needs
-
 returns : tie.Need-returns
 returns c =
     let a = c .before .before .before .before .before .before .before .before .before .args in
     let s = c .before .before .before .before .before .before .before .settle-numbers in
     settled-taken (a .b) (lent (a .meter .now)) (a .lines .now) (a .sums .now) _ (s .result) (s .ensures .0) (s .ensures .1) _
     (c .before .before .before .enum-told .given .1) (c .before .put-sums .ensures)
-
-same-length-3 : tie.Need-same-length-3
-same-length-3 c = search needs
 
 returns-2 : tie.Need-returns-2
 returns-2 c =
@@ -53,12 +35,12 @@ pub settle-book-spec : {M : Type 1} → statement M
 settle-book-spec =
     tie.close
     (tie.spec
-    settle-numbers-requires
-    enum-told
+    (λ c κs. search needs)
+    (λ c. search needs)
     put-sums-requires
-    enum-known-answer
-    same-length
-    same-length-2
+    (λ c. search needs)
+    (λ c. search needs)
+    (λ c. search needs)
     returns
-    same-length-3
+    (λ c. search needs)
     returns-2)

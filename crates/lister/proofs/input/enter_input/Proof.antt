@@ -8,11 +8,11 @@ use native.Mathlib.Omega.{arith}
 use lib.Dec.{T}
 use lib.ListN.{length, take}
 use lib.Seq.{length-take-le}
-use Rattle.meter.specs.Meter.{lent, roomIn}
+use Rattle.book_memory.specs.Meter.{lent, roomIn}
 use Rattle.rules.specs.FileLength.{mostBytes}
 use Rattle.book.specs.Sound.{sound}
 use Rattle.book.proofs.Follow.{starts}
-use Rattle.stor.specs.Files.{unfinished}
+use Rattle.demands.specs.Pieces.{unfinished}
 use Rattle.lister.proofs.Refill.{left-short, goes-full, SoFar, begins, far, Turn, turn, entered, again, forward}
 use Rattle.lister.proofs.input.enter_input.Statement.{statement}
 use Rattle.lister.proofs.input.enter_input.Tie as tie
@@ -41,25 +41,13 @@ full c =
     let g = goes-full (u .result) (f .result) (length (f .last .0)) (c .if1 .left) in
     (subst T (u .ensures) (g .0), g .1)
 
-empty-requires : tie.Need-empty-requires Inv-loop μ-loop
-empty-requires c κs = search needs
-
 loop-holds : tie.Need-loop-holds Inv-loop μ-loop
 loop-holds c = (rw (c .empty .ensures) (starts (lent []) .left), omega arith, refl, refl, begins _ _ (c .empty .ensures))
-
-fill-requires : tie.Need-fill-requires Inv-loop μ-loop
-fill-requires c κs = search needs
-
-slice-reshare-prefix-load : tie.Need-slice-reshare-prefix-load Inv-loop μ-loop
-slice-reshare-prefix-load c = search needs
 
 slice-aggregate-load : tie.Need-slice-aggregate-load Inv-loop μ-loop
 slice-aggregate-load c =
     let f = c .before .before .before .before .fill in
     sym (length-take-le (f .result) (f .last .0) (f .ensures .2))
-
-load-requires : tie.Need-load-requires Inv-loop μ-loop
-load-requires c κs = search needs
 
 add-if1 : tie.Need-add-if1 Inv-loop μ-loop
 add-if1 c =
@@ -68,15 +56,6 @@ add-if1 c =
     let t = c .before .before .before .before .before .before .before .before .before .before .loop in
     let start = c .before .before .before .before .before .before .before .before .before .before .before .before .before in
     omega (arith, far (t .inv .4), l .ensures .3, length-take-le (f .result) (f .last .0) (f .ensures .2), f .kept .0, t .inv .2, start .pre, start .good .1)
-
-unfinished-requires : tie.Need-unfinished-requires Inv-loop μ-loop
-unfinished-requires c κs = search needs
-
-same-length : tie.Need-same-length Inv-loop μ-loop
-same-length c = search needs
-
-same-length-2 : tie.Need-same-length-2 Inv-loop μ-loop
-same-length-2 c = search needs
 
 returns : tie.Need-returns Inv-loop μ-loop
 returns c =
@@ -120,16 +99,16 @@ enter-input-spec =
     (tie.spec
     Inv-loop
     μ-loop
-    empty-requires
+    (λ c κs. search needs)
     loop-holds
-    fill-requires
-    slice-reshare-prefix-load
+    (λ c κs. search needs)
+    (λ c. search needs)
     slice-aggregate-load
-    load-requires
+    (λ c κs. search needs)
     add-if1
-    unfinished-requires
-    same-length
-    same-length-2
+    (λ c κs. search needs)
+    (λ c. search needs)
+    (λ c. search needs)
     returns
     keep-requires
     loop-less

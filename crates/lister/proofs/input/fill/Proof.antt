@@ -7,24 +7,6 @@ use lib.ListN.{length}
 use Rattle.lister.proofs.input.fill.Statement.{statement}
 use Rattle.lister.proofs.input.fill.Tie as tie
 
-sub-read-full : tie.Need-sub-read-full
-sub-read-full c = search needs
-
-part-read-full-start : tie.Need-part-read-full-start
-part-read-full-start c = search needs
-
-part-read-full-end : tie.Need-part-read-full-end
-part-read-full-end c = search needs
-
-read-full-requires : tie.Need-read-full-requires
-read-full-requires c κs = search needs
-
-add-result : tie.Need-add-result
-add-result c = search needs
-
-same-length : tie.Need-same-length
-same-length c = search needs
-
 returns : tie.Need-returns
 returns c =
     let start = c .before .before .before .before .before in
@@ -36,10 +18,10 @@ pub fill-spec : {M : Type 1} → statement M
 fill-spec =
     tie.close
     (tie.spec
-    sub-read-full
-    part-read-full-start
-    part-read-full-end
-    read-full-requires
-    add-result
-    same-length
+    (λ c. search needs)
+    (λ c. search needs)
+    (λ c. search needs)
+    (λ c κs. search needs)
+    (λ c. search needs)
+    (λ c. search needs)
     returns)

@@ -14,35 +14,14 @@ Inv-loop buffer₀ from to n i₀ buffer i = (i ≤ n) × (length buffer ≡ len
 abbrev μ-loop : tie.MeasureT-loop
 μ-loop buffer₀ from to n i₀ buffer i = n - i
 
-sub-n : tie.Need-sub-n Inv-loop μ-loop
-sub-n c = search needs
-
 loop-holds : tie.Need-loop-holds Inv-loop μ-loop
 loop-holds c = (omega arith, refl, copied-none _ _)
-
-add-buffer : tie.Need-add-buffer Inv-loop μ-loop
-add-buffer c = search needs
-
-slice-read-buffer : tie.Need-slice-read-buffer Inv-loop μ-loop
-slice-read-buffer c = search needs
-
-slice-write-buffer : tie.Need-slice-write-buffer Inv-loop μ-loop
-slice-write-buffer c = search needs
-
-add-i : tie.Need-add-i Inv-loop μ-loop
-add-i c = search needs
-
-loop-less : tie.Need-loop-less Inv-loop μ-loop
-loop-less c = search needs
 
 loop-again : tie.Need-loop-again Inv-loop μ-loop
 loop-again c =
     let l = c .before .before .loop in
     let a = c .before .before .before .args in
     (search needs, search needs, copied-more (a .from) (a .buffer .now) (l .buffer) (l .i) (omega arith) (l .inv .1) (l .inv .2))
-
-same-length : tie.Need-same-length Inv-loop μ-loop
-same-length c = search needs
 
 returns : tie.Need-returns Inv-loop μ-loop
 returns c =
@@ -58,13 +37,13 @@ keep-spec =
     (tie.spec
     Inv-loop
     μ-loop
-    sub-n
+    (λ c. search needs)
     loop-holds
-    add-buffer
-    slice-read-buffer
-    slice-write-buffer
-    add-i
-    loop-less
+    (λ c. search needs)
+    (λ c. search needs)
+    (λ c. search needs)
+    (λ c. search needs)
+    (λ c. search needs)
     loop-again
-    same-length
+    (λ c. search needs)
     returns)

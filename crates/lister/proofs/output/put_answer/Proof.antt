@@ -6,14 +6,8 @@ use Rattle.lister.specs.Printed.{printed}
 use Rattle.lister.proofs.output.put_answer.Statement.{statement}
 use Rattle.lister.proofs.output.put_answer.Tie as tie
 
-enum-known-ended : tie.Need-enum-known-ended
-enum-known-ended c = search needs
-
 put-refusal-requires : tie.Need-put-refusal-requires
 put-refusal-requires c κs = tt
-
-enum-told : tie.Need-enum-told
-enum-told c = search needs
 
 listed-requires : tie.Need-listed-requires
 listed-requires c κs = tt
@@ -40,9 +34,9 @@ pub put-answer-spec : {M : Type 1} → statement M
 put-answer-spec =
     tie.close
     (tie.spec
-    enum-known-ended
+    (λ c. search needs)
     put-refusal-requires
-    enum-told
+    (λ c. search needs)
     listed-requires
     put-settlement-requires
     returns

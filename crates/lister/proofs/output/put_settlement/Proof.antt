@@ -3,14 +3,8 @@ use borrow.Author.Needs.{needs}
 use Rattle.lister.proofs.output.put_settlement.Statement.{statement}
 use Rattle.lister.proofs.output.put_settlement.Tie as tie
 
-enum-known-answer : tie.Need-enum-known-answer
-enum-known-answer c = search needs
-
 put-refusal-requires : tie.Need-put-refusal-requires
 put-refusal-requires c κs = tt
-
-enum-told : tie.Need-enum-told
-enum-told c = search needs
 
 put-listing-requires : tie.Need-put-listing-requires
 put-listing-requires c κs = tt
@@ -25,9 +19,9 @@ pub put-settlement-spec : {M : Type 1} → statement M
 put-settlement-spec =
     tie.close
     (tie.spec
-    enum-known-answer
+    (λ c. search needs)
     put-refusal-requires
-    enum-told
+    (λ c. search needs)
     put-listing-requires
     returns
     returns-2)

@@ -4,39 +4,6 @@ use borrow.Author.Needs.{needs}
 use Rattle.commands.proofs.contract.Contract.in_range.Statement.{statement}
 use Rattle.commands.proofs.contract.Contract.in_range.Tie as tie
 
-byte-from-to-requires : tie.Need-byte-from-to-requires
-byte-from-to-requires c κs = search needs
-
-byte-from-to-requires-2 : tie.Need-byte-from-to-requires-2
-byte-from-to-requires-2 c κs = search needs
-
-byte-from-to-requires-3 : tie.Need-byte-from-to-requires-3
-byte-from-to-requires-3 c κs = search needs
-
-kw-from-to-requires : tie.Need-kw-from-to-requires
-kw-from-to-requires c κs = search needs
-
-number-from-to-requires : tie.Need-number-from-to-requires
-number-from-to-requires c κs = search needs
-
-number-from-to-requires-2 : tie.Need-number-from-to-requires-2
-number-from-to-requires-2 c κs = search needs
-
-minutes-from-to-requires : tie.Need-minutes-from-to-requires
-minutes-from-to-requires c κs = search needs
-
-minutes-from-to-requires-2 : tie.Need-minutes-from-to-requires-2
-minutes-from-to-requires-2 c κs = search needs
-
-number-from-to-requires-3 : tie.Need-number-from-to-requires-3
-number-from-to-requires-3 c κs = search needs
-
-number-from-to-requires-4 : tie.Need-number-from-to-requires-4
-number-from-to-requires-4 c κs = search needs
-
-number-from-to-requires-5 : tie.Need-number-from-to-requires-5
-number-from-to-requires-5 c κs = search needs
-
 returns : tie.Need-returns
 returns c = λ i.
     c .before .before .before .before .before .before .before .before .before .before .byte-from-to .ensures i
@@ -55,15 +22,15 @@ pub in-range-spec : {M : Type 1} → statement M
 in-range-spec =
     tie.close
     (tie.spec
-    byte-from-to-requires
-    byte-from-to-requires-2
-    byte-from-to-requires-3
-    kw-from-to-requires
-    number-from-to-requires
-    number-from-to-requires-2
-    minutes-from-to-requires
-    minutes-from-to-requires-2
-    number-from-to-requires-3
-    number-from-to-requires-4
-    number-from-to-requires-5
+    (λ c κs. search needs)
+    (λ c κs. search needs)
+    (λ c κs. search needs)
+    (λ c κs. search needs)
+    (λ c κs. search needs)
+    (λ c κs. search needs)
+    (λ c κs. search needs)
+    (λ c κs. search needs)
+    (λ c κs. search needs)
+    (λ c κs. search needs)
+    (λ c κs. search needs)
     returns)

@@ -13,9 +13,6 @@ use Rattle.commands.proofs.Input.{input-out, input-in}
 use Rattle.commands.proofs.contract.Contract.input_refusal.Statement.{statement}
 use Rattle.commands.proofs.contract.Contract.input_refusal.Tie as tie
 
-in-range-requires : tie.Need-in-range-requires
-in-range-requires c κs = search needs
-
 returns : tie.Need-returns
 returns c = input-out _ (sym (c .before .in-range .ensures) ∙ not-true _ (c .if1 .taken))
 
@@ -24,18 +21,6 @@ cast-kw c =
     let k = c .before .before .before .before .args .self in
     let fit : SFits w64 (k .contracted .0) = search needs in
     rw (toZ-ofZ fit) (kw-unsigned k (ranges k (to-T (sym (c .before .before .before .in-range .ensures) ∙ not-false _ (c .before .before .if1 .left)))))
-
-ramp-minutes-requires : tie.Need-ramp-minutes-requires
-ramp-minutes-requires c κs = search needs
-
-ramp-minutes-requires-2 : tie.Need-ramp-minutes-requires-2
-ramp-minutes-requires-2 c κs = search needs
-
-cast-pick : tie.Need-cast-pick
-cast-pick c = search needs
-
-pick-requires : tie.Need-pick-requires
-pick-requires c κs = search needs
 
 returns-2 : tie.Need-returns-2
 unfolding upMinutes downMinutes
@@ -52,11 +37,11 @@ pub input-refusal-spec : {M : Type 1} → statement M
 input-refusal-spec =
     tie.close
     (tie.spec
-    in-range-requires
+    (λ c κs. search needs)
     returns
     cast-kw
-    ramp-minutes-requires
-    ramp-minutes-requires-2
-    cast-pick
-    pick-requires
+    (λ c κs. search needs)
+    (λ c κs. search needs)
+    (λ c. search needs)
+    (λ c κs. search needs)
     returns-2)

@@ -6,18 +6,6 @@ use Rattle.commands.proofs.Input.{input-picked}
 use Rattle.commands.proofs.entries.Default.input_refusal.Statement.{statement}
 use Rattle.commands.proofs.entries.Default.input_refusal.Tie as tie
 
-minutes-from-to-requires : tie.Need-minutes-from-to-requires
-minutes-from-to-requires c κs = search needs
-
-known-kind-requires : tie.Need-known-kind-requires
-known-kind-requires c κs = search needs
-
-known-reach-requires : tie.Need-known-reach-requires
-known-reach-requires c κs = search needs
-
-pick-requires : tie.Need-pick-requires
-pick-requires c κs = search needs
-
 returns : tie.Need-returns
 returns c = input-picked _ (c .pick .ensures) (λ i. c .before .before .before .minutes-from-to .ensures i && c .before .before .known-kind .ensures i && c .before .known-reach .ensures i) refl
 
@@ -25,8 +13,8 @@ pub input-refusal-spec : {M : Type 1} → statement M
 input-refusal-spec =
     tie.close
     (tie.spec
-    minutes-from-to-requires
-    known-kind-requires
-    known-reach-requires
-    pick-requires
+    (λ c κs. search needs)
+    (λ c κs. search needs)
+    (λ c κs. search needs)
+    (λ c κs. search needs)
     returns)

@@ -1,0 +1,19 @@
+-- `book_memory::is_taken` meets its contract: a minute without a cell is asked first, and then the rest.
+use mathlib.Core.Bool.{and-true, and-false}
+use borrow.Author.Needs.{needs}
+use borrow.Author.Tests.{lt-ltb, le-ltb}
+use Rattle.book_memory.specs.Meter.{takesReading}
+use Rattle.book_memory.proofs.is_taken.Statement.{statement}
+use Rattle.book_memory.proofs.is_taken.Tie as tie
+
+returns : tie.Need-returns
+unfolding takesReading
+returns c = rw (le-ltb _ _ (c .if1 .taken), and-false)
+
+returns-2 : tie.Need-returns-2
+unfolding takesReading
+returns-2 c = rw (c .input-refusal .ensures, c .before .kw-from-to .ensures, c .before .before .cell .ensures, lt-ltb _ _ (c .before .before .before .if1 .left), and-true)
+
+pub is-taken-spec : {M : Type 1} → statement M
+is-taken-spec =
+    tie.close (tie.spec (λ c. search needs) returns (λ c κs. search needs) (λ c κs. search needs) (λ c κs. search needs) returns-2)

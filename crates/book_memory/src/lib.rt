@@ -1,0 +1,89 @@
+// Meter memory: the cells that a contract marks, and the readings.
+ghost use mathlib.Core.Path.{_≡_};
+ghost use mathlib.Core.Bool.{cond};
+ghost use mathlib.Core.List.{_++_};
+ghost use Prim.Native.Nat.{_<_, _≤_};
+ghost use lib.Dec.{T};
+ghost use lib.ListN.{length, getD, set, drop, replicate};
+ghost use Rattle.commands.specs.Input.{isReading};
+ghost use Rattle.book_memory.specs.Meter.{missing, lent, putMeter, takesReading};
+use commands::checks::kw_from_to;
+use commands::contract::Contract;
+use commands::entries::Command;
+use commands::entries::Reading;
+use energy::units::Kw;
+use energy::units::Minutes;
+
+// Takes a reading into a sound book whose open span this is, and says whether it did. A reading that the book refuses, and every other
+// command, is left for `enter_known`, which has the number. A month has 44,640 readings, and none of them changes the book: handing it
+// through each of them took most of the time.
+pub fn take_reading(span: usize, c: Command, meter: &mut [i32]) -> bool
+    ensures { λ r. ⌜ (r ≡ takesReading span (lent (now (meter .entry))) c) × (lent (now (meter .exit)) ≡ cond r (putMeter (lent (now (meter .entry))) c) (lent (now (meter .entry)))) ⌝ }
+{
+    match c {
+        Command::Contract(_) => false,
+        Command::Window(_) => false,
+        Command::Instruction(_) => false,
+        Command::Default(_) => false,
+        Command::Reading(r) => take_in_span(span, r, meter),
+        Command::Close => false,
+    }
+}
+
+// The same of a reading.
+fn take_in_span(span: usize, r: Reading, meter: &mut [i32]) -> bool
+    ensures { λ t. ⌜ (t ≡ takesReading span (lent (now (meter .entry))) (Command.Reading r)) × (lent (now (meter .exit)) ≡ cond t (putMeter (lent (now (meter .entry))) (Command.Reading r)) (lent (now (meter .entry)))) ⌝ }
+{
+    let taken = is_taken(span, r, meter);
+    if taken {
+        put_reading(r, meter);
+    }
+    taken
+}
+
+// Whether a reading is taken.
+fn is_taken(span: usize, r: Reading, meter: &[i32]) -> bool
+    ensures { λ t. ⌜ t ≡ takesReading span (lent (now (meter .entry))) (Command.Reading r) ⌝ }
+{
+    let minute = r.minute;
+    let at = minute.0 as usize;
+    if meter.len() <= at {
+        return false;
+    }
+    let held = cell(meter, minute);
+    let full = kw_from_to(Contract::READING_LEAST, Contract::READING_MOST, held);
+    (r.input_refusal() == 0) & (at < span) & !full
+}
+
+// The cell of a minute; past the end it counts as marked.
+pub fn cell(meter: &[i32], m: Minutes) -> Kw
+    ensures { λ r. ⌜ r .0 ≡ getD (now (meter .entry)) (m .0) missing ⌝ }
+{
+    let at = m.0 as usize;
+    if at < meter.len() {
+        Kw(meter[at] as i64)
+    } else {
+        Kw(Contract::NO_READING as i64)
+    }
+}
+
+// Marks the first n cells as minutes without a reading.
+pub fn mark(meter: &mut [i32], n: usize)
+    requires { ⌜ n ≤ length (now meter) ⌝ }
+    ensures { λ _. ⌜ now (meter .exit) ≡ replicate n missing ++ drop n (now (meter .entry)) ⌝ }
+{
+    let mut i = 0;
+    while i < n {
+        meter[i] = Contract::NO_READING;
+        i += 1;
+    }
+}
+
+// Puts a reading into its minute's cell.
+pub fn put_reading(r: Reading, meter: &mut [i32])
+    requires { ⌜ (r .minute .0 < length (now meter)) × T (isReading (r .kw .0)) ⌝ }
+    ensures { λ _. ⌜ now (meter .exit) ≡ set (now (meter .entry)) (r .minute .0) (r .kw .0) ⌝ }
+{
+    let at = r.minute.0 as usize;
+    meter[at] = r.kw.0 as i32;
+}

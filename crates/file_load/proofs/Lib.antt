@@ -1,0 +1,4 @@
+pub mod From
+pub mod Turns
+pub mod Near
+pub mod Runs

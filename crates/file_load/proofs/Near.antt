@@ -1,0 +1,111 @@
+-- A reading as the bytes say it, its kW raised and lowered again: the same reading where a cell takes it, and none where none does.
+use mathlib.Core.Path.{_≡_, refl, sym, ap, _∙_}
+use mathlib.Core.Bool.{Bool, true, false, cond}
+use mathlib.Core.List.{List, [], _∷_}
+use mathlib.Core.Option.{none, some, Option·none-ne-some}
+use Prim.Native.Nat.{ℕ, suc, _+_, _-_, _%_, _^_, _≤_, _<_}
+use native.Mathlib.Omega.{arith}
+use borrow.Author.Tests.{ltb-true, ltb-false, lt-leb}
+use lib.IntN.{ℤ, pos, negsuc, _-ℤ_}
+use lib.Dec.{T, ltb}
+use lib.ListN.{length, getD, take, drop}
+use lib.Seq.{drop-drop}
+use Rattle.energy.proofs.Integers.{arithℤ, diff-parts}
+use Rattle.commands.specs.Input.{isReading}
+use Rattle.commands.specs.declared.entries.Reading.{Reading}
+use Rattle.commands.specs.declared.entries.Command.the-variants.{Reading as readingᶜ}
+use Rattle.commands.proofs.Input.{input-none}
+use Rattle.rules.specs.File.{table, widthsOf, total, operands, wordFrom, signedOf, commandOf, readAt}
+use Rattle.rules.specs.declared.file.Read.the-variants.{Got}
+use Rattle.book_memory.specs.Meter.{cell, putMeter, takesReading, Memory}
+use Rattle.book_memory.proofs.Taking.{taken-fits}
+use Rattle.file_read.proofs.Found.{entire, found-reads}
+use Rattle.file_load.specs.Turn.{Stand, standAt}
+
+-- ---- the kW
+
+-- a number of 4 bytes, raised
+abbrev pub raised : ℕ → ℕ
+raised n = (n + 500000) % 4294967296
+
+module _ (n : ℕ) (fits : n < 2 ^ 32) where
+  low : n < 2 ^ 32 - 500000 → pos (raised n) -ℤ pos 500000 ≡ pos n
+  low h = omega (arithℤ, diff-parts (pos (raised n)) (pos 500000))
+
+  high : 2 ^ 32 - 500000 ≤ n → pos (raised n) -ℤ pos 500000 ≡ negsuc (2 ^ 32 - suc n)
+  high h = omega (arithℤ, diff-parts (pos (raised n)) (pos 500000))
+
+  far-up : 2 ^ 31 ≤ n → isReading (pos n) ≡ false
+  far-up h = lt-leb n 500000 (omega arith)
+
+  far-down : n < 2 ^ 32 - 500000 → isReading (negsuc (2 ^ 32 - suc n)) ≡ false
+  far-down h = rw (lt-leb (2 ^ 32 - suc n) 499999 (omega arith))
+
+  -- lowered again, it is the same reading, or none
+  pub near-cell : cell (pos (raised n) -ℤ pos 500000) ≡ cell (signedOf n)
+  unfolding signedOf
+  near-cell = go (ltb n (2 ^ 31)) (ltb n (2 ^ 32 - 500000)) refl refl
+    where
+      go : (x y : Bool) → ltb n (2 ^ 31) ≡ x → ltb n (2 ^ 32 - 500000) ≡ y → cell (pos (raised n) -ℤ pos 500000) ≡ cell (cond x (pos n) (negsuc (2 ^ 32 - suc n)))
+      go true y e f = ap cell (low (omega (arith, ltb-true n (2 ^ 31) e)))
+      go false true e f =
+          let h = ltb-true n (2 ^ 32 - 500000) f in
+          rw (low h, far-up (ltb-false n (2 ^ 31) e), far-down h)
+      go false false e f = ap cell (high (ltb-false n (2 ^ 32 - 500000) f))
+
+-- two numbers of which a cell says the same
+module _ (k z : ℤ) (e : cell k ≡ cell z) where
+  pub same-test : isReading k ≡ isReading z
+  same-test = go (isReading k) (isReading z) e
+    where
+      go : (x y : Bool) → cond x (some k) none ≡ cond y (some z) none → x ≡ y
+      go true true e = refl
+      go true false e = absurd (Option·none-ne-some k (sym e))
+      go false true e = absurd (Option·none-ne-some z e)
+      go false false e = refl
+
+  pub same-number : T (isReading k) → k ≡ z
+  same-number = go (isReading k) (isReading z) e
+    where
+      go : (x y : Bool) → cond x (some k) none ≡ cond y (some z) none → T x → k ≡ z
+      go true true e t = cc
+      go true false e t = absurd (Option·none-ne-some k (sym e))
+      go false y e t = absurd t
+
+-- ---- the reading
+
+-- the reading that the bytes of a position say
+abbrev read : List ℕ → ℕ → Reading
+read s at = record { minute = record { 0 = wordFrom 0 (take 2 (drop (at + 1) s)) }; kw = record { 0 = signedOf (wordFrom 0 (take 4 (drop (at + 3) s))) } }
+
+-- what stands where a whole reading stands
+reads : (s : List ℕ) (at : ℕ) → at + 7 ≤ length s → getD s at 0 ≡ 0x4D → readAt s at ≡ Got (readingᶜ (read s at)) (at + 7)
+unfolding total operands commandOf
+reads s at room byte =
+    let known : widthsOf (getD s at 0) table ≡ some (2 ∷ 4 ∷ []) = unfold table widthsOf in rw byte in
+    let three : at + 1 + 2 ≡ at + 3 = omega arith in
+    rw (found-reads {s = s} {at = at} (entire (omega arith) known (omega arith)), byte, drop-drop 2 (at + 1) s, three)
+
+-- a reading with the same minute, and a kW of which a cell says the same, is taken alike and leaves the same
+module _ (span : ℕ) (meter : Memory) (r o : Reading) (minute : r .minute .0 ≡ o .minute .0) (kw : cell (r .kw .0) ≡ cell (o .kw .0)) where
+  taken-alike : takesReading span meter (readingᶜ r) ≡ takesReading span meter (readingᶜ o)
+  unfolding takesReading
+  taken-alike = rw (input-none (readingᶜ r), input-none (readingᶜ o), minute, same-test (r .kw .0) (o .kw .0) kw)
+
+  put-alike : takesReading span meter (readingᶜ r) ≡ true → putMeter meter (readingᶜ r) ≡ putMeter meter (readingᶜ o)
+  put-alike t = rw (minute, same-number (r .kw .0) (o .kw .0) kw (taken-fits span meter r t .1))
+
+-- a turn at a whole reading, as the code takes it
+module _ (span : ℕ) (s : List ℕ) (at : ℕ) (meter : Memory) (room : at + 7 ≤ length s) (byte : getD s at 0 ≡ 0x4D) (r : Reading)
+    (minute : r .minute .0 ≡ read s at .minute .0) (kw : cell (r .kw .0) ≡ cell (read s at .kw .0)) where
+  pub near-stand : (t : Bool) (after : Memory) → t ≡ takesReading span meter (readingᶜ r) → after ≡ cond t (putMeter meter (readingᶜ r)) meter
+      → (cond t (at + 7) at ≡ standAt span s at meter .at) × (after ≡ standAt span s at meter .meter)
+  unfolding standAt
+  near-stand t after e f = rw (reads s at room byte, ← taken-alike span meter r (read s at) minute kw, ← e) (go t e f)
+    where
+      left : Bool → Stand
+      left t = cond t (record { at = at + 7; meter = putMeter meter (readingᶜ (read s at)) }) (record { at = at; meter = meter })
+
+      go : (t : Bool) → t ≡ takesReading span meter (readingᶜ r) → after ≡ cond t (putMeter meter (readingᶜ r)) meter → (cond t (at + 7) at ≡ left t .at) × (after ≡ left t .meter)
+      go true e f = (refl, f ∙ put-alike span meter r (read s at) minute kw (sym e))
+      go false e f = (refl, f)

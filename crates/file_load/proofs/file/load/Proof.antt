@@ -1,0 +1,89 @@
+-- `file_load::file::load` meets its contract. The loop's invariant: what is left of the file is what it was, the book is sound, and the span is its open
+-- one. The measure is what is left of the bytes, and one more while the loop goes on.
+use mathlib.Core.Path.{_≡_, refl, sym, ap, _∙_}
+use Prim.Native.Nat.{_+_, _-_, _≤_}
+use native.Mathlib.Omega.{arith}
+use borrow.Author.Needs.{needs}
+use lib.ListN.{length}
+use Rattle.book_memory.specs.Meter.{lent, roomIn}
+use Rattle.book.specs.Readings.{openSpan}
+use Rattle.book.specs.Sound.{Shaped}
+use Rattle.book.proofs.Kept.{Kept}
+use Rattle.rules.proofs.Folds.{length-mapped}
+use Rattle.file_load.specs.Load.{load}
+use Rattle.file_load.proofs.From.{from}
+use Rattle.file_load.proofs.Turns.{rest, more, again, keeps, inside, less, run-again}
+use Rattle.file_load.proofs.file.load.Statement.{statement}
+use Rattle.file_load.proofs.file.load.Tie as tie
+
+abbrev Inv-loop : tie.InvT-loop
+Inv-loop s meter₀ l₀ going₀ span₀ meter l going span =
+    (rest s going l (lent meter) ≡ from s 0 (l₀ .book) (lent meter₀)) × Kept (l .book) × (l .at ≤ length s) × (length meter ≡ length meter₀)
+    × (span ≡ openSpan (l .book) (roomIn (lent meter)))
+
+abbrev μ-loop : tie.MeasureT-loop
+μ-loop s meter₀ l₀ going₀ span₀ meter l going span = (length s - l .at) + more going
+
+-- the tables' lengths
+shaped : (c : tie.Start Inv-loop μ-loop) → Shaped (c .args .b)
+shaped c = record { windows = search (length-mapped, needs); instructions = search (length-mapped, needs); defaults = search (length-mapped, needs) }
+
+loop-holds : tie.Need-loop-holds Inv-loop μ-loop
+loop-holds c = (refl, record { left = c .before .before .pre; shaped = shaped (c .before .before) }, omega arith, refl, c .open-span .ensures)
+
+read-and-enter-requires : tie.Need-read-and-enter-requires Inv-loop μ-loop
+read-and-enter-requires c κs = c .before .before .before .before .before .before .loop .inv .1 .left
+
+loop-less : tie.Need-loop-less Inv-loop μ-loop
+loop-less c =
+    let d = c .before .before .before .before in
+    let r = d .before .before .before in
+    let at = r .before .before .before .before in
+    let e = d .read-and-enter .ensures in
+    let run = r .take-readings .ensures .0 in
+    rw (r .before .before .before .loop-test .taken)
+    (omega (arith, run .forward, less (at .before .before .before .args .s .now) (r .take-readings .result) (at .loop .l .book) _ (d .read-and-enter .result) _ (e .0) (e .1) (run .inside (at .loop .inv .2))))
+
+loop-again : tie.Need-loop-again Inv-loop μ-loop
+loop-again c =
+    let d = c .before .before .before .before in
+    let r = d .before .before .before in
+    let at = r .before .before .before .before in
+    let s = at .before .before .before .args .s .now in
+    let e = d .read-and-enter .ensures in
+    let run = r .take-readings .ensures .0 in
+    let inv = at .loop .inv in (
+      sym (again s (r .take-readings .result) (at .loop .l .book) _ (d .read-and-enter .result) _ (e .0) (e .1))
+          ∙ sym (run-again s (at .loop .l .at) (at .loop .l .book) (at .loop .span) (lent (at .loop .meter)) _ _ run (inv .1) (inv .4))
+          ∙ (rw (r .before .before .before .loop-test .taken) at (inv .0)),
+      keeps s (r .take-readings .result) (at .loop .l .book) _ (d .read-and-enter .result) _ (e .0) (e .1) (inv .1),
+      inside s (r .take-readings .result) (at .loop .l .book) _ (d .read-and-enter .result) _ (e .0) (e .1) (run .inside (inv .2)),
+      search needs,
+      c .open-span2 .ensures,
+    )
+
+same-length : tie.Need-same-length Inv-loop μ-loop
+same-length c = c .before .loop .inv .3
+
+returns : tie.Need-returns Inv-loop μ-loop
+unfolding load from
+returns c =
+    let inv = c .before .loop .inv in
+    let e = rw (c .loop-test .left) at (inv .0) in
+    (ap (λ f. f .loaded) e, ap (λ f. f .meter) e, inv .1 .left, inv .2)
+
+pub load-spec : {M : Type 1} → statement M
+load-spec =
+    tie.close
+    (tie.spec
+    Inv-loop
+    μ-loop
+    (λ c κs. search needs)
+    loop-holds
+    (λ c κs. search needs)
+    read-and-enter-requires
+    (λ c κs. search needs)
+    loop-less
+    loop-again
+    same-length
+    returns)

@@ -1,0 +1,60 @@
+-- `file_load::readings::near_reading` meets its contract: the minute and the kW stand after the byte.
+use mathlib.Core.Path.{_≡_}
+use Prim.Native.Nat.{ℕ, _+_, _-_, _^_, _<_}
+use native.Mathlib.Omega.{arith}
+use borrow.Author.Needs.{needs}
+use lib.ListN.{take, drop}
+use lib.Seq.{getD-drop}
+use mir.Syntax.{w64}
+use mir.Facts.{toZ-ofZ}
+use Rattle.rules.specs.File.{wordFrom}
+use Rattle.file_table.proofs.Words.{word-below}
+use Rattle.file_load.proofs.readings.near_reading.Statement.{statement}
+use Rattle.file_load.proofs.readings.near_reading.Tie as tie
+
+-- what so many bytes from a position on say
+below : (i : ℕ) (c : tie.After-shared-slice-known) (n : ℕ) → wordFrom 0 (take i (drop n (c .before .args .s .now))) < 256 ^ i
+below i c n = word-below i (drop n (c .before .args .s .now)) (λ k. rw getD-drop (c .shared-slice-known .given (n + k) .fits))
+
+minute : (c : tie.After-number-in) → c .number-in .result ≡ wordFrom 0 (take 2 (drop (c .before .before .before .args .at + 1) (c .before .before .before .args .s .now)))
+minute c =
+    let at = c .before .before .before .args .at in
+    let two : at + 1 + 2 - (at + 1) ≡ 2 = omega arith in
+    rw two at (c .number-in .ensures)
+
+cast-t13 : tie.Need-cast-t13
+cast-t13 c = record { fits = rw (minute c) (below 2 (c .before .before) (c .before .before .before .args .at + 1)) }
+
+kw : (c : tie.After-number-in2) → c .number-in2 .result ≡ wordFrom 0 (take 4 (drop (c .before .before .before .before .before .args .at + 3) (c .before .before .before .before .before .args .s .now)))
+kw c =
+    let at = c .before .before .before .before .before .args .at in
+    let four : at + 1 + 2 + 4 - (at + 1 + 2) ≡ 4 = omega arith in
+    let three : at + 1 + 2 ≡ at + 3 = omega arith in
+    rw (four, three) at (c .number-in2 .ensures)
+
+near-kw-requires : tie.Need-near-kw-requires
+near-kw-requires c κs = rw (kw c) (below 4 (c .before .before .before .before) (c .before .before .before .before .before .args .at + 3))
+
+returns : tie.Need-returns
+returns c = (minute (c .before .before .before), rw (toZ-ofZ {w = w64} {z = c .near-kw .result} (record { sfits = c .near-kw .ok }), ← kw (c .before)) (c .near-kw .ensures))
+
+pub near-reading-spec : {M : Type 1} → statement M
+near-reading-spec =
+    tie.close
+    (tie.spec
+    (λ c. search needs)
+    (λ c. search needs)
+    (λ c. search needs)
+    (λ c. search needs)
+    (λ c. search needs)
+    (λ c. search needs)
+    (λ c. search needs)
+    (λ c. search needs)
+    (λ c κs. search needs)
+    cast-t13
+    (λ c. search needs)
+    (λ c. search needs)
+    (λ c. search needs)
+    (λ c κs. search needs)
+    near-kw-requires
+    returns)

@@ -1,0 +1,12 @@
+-- `file_operands::operand::places` meets its contract.
+use mathlib.Core.Path.{refl}
+use Rattle.file_table.specs.Table.{padded}
+use Rattle.file_operands.proofs.operand.places.Statement.{statement}
+use Rattle.file_operands.proofs.operand.places.Tie as tie
+
+returns : tie.Need-returns
+unfolding padded
+returns c = refl
+
+pub places-spec : {M : Type 1} → statement M
+places-spec = tie.close (tie.spec returns)

@@ -1,0 +1,102 @@
+// The table of the unit file: command bytes, whole lengths and operand widths. Decoder and encoder read them here.
+ghost use mathlib.Core.Path.{_≡_};
+ghost use Prim.Native.Nat.{_<_};
+ghost use Rattle.file_table.specs.Table.{rowOf, layoutAt, rowFor};
+
+pub const CONTRACT_BYTE: u8 = 0x43;
+
+pub const WINDOW_BYTE: u8 = 0x57;
+
+pub const INSTRUCTION_BYTE: u8 = 0x49;
+
+pub const DEFAULT_BYTE: u8 = 0x44;
+
+pub const READING_BYTE: u8 = 0x4D;
+
+pub const CLOSE_BYTE: u8 = 0x5A;
+
+// A reading's row, for `stor`, which takes readings by widths that the compiler knows: those of its minute and its kW, and its whole length.
+pub const MINUTE_WIDTH: u8 = 2;
+
+pub const KW_WIDTH: u8 = 4;
+
+pub const READING_LENGTH: u8 = 7;
+
+// A command in the table.
+pub struct Row {
+    pub byte: u8,
+    // of the whole command, its byte included
+    pub length: u8,
+    // how many operands there are, and their widths in bytes with zeros after them
+    pub count: u8,
+    pub widths: [u8; 11],
+}
+
+const TABLE: [Row; 6] = [
+    Row {
+        byte: CONTRACT_BYTE,
+        length: 32,
+        count: 11,
+        widths: [1, 1, 1, 4, 4, 4, 2, 2, 4, 4, 4],
+    },
+    Row {
+        byte: WINDOW_BYTE,
+        length: 6,
+        count: 3,
+        widths: [2, 2, 1, 0, 0, 0, 0, 0, 0, 0, 0],
+    },
+    Row {
+        byte: INSTRUCTION_BYTE,
+        length: 5,
+        count: 2,
+        widths: [2, 2, 0, 0, 0, 0, 0, 0, 0, 0, 0],
+    },
+    Row {
+        byte: DEFAULT_BYTE,
+        length: 5,
+        count: 3,
+        widths: [2, 1, 1, 0, 0, 0, 0, 0, 0, 0, 0],
+    },
+    Row {
+        byte: READING_BYTE,
+        length: READING_LENGTH,
+        count: 2,
+        widths: [MINUTE_WIDTH, KW_WIDTH, 0, 0, 0, 0, 0, 0, 0, 0, 0],
+    },
+    Row {
+        byte: CLOSE_BYTE,
+        length: 1,
+        count: 0,
+        widths: [0, 0, 0, 0, 0, 0, 0, 0, 0, 0, 0],
+    },
+];
+
+// The row of a byte that the table lacks: no command has length 0.
+const MISSING: Row = Row {
+    byte: 0,
+    length: 0,
+    count: 0,
+    widths: [0, 0, 0, 0, 0, 0, 0, 0, 0, 0, 0],
+};
+
+fn row_at(place: usize) -> Row
+    requires { ⌜ place < 6 ⌝ }
+    ensures { λ r. ⌜ r ≡ rowOf (layoutAt place) ⌝ }
+{
+    TABLE[place]
+}
+
+// The row of a command byte.
+pub fn row_of(byte: u8) -> Row
+    ensures { λ r. ⌜ r ≡ rowFor byte ⌝ }
+{
+    let mut place: usize = 0;
+    while place < 6 {
+        let row = row_at(place);
+        if row.byte == byte {
+            return row;
+        }
+        place += 1;
+    }
+    MISSING
+}

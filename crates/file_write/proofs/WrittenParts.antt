@@ -1,0 +1,258 @@
+-- Laws of the parts of a book's file: entries and readings one after the other, and how long they are.
+use mathlib.Core.Path.{_≡_, refl, sym, ap, _∙_}
+use mathlib.Core.Bool.{Bool, true, false, cond}
+use mathlib.Core.List.{List, [], _∷_, _++_, map, append-nil}
+use mathlib.Core.Option.{none, some}
+use Prim.Native.Nat.{ℕ, zero, suc, _+_, _*_, _≤_, _<_}
+use native.Mathlib.Nat.{le-refl, suc-mul, zero-mul, one-mul}
+use native.Mathlib.Numerals.{add-one}
+use native.Mathlib.Omega.{arith}
+use lib.IntN.{ℤ}
+use lib.ListN.{length, getD, take, length-append, length-map, List·getD-map}
+use lib.Seq.{take-suc, length-take-le}
+use Rattle.energy.specs.Lists.{concatMap, run, between}
+use Rattle.energy.proofs.Sums.{between-snoc}
+use Rattle.book.specs.Book.{bookSpan}
+use Rattle.commands.specs.Input.{isReading, mostMinute}
+use Rattle.rules.specs.File.{table, widthsOf, total, write, readingAt}
+use Rattle.commands.specs.declared.entries.Reading.{Reading}
+use Rattle.commands.specs.declared.entries.Command.{Command}
+use Rattle.commands.specs.declared.entries.Command.the-variants.{Contract as contractᶜ, Window as windowᶜ, Instruction as instructionᶜ, Default as defaultᶜ, Reading as readingᶜ, Close as closeᶜ}
+use Rattle.rules.proofs.Operands.{write-long}
+use Rattle.rules.proofs.Taken.{concatMap-append}
+use Rattle.book_memory.specs.Meter.{cell, Memory, kwAt}
+use Rattle.book.specs.declared.Book.{Book}
+use Rattle.rules.proofs.Lists.{getD-within}
+use Rattle.file_write.specs.Laid.{fileBytes, Room, Laid, placesIn, usedIn, entries, readings, parts, Tabled}
+use Rattle.file_write.specs.declared.entries.Table.{Table}
+use Rattle.file_write.specs.declared.entries.Table.the-variants.{Windows, Instructions, Defaults}
+use Rattle.file_write.proofs.WrittenLaid.{bytes-one, length-both, room-first, room-next, laid-both, Turns}
+
+-- ---- how long a command is
+
+pub write-short : (c : Command) → length (write c) ≤ 32
+unfolding table widthsOf total
+write-short (contractᶜ k) = omega (arith, write-long (contractᶜ k))
+write-short (windowᶜ w) = omega (arith, write-long (windowᶜ w))
+write-short (instructionᶜ i) = omega (arith, write-long (instructionᶜ i))
+write-short (defaultᶜ d) = omega (arith, write-long (defaultᶜ d))
+write-short (readingᶜ r) = omega (arith, write-long (readingᶜ r))
+write-short closeᶜ = omega (arith, write-long closeᶜ)
+
+pub bytes-short : (cs : List Command) → length (fileBytes cs) ≤ 32 * length cs
+unfolding concatMap
+bytes-short [] = le-refl 0
+bytes-short (c ∷ cs) = omega (arith, length-append (write c) (fileBytes cs), write-short c, bytes-short cs)
+
+-- ---- a table
+
+pub take-map : {A : Type 0} (f : A → Command) (n : ℕ) (xs : List A) → take n (map f xs) ≡ map f (take n xs)
+take-map f zero xs = refl
+take-map f (suc n) [] = refl
+take-map f (suc n) (x ∷ xs) = ap (λ cs. f x ∷ cs) (take-map f n xs)
+
+-- an entry of a table, and that entry as a command
+module _ {A : Type 0} (f : A → Command) (xs : List A) (i : ℕ) (h : i < length (map f xs)) where
+  pub place-below : {n : ℕ} → length xs ≡ n → i < n
+  place-below e = omega (arith, length-map xs f)
+
+  pub place-is : (d : A) → f (getD xs i d) ≡ getD (map f xs) i closeᶜ
+  place-is d = sym (List·getD-map f xs i d) ∙ getD-within (map f xs) i (f d) closeᶜ h
+
+-- entries of one length
+module _ {A : Type 0} (f : A → Command) (k : ℕ) (alike : (x : A) → length (write (f x)) ≡ k) where
+  length-alike : (xs : List A) → length (fileBytes (map f xs)) ≡ length xs * k
+  unfolding concatMap
+  length-alike [] = sym (zero-mul k)
+  length-alike (x ∷ xs) = omega (arith, length-append (write (f x)) (fileBytes (map f xs)), alike x, length-alike xs, suc-mul (length xs) k)
+
+  length-table : (xs : List A) (n : ℕ) → 0 < length (map f xs) → n ≤ length (map f xs)
+      → n * length (write (getD (map f xs) 0 closeᶜ)) ≡ length (fileBytes (take n (map f xs)))
+  length-table [] n least few = absurd (omega arith)
+  length-table (x ∷ xs) n least few =
+      let long : length (take n (x ∷ xs)) ≡ n = length-take-le n (x ∷ xs) (omega (arith, length-map xs f)) in
+      sym (ap (λ cs. length (fileBytes cs)) (take-map f n (x ∷ xs)) ∙ length-alike (take n (x ∷ xs)) ∙ rw (long, alike x))
+
+pub entries-length : (b : Book) (t : Table) → Tabled b t → usedIn b t * length (write (getD (placesIn b t) 0 closeᶜ)) ≡ length (fileBytes (entries b t))
+unfolding table widthsOf total
+entries-length b Windows h = length-table windowᶜ 6 (λ w. write-long (windowᶜ w)) (b .windows) (b .nwindows) (h .least) (h .few)
+entries-length b Instructions h = length-table instructionᶜ 5 (λ i. write-long (instructionᶜ i)) (b .instructions) (b .ninstructions) (h .least) (h .few)
+entries-length b Defaults h = length-table defaultᶜ 5 (λ d. write-long (defaultᶜ d)) (b .defaults) (b .ndefaults) (h .least) (h .few)
+
+pub entries-short : (b : Book) (t : Table) → Tabled b t → length (fileBytes (entries b t)) ≤ 4096
+entries-short b t h = omega (arith, bytes-short (entries b t), length-take-le (usedIn b t) (placesIn b t) (h .few), h .few, h .most)
+
+pub entries-turns : (places : List Command) (n : ℕ) → n ≤ length places → Turns (λ i. take i places) (λ i. getD places i closeᶜ ∷ []) n
+entries-turns places n few = record { more = λ i h. rw (add-one i, take-suc places i closeᶜ (omega arith)) }
+
+-- ---- the readings
+
+pub cell-command : (z : ℤ) (m : ℕ) → readingAt (cell z) m ≡ cond (isReading z) (readingᶜ (record { minute = record { 0 = m }; kw = record { 0 = z } }) ∷ []) []
+cell-command z m = go (isReading z)
+  where
+    go : (b : Bool) → readingAt (cond b (some z) none) m ≡ cond b (readingᶜ (record { minute = record { 0 = m }; kw = record { 0 = z } }) ∷ []) []
+    go true = refl
+    go false = refl
+
+cell-count : (z : ℤ) (m : ℕ) → length (readingAt (cell z) m) ≡ cond (isReading z) 1 0
+cell-count z m = go (isReading z)
+  where
+    go : (b : Bool) → length (readingAt (cond b (some z) none) m) ≡ cond b 1 0
+    go true = refl
+    go false = refl
+
+pub once-most : (holds : Bool) → cond holds 1 0 ≤ 1
+once-most true = le-refl 1
+once-most false = omega arith
+
+cell-length : (z : ℤ) (m : ℕ) → length (fileBytes (readingAt (cell z) m)) ≡ length (readingAt (cell z) m) * 7
+unfolding concatMap table widthsOf total
+cell-length z m = go (isReading z)
+  where
+    go : (b : Bool) → length (fileBytes (readingAt (cond b (some z) none) m)) ≡ length (readingAt (cond b (some z) none) m) * 7
+    go true = ap length (bytes-one (readingᶜ (record { minute = record { 0 = m }; kw = record { 0 = z } }))) ∙ write-long (readingᶜ (record { minute = record { 0 = m }; kw = record { 0 = z } }))
+    go false = refl
+
+module _ (meter : Memory) where
+  abbrev turn : ℕ → List Command
+  turn m = readingAt (cell (kwAt meter m)) m
+
+  pub readings-turns : (n : ℕ) → Turns (readings meter) turn n
+  unfolding readings concatMap
+  readings-turns n =
+      record { more = λ i h. rw (between-snoc 0 i (omega arith), concatMap-append turn (between 0 i) (i ∷ []), append-nil (turn i)) }
+
+  pub readings-none : readings meter 0 ≡ []
+  unfolding readings concatMap between run
+  readings-none = refl
+
+  pub readings-count : (m : ℕ) → length (readings meter (m + 1)) ≡ length (readings meter m) + cond (isReading (kwAt meter m)) 1 0
+  readings-count m =
+      ap length (readings-turns (m + 1) .more m (omega arith)) ∙ length-append (readings meter m) (turn m) ∙ ap (λ n. length (readings meter m) + n) (cell-count (kwAt meter m) m)
+
+  pub readings-few : (n : ℕ) → length (readings meter n) ≤ n
+  readings-few zero = rw readings-none (le-refl 0)
+  readings-few (suc n) = rw (← add-one n) (omega (arith, readings-few n, readings-count n, once-most (isReading (kwAt meter n))))
+
+  sevens : (n : ℕ) → length (fileBytes (readings meter n)) ≡ length (readings meter n) * 7
+  unfolding concatMap
+  sevens zero = rw readings-none
+  sevens (suc n) =
+      rw (← add-one n, readings-turns (n + 1) .more n (omega arith))
+      (omega (arith, length-both (readings meter n) (turn n), length-append (readings meter n) (turn n), sevens n, cell-length (kwAt meter n) n))
+
+  pub readings-length : {n span long : ℕ} (r : Reading) (k : ℕ) → span ≡ k → n ≡ length (readings meter span) → long ≡ n * length (write (readingᶜ r)) → long ≡ length (fileBytes (readings meter k))
+  unfolding table widthsOf total
+  readings-length r k e f g = g ∙ rw (f, e, write-long (readingᶜ r)) (sym (sevens k))
+
+-- ---- all of them
+
+pub once-length : {n long : ℕ} (holds : Bool) (c : Command) → n ≡ cond holds 1 0 → long ≡ n * length (write c) → long ≡ length (fileBytes (cond holds (c ∷ []) []))
+unfolding concatMap
+once-length true c e f = f ∙ rw (e, one-mul) (sym (ap length (bytes-one c)))
+once-length false c e f = f ∙ rw (e, zero-mul)
+
+once-short : (holds : Bool) (c : Command) → length (fileBytes (cond holds (c ∷ []) [])) ≤ 32
+unfolding concatMap
+once-short true c = rw (bytes-one c) (write-short c)
+once-short false c = omega arith
+
+module _ (b : Book) (meter : Memory) where
+  -- the length of the whole is that of the parts
+  pub parts-length :
+      length (fileBytes (cond (b .agreed) (contractᶜ (b .contract) ∷ []) [])) + length (fileBytes (entries b Windows)) + length (fileBytes (entries b Instructions)) + length (fileBytes (entries b Defaults))
+      + length (fileBytes (readings meter (bookSpan b)))
+      + length (fileBytes (cond (b .closed) (closeᶜ ∷ []) []))
+      ≡ length (fileBytes (parts b meter))
+  unfolding parts
+  parts-length = sym (simp length-both)
+
+  -- and a small number
+  pub parts-short : ((t : Table) → Tabled b t) → bookSpan b ≤ mostMinute → length (fileBytes (parts b meter)) ≤ 2000000
+  parts-short tables month =
+      omega (
+        arith,
+        parts-length,
+        once-short (b .agreed) (contractᶜ (b .contract)),
+        entries-short b Windows (tables Windows),
+        entries-short b Instructions (tables Instructions),
+        entries-short b Defaults (tables Defaults),
+        bytes-short (readings meter (bookSpan b)),
+        readings-few meter (bookSpan b),
+        once-short (b .closed) closeᶜ,
+      )
+
+-- room for each part after those before it
+module _ (b : Book) (meter : Memory) {m : List ℕ} (room : Room (parts b meter) m 0) where
+  abbrev contracts : List Command
+  contracts = cond (b .agreed) (contractᶜ (b .contract) ∷ []) []
+
+  abbrev windows : List Command
+  windows = contracts ++ entries b Windows
+
+  abbrev instructions : List Command
+  instructions = windows ++ entries b Instructions
+
+  abbrev defaults : List Command
+  defaults = instructions ++ entries b Defaults
+
+  abbrev read : List Command
+  read = defaults ++ readings meter (bookSpan b)
+
+  abbrev close : List Command
+  close = cond (b .closed) (closeᶜ ∷ []) []
+
+  all-room : Room (read ++ close) m 0
+  unfolding parts
+  all-room = room
+
+  read-room : Room read m 0
+  read-room = room-first read close all-room
+
+  defaults-room : Room defaults m 0
+  defaults-room = room-first defaults (readings meter (bookSpan b)) read-room
+
+  instructions-room : Room instructions m 0
+  instructions-room = room-first instructions (entries b Defaults) defaults-room
+
+  windows-room : Room windows m 0
+  windows-room = room-first windows (entries b Instructions) instructions-room
+
+  pub room-contract : Room contracts m 0
+  room-contract = room-first contracts (entries b Windows) windows-room
+
+  module _ {m₁ : List ℕ} {at₁ : ℕ} (l₁ : Laid contracts m 0 m₁ at₁) where
+    pub room-windows : Room (entries b Windows) m₁ at₁
+    room-windows = room-next contracts (entries b Windows) windows-room l₁
+
+    module _ {m₂ : List ℕ} {at₂ : ℕ} (l₂ : Laid (entries b Windows) m₁ at₁ m₂ at₂) where
+      laid₂ : Laid windows m 0 m₂ at₂
+      laid₂ = laid-both contracts (entries b Windows) windows-room l₁ l₂
+
+      pub room-instructions : Room (entries b Instructions) m₂ at₂
+      room-instructions = room-next windows (entries b Instructions) instructions-room laid₂
+
+      module _ {m₃ : List ℕ} {at₃ : ℕ} (l₃ : Laid (entries b Instructions) m₂ at₂ m₃ at₃) where
+        laid₃ : Laid instructions m 0 m₃ at₃
+        laid₃ = laid-both windows (entries b Instructions) instructions-room laid₂ l₃
+
+        pub room-defaults : Room (entries b Defaults) m₃ at₃
+        room-defaults = room-next instructions (entries b Defaults) defaults-room laid₃
+
+        module _ {m₄ : List ℕ} {at₄ : ℕ} (l₄ : Laid (entries b Defaults) m₃ at₃ m₄ at₄) where
+          laid₄ : Laid defaults m 0 m₄ at₄
+          laid₄ = laid-both instructions (entries b Defaults) defaults-room laid₃ l₄
+
+          pub room-readings : Room (readings meter (bookSpan b)) m₄ at₄
+          room-readings = room-next defaults (readings meter (bookSpan b)) read-room laid₄
+
+          module _ {m₅ : List ℕ} {at₅ : ℕ} (l₅ : Laid (readings meter (bookSpan b)) m₄ at₄ m₅ at₅) where
+            laid₅ : Laid read m 0 m₅ at₅
+            laid₅ = laid-both defaults (readings meter (bookSpan b)) read-room laid₄ l₅
+
+            pub room-close : Room close m₅ at₅
+            room-close = room-next read close all-room laid₅
+
+            pub parts-laid : {m₆ : List ℕ} {at₆ : ℕ} → Laid close m₅ at₅ m₆ at₆ → Laid (parts b meter) m 0 m₆ at₆
+            unfolding parts
+            parts-laid l₆ = laid-both read close all-room laid₅ l₆

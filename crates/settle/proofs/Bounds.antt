@@ -1,0 +1,73 @@
+-- How large a line's energy and money can be.
+use mathlib.Core.Path.{subst}
+use mathlib.Core.Bool.{Bool, true, false, cond}
+use mathlib.Core.List.{List}
+use Prim.Native.Nat.{ℕ, _+_, _-_, _*_, _/_, _≤_, _<_}
+use native.Mathlib.Nat.{mul-le-mul}
+use native.Mathlib.Omega.{arith}
+use lib.Dec.{eqb, lit<}
+use lib.IntN.{ℤ, pos, natAbs, _+ℤ_, _-ℤ_, _*ℤ_}
+use lib.Signed.{leZ}
+use Rattle.energy.specs.Energy.{cell, delivers, kwh, capped, expectedIn, deliveredIn}
+use Rattle.energy.specs.Number.{nearest, lesser, Within}
+use Rattle.energy.proofs.Integers.{diff-parts, mul-parts}
+use Rattle.energy.proofs.Rounding.{raised, half-up}
+use Rattle.energy.proofs.Sums.{sum-within}
+use Rattle.rules.specs.declared.statement.Line.{Line}
+use Rattle.rules.specs.declared.statement.Rate.{Rate}
+use Rattle.rules.specs.declared.statement.Rate.the-variants.{Utilisation, Optional}
+use Rattle.settle_terms.specs.declared.Terms.{Terms}
+use Rattle.settle_lines.specs.declared.cursor.Cursor.{Cursor}
+use Rattle.settle_lines.specs.Cursor.{rateBy, priceBy, steadyAt, lineBy, cutBy, Plan, Ready}
+use Rattle.settle_lines.proofs.Step.{next}
+
+-- a quotient is within K where the dividend is within d * K
+nearest-bound : (n : ℤ) (d K : ℕ) → 0 < d → Within (d * K) n → Within K (nearest n d)
+nearest-bound n d K h w =
+    let a : ℕ = natAbs (n +ℤ pos (d * K)) in
+    let l = raised n d K h w .lowered ((a + d / 2) / d) (half-up a d h) in
+    subst (λ z. Within K z) (l .value) (l .within)
+
+lesser-within : (b : ℕ) (x y : ℤ) → Within b x → Within b y → Within b (lesser x y)
+unfolding lesser
+lesser-within b x y h k = go (leZ x y)
+  where
+    go : (t : Bool) → Within b (cond t x y)
+    go true = h
+    go false = k
+
+expected-within : (kw n : ℕ) (steady : Bool) → kw ≤ 500000 → n ≤ 30 → Within 120000000 (pos (expectedIn kw steady n))
+unfolding expectedIn
+expected-within kw n true h l = omega (arith, mul-le-mul l h)
+expected-within kw n false h l = omega (arith, mul-le-mul l h)
+
+delivers-within : (kind : ℕ) (S x : ℤ) → Within 2000000 S → Within 500000 x → Within 4000000 (delivers kind S x)
+delivers-within kind S x h k = go (eqb kind 0)
+  where
+    go : (t : Bool) → Within 4000000 (cond t (pos 4 *ℤ x -ℤ S) (S -ℤ pos 4 *ℤ x))
+    go true = omega (arith, mul-parts (pos 4) x, diff-parts (pos 4 *ℤ x) S)
+    go false = omega (arith, mul-parts (pos 4) x, diff-parts S (pos 4 *ℤ x))
+
+price-within : (t : Terms) (r : Rate) → t .utilisation ≤ 1000000 → t .optional ≤ 1000000 → priceBy t r ≤ 1000000
+price-within t Utilisation h k = h
+price-within t Optional h k = k
+
+-- a line's
+pub record Bounded (l : Line) : Type 0 where
+  pub capped : Within 500000 (l .capped .0)
+  pub pence : Within 500000000 (l .pence .0)
+
+pub bounded : (t : Terms) (times live : List ℕ) (meter : List ℤ) (c : Cursor) → Plan t times live meter → Ready t times live meter c
+    → Bounded (lineBy t (c .call) live meter (c .at) (c .minute) (cutBy c))
+unfolding lineBy deliveredIn
+bounded t times live meter c p r =
+    let n = next t times live meter c p r in
+    let E : ℤ = pos (expectedIn (t .kw) (steadyAt (c .call .expiry) (c .call .cease) (c .minute)) (cutBy c - c .minute)) in
+    let D : ℤ = deliveredIn (t .kind) (c .call .base) meter (c .minute) (cutBy c) in
+    let R : Rate = rateBy (c .call .early) (c .call .late) (c .call .expiry) (c .call .cease) live (c .minute) in
+    let x : Within 500000 (kwh E) = nearest-bound E 240 500000 (lit< tt) (omega (arith, expected-within (t .kw) (cutBy c - c .minute) (steadyAt (c .call .expiry) (c .call .cease) (c .minute)) (p .kw) (omega (arith, n .readable)))) in
+    let s = sum-within (λ m. delivers (t .kind) (c .call .base) (cell meter m)) 4000000 (c .minute) (cutBy c) (λ m a b. delivers-within (t .kind) (c .call .base) (cell meter m) (n .base) (n .readable .read m a b)) in
+    let d : Within 500000 (kwh D) = nearest-bound D 240 500000 (lit< tt) (omega (arith, s, n .readable)) in
+    let l : Within 500000 (capped (kwh E) (kwh D)) = lesser-within 500000 (kwh E) (kwh D) x d in
+    let z : priceBy t R ≤ 1000000 = price-within t R (p .utilisation) (p .optional) in
+    record { capped = l; pence = nearest-bound (capped (kwh E) (kwh D) *ℤ pos (priceBy t R)) 1000 500000000 (lit< tt) (omega (arith, mul-parts (capped (kwh E) (kwh D)) (pos (priceBy t R)), mul-le-mul (l .0) z, mul-le-mul (l .1) z)) }

@@ -1,0 +1,101 @@
+-- What settling has before the first record is written: the answer without the lines' sums, the number of lines, and the tables that the lines are
+-- calculated from. A refusal has no line and no instruction.
+use mathlib.Core.Path.{_≡_}
+use mathlib.Core.List.{List}
+use Prim.Native.Nat.{ℕ, _≤_, _<_}
+use lib.IntN.{ℤ, pos, _+ℤ_}
+use lib.ListN.{length, replicate}
+use Rattle.book_memory.specs.Meter.{Memory}
+use Rattle.energy.specs.Number.{Within}
+use Rattle.rules.specs.declared.answer.Answer.the-variants.{Taken, Refused}
+use Rattle.rules.specs.declared.statement.Line.{Line}
+use Rattle.rules.specs.declared.statement.Statement.{Statement}
+use Rattle.book.specs.declared.Book.{Book}
+use Rattle.settle.specs.declared.Settlement.{Settlement}
+use Rattle.settle_lines.specs.declared.cursor.Cursor.{Cursor}
+use Rattle.settle_availability.specs.declared.paid.Entries.{Entries}
+use Rattle.settle.specs.declared.prepare.Prepared.{Prepared}
+use Rattle.settle_terms.specs.declared.Terms.{Terms}
+use Rattle.settle_lines.specs.Cursor.{Plan, Ready, cursorAt, steppedLine, stored}
+use Rattle.settle_live.specs.Live.{isLive, Lit}
+use Rattle.settle_availability.specs.Paid.{availabilityBy}
+use Rattle.settle.specs.Settle.{Settled, noStatement, settleBook}
+use Rattle.settle_terms.specs.Terms.{noTerms}
+
+-- a statement of n lines with the windows' entries, without the lines' sums
+abbrev pub unsummed : ℕ → Entries → Statement
+unsummed n e =
+    record {
+      lines = n;
+      capped = record { 0 = pos 0 };
+      utilisation = record { 0 = pos 0 };
+      availability = record { 0 = e .pence };
+      total = record { 0 = e .pence };
+      windows = e .windows;
+    }
+
+-- an answer with the sums of the lines
+abbrev pub summed : Settlement → Cursor → Settlement
+summed s c =
+    record {
+      answer = s .answer;
+      statement =
+          record {
+            lines = s .statement .lines;
+            capped = record { 0 = c .capped };
+            utilisation = record { 0 = c .pence };
+            availability = s .statement .availability;
+            total = record { 0 = c .pence +ℤ s .statement .availability .0 };
+            windows = s .statement .windows;
+          };
+    }
+
+-- a refusal under a number: no line, no instruction, and tables of zeros
+unfoldable pub refusalOf : ℕ → Prepared
+refusalOf n =
+    record {
+      settlement = record { answer = Refused n; statement = noStatement };
+      lines = 0;
+      terms = noTerms;
+      times = replicate 128 0;
+      live = replicate 1490 0;
+    }
+
+-- what a book with terms t and n lines lays out: the table of live periods, and by it the windows' entries
+pub record LaidOut (b : Book) (t : Terms) (table : List ℕ) (n : ℕ) (p : Prepared) : Type 0 where
+  pub lines : p .lines ≡ n
+  pub terms : p .terms ≡ t
+  pub times : p .times ≡ table
+  pub size : length (p .live) ≡ 1490
+  pub live :
+      Lit (isLive table (t .calls) (t .fall) (b .contract .recovery .0) (b .contract .response .0)) (b .windows) (b .nwindows) (p .live)
+  pub settlement :
+      p .settlement
+      ≡ record {
+        answer = Taken;
+        statement =
+            unsummed n
+            (availabilityBy (p .live) (b .windows) (b .nwindows) (b .defaults) (b .ndefaults) (t .kw) (b .contract .availability));
+      }
+  pub small : Within 100000000000000 (p .settlement .statement .availability .0)
+
+-- the cursor after all lines
+abbrev pub lastCursor : Prepared → List ℤ → Cursor
+lastCursor p meter = cursorAt (p .terms) (p .times) (p .live) meter (p .lines)
+
+-- settling by what is prepared: the lines that the cursor steps through, and their sums
+unfoldable pub settledWith : Prepared → List ℤ → List Line → Settled
+settledWith p meter memory =
+    record {
+      settlement = summed (p .settlement) (lastCursor p meter);
+      memory = stored (steppedLine (p .terms) (p .times) (p .live) meter) (p .lines) memory;
+    }
+
+-- what is prepared for a book, its readings and so much room settles it
+pub record Prepares (b : Book) (readings : Memory) (room : ℕ) (p : Prepared) : Type 0 where
+  pub plan : Plan (p .terms) (p .times) (p .live) (readings .cells)
+  pub few : p .lines ≤ room
+  pub count : p .settlement .statement .lines ≡ p .lines
+  pub ready : (k : ℕ) → k < p .lines → Ready (p .terms) (p .times) (p .live) (readings .cells) (cursorAt (p .terms) (p .times) (p .live) (readings .cells) k)
+  pub sums : Within 100000000000000 (lastCursor p (readings .cells) .pence) × Within 100000000000000 (p .settlement .statement .availability .0)
+  pub settles : (memory : List Line) → length memory ≡ room → settledWith p (readings .cells) memory ≡ settleBook b readings memory

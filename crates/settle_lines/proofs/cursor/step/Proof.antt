@@ -1,0 +1,53 @@
+-- `settle_lines::cursor::step` meets its contract. Assumes nothing.
+use mathlib.Core.Path.{sym, _∙_, ap, subst}
+use Prim.Native.Nat.{_-_}
+use native.Mathlib.Omega.{arith}
+use Rattle.settle_lines.specs.Cursor.{Planned, enterOf}
+use Rattle.settle_lines.proofs.Step.{Next, next, step-on, step-over}
+use Rattle.energy.specs.Energy.{Readable}
+use borrow.Author.Needs.{needs}
+use Rattle.settle_lines.proofs.cursor.step.Statement.{statement}
+use Rattle.settle_lines.proofs.cursor.step.Tie as tie
+
+abbrev nextOf : (s : tie.Start) → Next (s .args .t) (s .args .times .now) (s .args .live .now) (s .args .meter .now) (s .args .c)
+nextOf s = next (s .args .t) (s .args .times .now) (s .args .live .now) (s .args .meter .now) (s .args .c) (s .pre .0) (s .pre .1)
+
+abbrev planned : (s : tie.Start) → Planned (s .args .t) (s .args .times .now) (s .args .live .now) (s .args .meter .now) (s .args .c .at)
+planned s = s .pre .0 .call (s .args .c .at) (s .pre .1 .more)
+
+segment-end-requires : tie.Need-segment-end-requires
+segment-end-requires c κs = let s = c .before .before .before in omega (arith, planned s, s .pre .0, s .pre .1)
+
+line-of-requires : tie.Need-line-of-requires
+line-of-requires c κs =
+    let s = c .before .before .before .before in let n = nextOf s in let p = s .pre .0 in
+    (subst (λ z. Readable (s .args .meter .now) (s .args .c .minute) z) (sym (c .segment-end .ensures)) (n .readable), (n .base, ((p .kw, p .utilisation, p .optional), (omega (arith, p, s .pre .1), omega (arith, planned s, s .pre .1), p .fits))))
+
+moved-requires : tie.Need-moved-requires
+moved-requires c κs = let s = c .before .before .before .before .before .before .before in (omega (arith, s .pre .1, planned s, s .pre .0), (c .before .before .line-of .ensures .1, c .before .before .line-of .ensures .2))
+
+returns : tie.Need-returns
+returns c =
+    let s = c .before .before .before .before .before .before .before .before in let a = s .args in let l = c .before .before .before in let e = l .before .segment-end .ensures in
+    step-on (a .t) (a .times .now) (a .live .now) (a .meter .now) (a .c) _ (l .line-of .result) (c .moved .result) e (l .line-of .ensures .0) (c .before .if1 .taken) (c .moved .ensures)
+
+moved-requires-2 : tie.Need-moved-requires-2
+moved-requires-2 c κs = let s = c .before .before .before .before .before .before .before in (omega (arith, s .pre .1, planned s, s .pre .0), (c .before .before .line-of .ensures .1, c .before .before .line-of .ensures .2))
+
+returns-2 : tie.Need-returns-2
+returns-2 c =
+    let s = c .before .before .before .before .before .before .before .before .before in let a = s .args in let l = c .before .before .before .before in let e = l .before .segment-end .ensures in
+    step-over (a .t) (a .times .now) (a .live .now) (a .meter .now) (a .c) _ (l .line-of .result) (c .enter .result) e (l .line-of .ensures .0) (c .before .before .if1 .left) (c .enter .ensures ∙ ap (enterOf (a .t) (a .times .now) (a .live .now) (a .meter .now)) (c .before .moved2 .ensures))
+
+pub step-spec : {M : Type 1} → statement M
+step-spec =
+    tie.close
+    (tie.spec
+    segment-end-requires
+    line-of-requires
+    moved-requires
+    returns
+    (λ c. search needs)
+    moved-requires-2
+    (λ c κs. search needs)
+    returns-2)

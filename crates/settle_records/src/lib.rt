@@ -1,0 +1,12 @@
+// Settling a book into records of lines: records that the caller lends, or its own.
+use rules::statement::Line;
+use settle::Settlement;
+
+pub mod lent;
+pub mod listed;
+
+// A settlement with line memory of its own.
+pub struct Listing {
+    pub settlement: Settlement,
+    pub lines: [Line; 719],
+}

@@ -1,0 +1,42 @@
+// Settling a book into records of its own, handed back by value: for a caller that lends none.
+ghost use mathlib.Core.Path.{_≡_};
+ghost use Rattle.book_memory.specs.Meter.{lent};
+ghost use Rattle.settle_records.specs.Listed.{listBook, noLine};
+use crate::Listing;
+use crate::lent::settle;
+use book::Book;
+use energy::units::Kwh;
+use energy::units::Pence;
+use rules::statement::Line;
+use rules::statement::Rate;
+use rules::statement::Stage;
+
+// A record before it holds a line.
+pub fn blank() -> Line
+    ensures { λ r. ⌜ r ≡ noLine ⌝ }
+{
+    let stage = Stage::Up;
+    let rate = Rate::Utilisation;
+    Line {
+        instruction: 0,
+        period: 0,
+        stage: stage,
+        rate: rate,
+        expected: Kwh(0),
+        delivered: Kwh(0),
+        capped: Kwh(0),
+        pence: Pence(0),
+    }
+}
+
+// Settles a book over meter memory into 719 records, the most that 11 days give.
+pub fn listed(b: Book, meter: &[i32]) -> Listing
+    ensures { λ r. ⌜ r ≡ listBook b (lent (now (meter .entry))) ⌝ }
+{
+    let mut lines = [blank(); 719];
+    let settlement = settle(b, meter, &mut lines);
+    Listing {
+        settlement: settlement,
+        lines: lines,
+    }
+}

@@ -1,0 +1,52 @@
+-- 25, and the number of lines, before a line is written: instruction by instruction, over the table of times and the cells of meter memory.
+use mathlib.Core.Bool.{Bool, true, _&&_}
+use mathlib.Core.List.{List}
+use Prim.Native.Nat.{ℕ, zero, suc, _+_, _-_, _≤_, _<_}
+use lib.IntN.{ℤ}
+use lib.ListN.{length}
+use Rattle.energy.specs.Energy.{cell}
+use Rattle.energy.specs.Lists.{all, between}
+use Rattle.commands.specs.Input.{isReading, mostMinute}
+use Rattle.rules.proofs.Count.{touched}
+use Rattle.settle_terms.specs.declared.Terms.{Terms}
+use Rattle.settle_survey.specs.declared.Survey.{Survey}
+use Rattle.settle_terms.specs.Terms.{issueOf, ceaseOf}
+
+-- instruction j lies in the month and in meter memory
+pub record LaidAt (t : Terms) (times : List ℕ) (meter : List ℤ) (j : ℕ) : Type 0 where
+  pub three : 3 ≤ issueOf times j
+  pub steady : issueOf times j + t .response ≤ ceaseOf times j
+  pub inside : ceaseOf times j + t .fall ≤ length meter
+  pub small : ceaseOf times j + t .fall ≤ mostMinute
+
+-- every instruction does
+pub record Laid (t : Terms) (times : List ℕ) (meter : List ℤ) : Type 0 where
+  pub response : t .response ≤ 240
+  pub rise : t .rise ≤ t .response
+  pub ramps : 1 ≤ t .rise
+  pub calls : t .calls ≤ 64
+  pub table : 128 ≤ length times
+  pub call : (j : ℕ) → j < t .calls → LaidAt t times meter j
+
+-- the cell of a minute holds a reading
+abbrev pub has : List ℤ → ℕ → Bool
+has meter m = isReading (cell meter m)
+
+-- the survey with instruction j: its base and active minutes, and the periods that each of its stages touches
+unfoldable pub surveyOf : Terms → List ℕ → List ℤ → ℕ → Survey → Survey
+surveyOf t times meter j s =
+    let i : ℕ = issueOf times j in
+    let c : ℕ = ceaseOf times j in
+    record {
+      complete =
+          s .complete
+          && (all (has meter) (between (i - 3) (i + 1)) && all (has meter) (between (i + t .response - t .rise) (c + t .fall)));
+      count =
+          s .count
+          + (touched (i + t .response - t .rise) (i + t .response) + touched (i + t .response) c + touched c (c + t .fall));
+    }
+
+-- the survey of the first n instructions
+abbrev pub surveyTo : Terms → List ℕ → List ℤ → ℕ → Survey
+surveyTo t times meter zero = record { complete = true; count = 0 }
+surveyTo t times meter (suc n) = surveyOf t times meter n (surveyTo t times meter n)

@@ -1,0 +1,42 @@
+-- What settling reads off a book once: the contract's figures, and the times of its instructions in one table of numbers.
+use mathlib.Core.Path.{_≡_}
+use mathlib.Core.List.{List}
+use Prim.Native.Nat.{ℕ, _+_, _<_}
+use lib.ListN.{length, getD}
+use Rattle.commands.specs.Input.{kwOf, upMinutes, downMinutes}
+use Rattle.commands.specs.declared.contract.Contract.{Contract}
+use Rattle.commands.specs.declared.entries.Instruction.{Instruction}
+use Rattle.rules.specs.Ledger.{noInstruction}
+use Rattle.settle_terms.specs.declared.Terms.{Terms}
+
+-- what lines need of a contract, beside the number of instructions
+unfoldable pub termsOf : Contract → ℕ → Terms
+termsOf k n =
+    record {
+      kw = kwOf k;
+      kind = k .kind;
+      response = k .response .0;
+      rise = upMinutes k;
+      fall = downMinutes k;
+      utilisation = k .utilisation;
+      optional = k .optional;
+      calls = n;
+    }
+
+-- the terms of a refusal: no instruction, and zeros
+abbrev pub noTerms : Terms
+noTerms = record { kw = 0; kind = 0; response = 0; rise = 0; fall = 0; utilisation = 0; optional = 0; calls = 0 }
+
+-- the table of times: the issue of instruction j, from 0
+abbrev pub issueOf : List ℕ → ℕ → ℕ
+issueOf times j = getD times j 0
+
+-- and its cease
+abbrev pub ceaseOf : List ℕ → ℕ → ℕ
+ceaseOf times j = getD times (64 + j) 0
+
+-- the table holds the times of the first n instructions
+pub record Timed (is : List Instruction) (n : ℕ) (times : List ℕ) : Type 0 where
+  pub size : length times ≡ 128
+  pub issue : (j : ℕ) → j < n → issueOf times j ≡ getD is j noInstruction .issue .0
+  pub cease : (j : ℕ) → j < n → ceaseOf times j ≡ getD is j noInstruction .cease .0

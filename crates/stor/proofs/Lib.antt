@@ -1,8 +1,0 @@
-pub mod Demand3
-pub mod Appendix2
-pub mod RoundTrip
-pub mod Pieces
-pub mod Files
-pub mod Turns
-pub mod Near
-pub mod Runs

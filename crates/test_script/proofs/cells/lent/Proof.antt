@@ -1,0 +1,11 @@
+use mathlib.Core.Path.{sym}
+use lib.Seq.{length-take-le}
+use borrow.Author.Needs.{needs}
+use Rattle.test_script.proofs.cells.lent.Statement.{statement}
+use Rattle.test_script.proofs.cells.lent.Tie as tie
+
+returns : tie.Need-returns
+returns c = (c .at-most .ensures, sym (length-take-le (c .at-most .result) (c .before .args .meter .now) (c .at-most .ensures)))
+
+pub lent-spec : {M : Type 1} → statement M
+lent-spec = tie.close (tie.spec (λ c κs. search needs) returns)
