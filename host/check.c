@@ -1,6 +1,6 @@
 /* check FILE: settles one unit file of up to 31 days through stor.h and prints its T row, or the R row of its refusal. Before that it writes a day in
-   tables as a unit file, which must settle as the tables do. It shows that the header and the library fit together; `months` is the program to
-   use. */
+   tables as a unit file, which must settle as the tables do, and after it writes the book of a file that was settled, which must settle alike. It
+   shows that the header and the library fit together; `stor` is the program to use. */
 #include <inttypes.h>
 #include <stdio.h>
 #include <stdlib.h>
@@ -37,18 +37,32 @@ static uint8_t *contents(const char *name, size_t *length)
 /* Whether a day in tables, with 0 kW in every minute, gives the same sums by its tables and by the file that is written of them. */
 static int day_agrees(void)
 {
-    static const uint32_t contract[11] = {1, 0, 0, 3000, 3000, 3000, 1, 0, 100, 100, 100};
-    static const uint16_t windows[3] = {0, 60, 0}, instructions[2] = {10, 40}, defaults[3] = {5, 1, 1};
+    static const uint32_t contract[STOR_CONTRACT_NUMBERS] = {1, 0, 0, 3000, 3000, 3000, 1, 0, 100, 100, 100};
+    static const uint32_t windows[STOR_WINDOW_NUMBERS] = {0, 60, 0}, instructions[STOR_INSTRUCTION_NUMBERS] = {10, 40};
+    static const uint32_t defaults[STOR_DEFAULT_NUMBERS] = {5, 1, 1};
     static uint8_t day[STOR_FILE_MOST];
     static int64_t by_file[STOR_SUM_NUMBERS];
-    uint8_t number = stor_settle_tables(contract, 11, windows, 3, instructions, 2, defaults, 3, meter, STOR_MINUTES_MOST, lines, LINES_LENGTH, sums,
-                                        STOR_SUM_NUMBERS);
+    uint8_t number = stor_settle_tables(contract, STOR_CONTRACT_NUMBERS, windows, STOR_WINDOW_NUMBERS, instructions, STOR_INSTRUCTION_NUMBERS, defaults,
+                                        STOR_DEFAULT_NUMBERS, meter, STOR_MINUTES_MOST, lines, LINES_LENGTH, sums, STOR_SUM_NUMBERS);
     uint64_t answer =
-        stor_write_tables(contract, 11, windows, 3, instructions, 2, defaults, 3, meter, STOR_MINUTES_MOST, day, STOR_FILE_MOST);
+        stor_write_tables(contract, STOR_CONTRACT_NUMBERS, windows, STOR_WINDOW_NUMBERS, instructions, STOR_INSTRUCTION_NUMBERS, defaults,
+                          STOR_DEFAULT_NUMBERS, meter, STOR_MINUTES_MOST, day, STOR_FILE_MOST);
     if (number != 0 || STOR_NUMBER(answer) != 0)
         return 0;
     answer = stor_settle_file(day, (size_t)STOR_OFFSET(answer), meter, STOR_MINUTES_MOST, lines, LINES_LENGTH, by_file, STOR_SUM_NUMBERS);
     return STOR_NUMBER(answer) == 0 && memcmp(sums, by_file, sizeof sums) == 0;
+}
+
+/* Whether the book of a file that was settled gives the same sums when it is written as a file and settled again. */
+static int book_agrees(const uint8_t *file, size_t length)
+{
+    static uint8_t written[STOR_FILE_MOST];
+    static int64_t again[STOR_SUM_NUMBERS];
+    uint64_t answer = stor_write_file(file, length, meter, STOR_MINUTES_MOST, written, STOR_FILE_MOST);
+    if (STOR_NUMBER(answer) != 0)
+        return 0;
+    answer = stor_settle_file(written, (size_t)STOR_OFFSET(answer), meter, STOR_MINUTES_MOST, lines, LINES_LENGTH, again, STOR_SUM_NUMBERS);
+    return STOR_NUMBER(answer) == 0 && memcmp(sums, again, sizeof sums) == 0;
 }
 
 int main(int count, char **words)
@@ -69,7 +83,12 @@ int main(int count, char **words)
     }
     uint64_t answer =
         stor_settle_file(file, length, meter, STOR_MINUTES_MOST, lines, LINES_LENGTH, sums, STOR_SUM_NUMBERS);
+    int agrees = STOR_NUMBER(answer) != 0 || book_agrees(file, length);
     free(file);
+    if (!agrees) {
+        fprintf(stderr, "check: %s written again does not settle as it does\n", words[1]);
+        return 1;
+    }
     if (STOR_NUMBER(answer) != 0)
         printf("R %u %" PRIu64 "\n", STOR_NUMBER(answer), STOR_OFFSET(answer));
     else

@@ -72,28 +72,43 @@ enum {
 uint64_t stor_enter_file(const uint8_t *file, size_t file_length, int32_t *meter, size_t meter_length);
 
 /* The same, and settles the book. Taken, line memory holds the statement's lines and sum memory its sums, and what stands after them is as it was.
- * On a refusal both are exactly as they were, and meter memory holds what the commands taken before it left. Sum memory of fewer than
- * STOR_SUM_NUMBERS is refused (26, offset 0) before the file is read; line memory shorter than the statement is refused too (26). */
+ * On a refusal both are exactly as they were, and meter memory holds what the commands taken before it left. Line memory shorter than the statement
+ * and sum memory of fewer than STOR_SUM_NUMBERS are refused last (26), after everything that is wrong with the file or its book. */
 uint64_t stor_settle_file(const uint8_t *file, size_t file_length, int32_t *meter, size_t meter_length, int64_t *lines, size_t lines_length,
                           int64_t *sums, size_t sums_length);
 
-/* Settles the closed book that tables say, over readings in meter memory. The answer is the refusal's number, or 0.
- *   contract      days, kind, service, contracted kW, ramp up, ramp down, response, recovery, availability, utilisation, optional rate
+/* How many numbers a row of each table has. */
+enum {
+    STOR_CONTRACT_NUMBERS = 11,
+    STOR_WINDOW_NUMBERS = 3,
+    STOR_INSTRUCTION_NUMBERS = 2,
+    STOR_DEFAULT_NUMBERS = 3
+};
+
+/* Settles the closed book that tables say, over readings in meter memory. The answer is the refusal's number, or 0. Every table is rows of numbers of
+ * 32 bits, one row after the other:
+ *   contract      one row: days, kind, service, contracted kW, ramp up, ramp down, response, recovery, availability, utilisation, optional rate
  *   windows       start, end, verdict for each
  *   instructions  issue, cease for each
  *   defaults      minute, kind, reach for each
- * A contract of other than eleven numbers, a table that ends inside an entry and a number too wide for its field are refused (11), as is every book
- * that no list of commands leaves. */
-uint8_t stor_settle_tables(const uint32_t *contract, size_t contract_length, const uint16_t *windows, size_t windows_length,
-                           const uint16_t *instructions, size_t instructions_length, const uint16_t *defaults, size_t defaults_length,
+ * A contract of other than one row, a table that ends inside a row and a number too wide for its field are refused (11), as is every book that no list
+ * of commands leaves. Line and sum memory too short are refused last (26). */
+uint8_t stor_settle_tables(const uint32_t *contract, size_t contract_length, const uint32_t *windows, size_t windows_length,
+                           const uint32_t *instructions, size_t instructions_length, const uint32_t *defaults, size_t defaults_length,
                            const int32_t *meter, size_t meter_length, int64_t *lines, size_t lines_length, int64_t *sums, size_t sums_length);
 
 /* Writes the same book, with the readings in meter memory, as a unit file into the first bytes of file memory; those after it are as they were. The
  * answer's offset is the file's length. On a refusal it is 0, and file memory is exactly as it was: tables as above that say no book (11), meter
  * memory shorter than the contract's days (15), file memory shorter than the file (26; STOR_FILE_MOST bytes are room for every month). */
-uint64_t stor_write_tables(const uint32_t *contract, size_t contract_length, const uint16_t *windows, size_t windows_length,
-                           const uint16_t *instructions, size_t instructions_length, const uint16_t *defaults, size_t defaults_length,
+uint64_t stor_write_tables(const uint32_t *contract, size_t contract_length, const uint32_t *windows, size_t windows_length,
+                           const uint32_t *instructions, size_t instructions_length, const uint32_t *defaults, size_t defaults_length,
                            const int32_t *meter, size_t meter_length, uint8_t *file, size_t file_length);
+
+/* Reads and enters a whole unit file, from the empty book, and writes its book, open, empty or closed, as a unit file into the first bytes of other
+ * memory; those after it are as they were. The answer's offset is the length of what was written. On a refusal all of that memory is exactly as it
+ * was, and the offset is that of the refused command, or 0 where the memory is shorter than the file to be written (26; STOR_FILE_MOST bytes are room
+ * for every month). Meter memory holds what the commands taken left. */
+uint64_t stor_write_file(const uint8_t *file, size_t file_length, int32_t *meter, size_t meter_length, uint8_t *written, size_t written_length);
 
 #ifdef __cplusplus
 }

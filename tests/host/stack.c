@@ -11,7 +11,7 @@
 enum { SIZE = 1 << 20, MARK = 0xA5, LINES_LENGTH = STOR_LINE_NUMBERS * STOR_LINES_MOST };
 
 static unsigned char stack[SIZE] __attribute__((aligned(4096)));
-static uint8_t file[1 << 20];
+static uint8_t file[1 << 20], written[1 << 20];
 static size_t length;
 static int32_t meter[STOR_MINUTES_MOST];
 static int64_t lines[LINES_LENGTH];
@@ -33,19 +33,27 @@ static void *settles(void *p)
 }
 
 /* A day with one window, one instruction and one default, and 0 kW in every minute. */
-static const uint32_t contract[11] = {1, 0, 0, 3000, 3000, 3000, 1, 0, 100, 100, 100};
-static const uint16_t windows[3] = {0, 60, 0}, instructions[2] = {10, 40}, defaults[3] = {5, 1, 1};
+static const uint32_t contract[STOR_CONTRACT_NUMBERS] = {1, 0, 0, 3000, 3000, 3000, 1, 0, 100, 100, 100};
+static const uint32_t windows[STOR_WINDOW_NUMBERS] = {0, 60, 0}, instructions[STOR_INSTRUCTION_NUMBERS] = {10, 40};
+static const uint32_t defaults[STOR_DEFAULT_NUMBERS] = {5, 1, 1};
 
 static void *settles_tables(void *p)
 {
-    answer = stor_settle_tables(contract, 11, windows, 3, instructions, 2, defaults, 3, meter, STOR_MINUTES_MOST, lines, LINES_LENGTH, sums,
-                                STOR_SUM_NUMBERS);
+    answer = stor_settle_tables(contract, STOR_CONTRACT_NUMBERS, windows, STOR_WINDOW_NUMBERS, instructions, STOR_INSTRUCTION_NUMBERS, defaults,
+                                STOR_DEFAULT_NUMBERS, meter, STOR_MINUTES_MOST, lines, LINES_LENGTH, sums, STOR_SUM_NUMBERS);
     return p;
 }
 
 static void *writes_tables(void *p)
 {
-    answer = stor_write_tables(contract, 11, windows, 3, instructions, 2, defaults, 3, meter, STOR_MINUTES_MOST, file, sizeof file);
+    answer = stor_write_tables(contract, STOR_CONTRACT_NUMBERS, windows, STOR_WINDOW_NUMBERS, instructions, STOR_INSTRUCTION_NUMBERS, defaults,
+                               STOR_DEFAULT_NUMBERS, meter, STOR_MINUTES_MOST, file, sizeof file);
+    return p;
+}
+
+static void *writes(void *p)
+{
+    answer = stor_write_file(file, length, meter, STOR_MINUTES_MOST, written, sizeof written);
     return p;
 }
 
@@ -83,7 +91,7 @@ static void hold(const char *what, void *(*run)(void *), size_t own)
 int main(int count, char **words)
 {
     size_t own = depth(nothing);
-    int settled = 0;
+    int settled = 0, rewritten = 0;
     for (int i = 1; i < count; i++) {
         FILE *from = fopen(words[i], "rb");
         if (from == NULL) {
@@ -95,6 +103,8 @@ int main(int count, char **words)
         hold(words[i], enters, own);
         hold(words[i], settles, own);
         settled += answer % 256 == 0;
+        hold(words[i], writes, own);
+        rewritten += answer % 256 == 0;
     }
     memset(meter, 0, sizeof meter);
     hold("tables", settles_tables, own);
@@ -103,7 +113,7 @@ int main(int count, char **words)
         return 1;
     }
     hold("tables, written", writes_tables, own);
-    if (answer % 256 != 0) {
+    if (rewritten == 0 || answer % 256 != 0) {
         fprintf(stderr, "stack: nothing was written\n");
         return 1;
     }

@@ -30,7 +30,8 @@ module _ {A : Type 0} (o : A) (isO : A → Bool) (isO-eq : (a : A) → T (isO a)
   whole : (N : ℕ) (l : List A) (n : ℕ) → length l ≡ N → T (all isO (drop n l)) → l ≡ take n l ++ replicate (N - n) o
   whole N l n e t = sym (take-append-drop n l) ∙ ap (λ r. take n l ++ r) (zeros (drop n l) t ∙ ap (λ m. replicate m o) (length-drop n l ∙ ap (λ x. x - n) e))
 
-  fixed : (N : ℕ) (l l′ : List A) (n n′ : ℕ) → length l ≡ N → length l′ ≡ N → n ≤ N → n′ ≤ N → T (all isO (drop n l)) → T (all isO (drop n′ l′)) → take n l ≡ take n′ l′
+  fixed : (N : ℕ) (l l′ : List A) (n n′ : ℕ) → length l ≡ N → length l′ ≡ N → n ≤ N → n′ ≤ N → T (all isO (drop n l)) → T (all isO (drop n′ l′))
+      → take n l ≡ take n′ l′
       → (n ≡ n′) × (l ≡ l′)
   fixed N l l′ n n′ e e′ h h′ t t′ q =
       let m : n ≡ n′ =
@@ -88,7 +89,9 @@ determined b b′ s s′ e e′ h =
     let p′ : Tables b′ = sound-parts b′ e′ .tables in
     let w = fixed noWindow isNoWindow no-window 128 (b .windows) (b′ .windows) (b .nwindows) (b′ .nwindows) (s .windows) (s′ .windows)
     (p .windows) (p′ .windows) (p .noWindows) (p′ .noWindows) (h .windows) in
-    let x = fixed noInstruction isNoInstruction no-instruction 64 (b .instructions) (b′ .instructions) (b .ninstructions) (b′ .ninstructions) (s .instructions) (s′ .instructions)
+    let x =
+    fixed noInstruction isNoInstruction no-instruction 64 (b .instructions) (b′ .instructions) (b .ninstructions) (b′ .ninstructions) (s .instructions)
+    (s′ .instructions)
     (p .instructions) (p′ .instructions) (p .noInstructions) (p′ .noInstructions) (h .instructions) in
     let d = fixed noDefault isNoDefault no-default 128 (b .defaults) (b′ .defaults) (b .ndefaults) (b′ .ndefaults) (s .defaults) (s′ .defaults)
     (p .defaults) (p′ .defaults) (p .noDefaults) (p′ .noDefaults) (h .defaults) in
@@ -107,7 +110,8 @@ determined b b′ s s′ e e′ h =
       ndefaults = d .0 i;
     }
   where
-    contract-same : (c c′ : Bool) → b .agreed ≡ c → b′ .agreed ≡ c′ → _≡_ {A = List Contract} (cond (b .agreed) (b .contract ∷ []) []) (cond (b′ .agreed) (b′ .contract ∷ []) [])
+    contract-same : (c c′ : Bool) → b .agreed ≡ c → b′ .agreed ≡ c′
+        → _≡_ {A = List Contract} (cond (b .agreed) (b .contract ∷ []) []) (cond (b′ .agreed) (b′ .contract ∷ []) [])
         → b .contract ≡ b′ .contract
     contract-same true true q q′ l = heads-same (ap (λ z. cond z (b .contract ∷ []) []) (sym q) ∙ l ∙ ap (λ z. cond z (b′ .contract ∷ []) []) q′)
     contract-same true false q q′ l = absurd (true≢false (sym q ∙ agreed-same (b .agreed) (b′ .agreed) (b .contract) (b′ .contract) l ∙ q′))

@@ -1,132 +1,125 @@
--- Entering by the refusal's number: what a refused command leaves, what a taken one does, and what is known of one that nothing refuses.
-use mathlib.Core.Path.{_≡_, refl, sym, ap, _∙_, subst}
+-- Entering by the numbers that the code works out: what a number up to 15 gives, and past 15 one of the command's kind; what is known where
+-- there is none.
+use mathlib.Core.Path.{_≡_, refl, sym, ap, _∙_}
 use mathlib.Core.Logic.{_≢_}
 use mathlib.Core.Bool.{Bool, true, false, not, _&&_}
-use mathlib.Core.List.{List, [], _∷_}
 use mathlib.Core.Option.{Option, none, some}
-use Prim.Native.Nat.{ℕ, _≤_, _<_}
+use Prim.Native.Nat.{ℕ, zero, suc}
 use native.Mathlib.Omega.{arith}
-use lib.Dec.{T, ltb, ltb→lt}
-use lib.ListN.{length}
-use borrow.Author.Tests.{le-leb, lt-ltb, leb-false, ltb-false, not-false}
-use Rattle.energy.proofs.Tests.{T-and, of-T}
-use Rattle.rules.specs.Ledger.{spanOf, cellsIn}
-use Rattle.rules.specs.Refusal.{conditions, refusal}
-use Rattle.commands.specs.Input.{isReading, from-to, Condition, lowest, orZero, mostMinute}
-use Rattle.rules.specs.declared.answer.Answer.the-variants.{Taken, Refused}
-use Rattle.commands.specs.declared.contract.Contract.{Contract}
-use Rattle.commands.specs.declared.entries.Window.{Window}
-use Rattle.commands.specs.declared.entries.Instruction.{Instruction}
-use Rattle.commands.specs.declared.entries.Default.{Default}
+use lib.Dec.{T, eqb, ltb}
+use borrow.Author.Tests.{ne-eqb}
+use Rattle.commands.specs.Command.{onContract, always}
+use Rattle.energy.proofs.Tests.{to-T, on-and}
+use Rattle.commands.specs.Input.{from-to, isReading, mostMinute, inRange, rampTooLong, badWindow, inputRefusal, orZero}
 use Rattle.commands.specs.declared.entries.Reading.{Reading}
 use Rattle.commands.specs.declared.entries.Command.{Command}
-use Rattle.commands.specs.declared.entries.Command.the-variants.{Contract as contractᶜ, Window as windowᶜ, Instruction as instructionᶜ, Default as defaultᶜ, Reading as readingᶜ, Close as closeᶜ}
-use Rattle.rules.proofs.Span.{span-cells}
-use Rattle.rules.proofs.Taken.{Allowed, allowed, clear}
+use Rattle.commands.specs.declared.entries.Command.the-variants.{Reading as readingᶜ}
+use Rattle.commands.proofs.Input.{input-none}
+use Rattle.rules.specs.Ledger.{isContract, spanOf}
 use Rattle.book_memory.specs.Meter.{putMeter, Memory, roomIn}
-use Rattle.book.specs.Book.{ledgerIn, putBook}
-use Rattle.book.specs.Enter.{Enters, enterBook, enteredBy}
-use Rattle.book.specs.Numbers.{refusalOf}
-use Rattle.book.specs.Put.{hasPlace, hasCells}
-use Rattle.book.specs.Sound.{sound, Shaped}
+use Rattle.book_refusal.specs.Refusals.{anyRefusal}
+use Rattle.book.specs.Book.{bookCells, putBook}
+use Rattle.book.specs.Enter.{Enters, EntersAt, enterBook, takenAs, refusedAs}
+use Rattle.book.specs.Sound.{sound}
 use Rattle.book.specs.declared.Book.{Book}
-use Rattle.book_sound.proofs.Tables.{has-room}
-use Rattle.book.proofs.Tested.{sound-parts}
+use Rattle.book.specs.declared.Entry.{Entry}
+use Rattle.book.proofs.Refusals.{anyOf, ownOf, asked, by-any, asked-none}
 
--- ---- numbers and refusals
+-- ---- where no condition up to 15 holds
 
--- every condition has a number
-abbrev numbered : List Condition → Bool
-numbered [] = true
-numbered (c ∷ cs) = ltb 0 (c .number) && numbered cs
+-- what is then known of a command to a book, with so much room in lent memory
+pub record Past (b : Book) (room : ℕ) (c : Command) : Type 0 where
+  pub input : inputRefusal c ≡ 0
+  pub sound : sound b ≡ true
+  pub agreed : b .agreed ≡ not (isContract c)
+  pub enough : ltb room (onContract spanOf (always (bookCells b)) c) ≡ false
 
--- where the number is 0 no condition holds
-zero-none : (cs : List Condition) → T (numbered cs) → orZero (lowest cs) ≡ 0 → lowest cs ≡ none
-unfolding lowest
-zero-none [] t e = refl
-zero-none (c ∷ cs) t e = go (c .holds) (λ q. zero-none cs (T-and (ltb 0 (c .number)) (numbered cs) t .1) q) e
-  where
-    go : (b : Bool) → (orZero (lowest cs) ≡ 0 → lowest cs ≡ none) → orZero (elim b as (λ x. Option ℕ) [ true ↦ some (c .number) | false ↦ lowest cs ]) ≡ 0
-        → _≡_ {A = Option ℕ} (elim b as (λ x. Option ℕ) [ true ↦ some (c .number) | false ↦ lowest cs ]) none
-    go true r q = absurd (omega (arith, ltb→lt 0 (c .number) (T-and (ltb 0 (c .number)) (numbered cs) t .0)))
-    go false r q = r q
+record Zero (input : ℕ) (sound closed agreed contract short : Bool) : Type 0 where
+  noInput : input ≡ 0
+  isSound : sound ≡ true
+  only : agreed ≡ not contract
+  enough : short ≡ false
 
--- another number is the refusal
+zero-any : (input : ℕ) (sound closed agreed contract short : Bool) → anyRefusal input sound closed agreed contract short ≡ 0
+    → Zero input sound closed agreed contract short
+unfolding anyRefusal
+zero-any zero true false true false false e = record { noInput = refl; isSound = refl; only = refl; enough = refl }
+zero-any zero true false false true false e = record { noInput = refl; isSound = refl; only = refl; enough = refl }
+zero-any zero true false true false true e = absurd (omega arith)
+zero-any zero true false false true true e = absurd (omega arith)
+zero-any zero true false true true s e = absurd (omega arith)
+zero-any zero true false false false s e = absurd (omega arith)
+zero-any zero true true a f s e = absurd (omega arith)
+zero-any zero false c a f s e = absurd (omega arith)
+zero-any (suc n) l c a f s e = let q : suc n ≡ 0 = rw (ne-eqb (suc n) 0 (λ h. omega arith)) at e in absurd (omega arith)
+
+pub past-any : (b : Book) (room : ℕ) (c : Command) (n : ℕ) → n ≡ anyOf b room c → n ≡ 0 → Past b room c
+past-any b room c n e z =
+    let p = zero-any (inputRefusal c) (sound b) (b .closed) (b .agreed) (isContract c) (ltb room (onContract spanOf (always (bookCells b)) c)) (sym e ∙ z) in
+    record { input = p .noInput; sound = p .isSound; agreed = p .only; enough = p .enough }
+
+-- ---- with lent memory
+
+-- a number of a refusal is the refusal
 some-number : (o : Option ℕ) (n : ℕ) → n ≡ orZero o → n ≢ 0 → o ≡ some n
 some-number none n e h = absurd (h e)
 some-number (some m) n e h = ap some (sym e)
 
-module _ (b : Book) (meter : Memory) (c : Command) (n : ℕ) (e : n ≡ refusalOf b meter c) where
-  unrefused : n ≡ 0 → refusal (not (sound b)) (roomIn meter) (ledgerIn b meter) c ≡ none
-  unfolding refusalOf refusal conditions
-  unrefused z = zero-none (conditions (not (sound b)) (roomIn meter) (ledgerIn b meter) c) tt (sym e ∙ z)
-
-  -- ---- what entering gives
-
-  pub refused-entry : n ≢ 0 → Enters b meter c (record { answer = Refused n; book = b }) meter
-  unfolding enterBook refusalOf
-  refused-entry h =
-      let r : refusal (not (sound b)) (roomIn meter) (ledgerIn b meter) c ≡ some n = some-number (refusal (not (sound b)) (roomIn meter) (ledgerIn b meter) c) n e h in
-      record { entry = rw r; meter = rw r }
-
-  pub taken-entry : n ≡ 0 → Enters b meter c (record { answer = Taken; book = putBook b c }) (putMeter meter c)
+module _ (b : Book) (meter : Memory) (c : Command) where
+  refuses : (n : ℕ) → n ≡ orZero (asked b meter c) → n ≢ 0 → Enters b meter c (refusedAs n b) meter
   unfolding enterBook
-  taken-entry z = record { entry = rw (unrefused z); meter = rw (unrefused z) }
+  refuses n e h = let r : asked b meter c ≡ some n = some-number (asked b meter c) n e h in record { entry = rw r; meter = rw r }
 
-  -- ---- what is known of a command that nothing refuses
+  pub takes : orZero (asked b meter c) ≡ 0 → Enters b meter c (takenAs (putBook b c)) (putMeter meter c)
+  unfolding enterBook
+  takes z = let r : asked b meter c ≡ none = asked-none b meter c z in record { entry = rw r; meter = rw r }
 
-  pub left-sound : n ≡ 0 → sound b ≡ true
-  unfolding refusal conditions
-  left-sound z = not-false (sound b) (clear (conditions (not (sound b)) (roomIn meter) (ledgerIn b meter) c) (unrefused z) .1 .1 .1 .0)
+  -- a number up to 15 is the refusal
+  pub any-refuses : (n : ℕ) → n ≡ anyOf b (roomIn meter) c → n ≢ 0 → Enters b meter c (refusedAs n b) meter
+  any-refuses n e h = refuses n (sym (by-any b meter c ∙ rw (← e, ne-eqb n 0 h))) h
 
-  pub free : n ≡ 0 → Allowed (roomIn meter) (ledgerIn b meter) c
-  free z = allowed (roomIn meter) (ledgerIn b meter) c (subst (λ s. refusal (not s) (roomIn meter) (ledgerIn b meter) c ≡ none) (left-sound z) (unrefused z))
+  -- so is one from the input
+  pub input-refuses : (n : ℕ) → inputRefusal c ≡ n → n ≢ 0 → Enters b meter c (refusedAs n b) meter
+  unfolding anyRefusal
+  input-refuses n e h = any-refuses n (rw (e, ne-eqb n 0 h)) h
 
-module _ (b : Book) (meter : Memory) (n : ℕ) where
-  pub window-room : (w : Window) → n ≡ refusalOf b meter (windowᶜ w) → n ≡ 0 → length (b .windows) ≡ 128 → b .nwindows < 128
-  unfolding ledgerIn
-  window-room w e z l = has-room (b .windows) (b .nwindows) 128 l (sound-parts b (left-sound b meter (windowᶜ w) n e z) .tables .windows) (free b meter (windowᶜ w) n e z .room)
+  module _ (m : ℕ) (e : m ≡ anyOf b (roomIn meter) c) (z : m ≡ 0) where
+    -- without one, that of the command's kind is
+    past-number : orZero (asked b meter c) ≡ ownOf b meter c
+    past-number = by-any b meter c ∙ rw (sym e ∙ z)
 
-  pub instruction-room : (i : Instruction) → n ≡ refusalOf b meter (instructionᶜ i) → n ≡ 0 → length (b .instructions) ≡ 64 → b .ninstructions < 64
-  unfolding ledgerIn
-  instruction-room i e z l = has-room (b .instructions) (b .ninstructions) 64 l (sound-parts b (left-sound b meter (instructionᶜ i) n e z) .tables .instructions) (free b meter (instructionᶜ i) n e z .room)
+    pub own-refuses : (n : ℕ) → n ≡ ownOf b meter c → n ≢ 0 → Enters b meter c (refusedAs n b) meter
+    own-refuses n f h = refuses n (f ∙ sym past-number) h
 
-  pub default-room : (d : Default) → n ≡ refusalOf b meter (defaultᶜ d) → n ≡ 0 → length (b .defaults) ≡ 128 → b .ndefaults < 128
-  unfolding ledgerIn
-  default-room d e z l = has-room (b .defaults) (b .ndefaults) 128 l (sound-parts b (left-sound b meter (defaultᶜ d) n e z) .tables .defaults) (free b meter (defaultᶜ d) n e z .room)
+    -- without either, the command is taken
+    pub own-takes : ownOf b meter c ≡ 0 → Enters b meter c (takenAs (putBook b c)) (putMeter meter c)
+    own-takes f = takes (past-number ∙ f)
 
-  -- meter memory holds a contract's span
-  pub contract-fits : (k : Contract) → n ≡ refusalOf b meter (contractᶜ k) → n ≡ 0 → spanOf k ≤ roomIn meter
-  contract-fits k e z = ltb-false (roomIn meter) (spanOf k) (free b meter (contractᶜ k) n e z .memory)
+-- ---- with room in lent memory alone
 
-  -- and a reading's minute
-  pub reading-fits : (r : Reading) → n ≡ refusalOf b meter (readingᶜ r) → n ≡ 0 → (r .minute .0 < roomIn meter) × T (isReading (r .kw .0))
-  reading-fits r e z =
-      let f = free b meter (readingᶜ r) n e z in
-      (omega (arith, leb-false _ (r .minute .0) (f .inside), span-cells (ledgerIn b meter), ltb-false (roomIn meter) (cellsIn (ledgerIn b meter)) (f .memory)), T-and (from-to 0 mostMinute (r .minute .0)) (isReading (r .kw .0)) (f .operands) .1)
+module _ (b : Book) (room : ℕ) (c : Command) where
+  -- the number at memory of that room
+  there : (meter : Memory) → roomIn meter ≡ room → (n : ℕ) → n ≡ anyOf b room c → n ≡ anyOf b (roomIn meter) c
+  there meter q n e = e ∙ ap (λ r. anyOf b r c) (sym q)
 
-  -- so each command can be put where it goes
-  pub has-place : (c : Command) → n ≡ refusalOf b meter c → n ≡ 0 → Shaped b → hasPlace b c ≡ true
-  has-place (contractᶜ k) e z s = refl
-  has-place (windowᶜ w) e z s = lt-ltb (b .nwindows) 128 (window-room w e z (s .windows))
-  has-place (instructionᶜ i) e z s = lt-ltb (b .ninstructions) 64 (instruction-room i e z (s .instructions))
-  has-place (defaultᶜ d) e z s = lt-ltb (b .ndefaults) 128 (default-room d e z (s .defaults))
-  has-place (readingᶜ r) e z s = refl
-  has-place closeᶜ e z s = refl
+  pub any-refuses-at : (n : ℕ) → n ≡ anyOf b room c → n ≢ 0 → EntersAt b room c (refusedAs n b)
+  any-refuses-at n e h meter q = any-refuses b meter c n (there meter q n e) h
 
-  pub has-cells : (c : Command) → n ≡ refusalOf b meter c → n ≡ 0 → hasCells meter c ≡ true
-  has-cells (contractᶜ k) e z = le-leb (spanOf k) (roomIn meter) (contract-fits k e z)
-  has-cells (windowᶜ w) e z = refl
-  has-cells (instructionᶜ i) e z = refl
-  has-cells (defaultᶜ d) e z = refl
-  has-cells (readingᶜ r) e z = let f = reading-fits r e z in rw (lt-ltb (r .minute .0) (roomIn meter) (f .0), of-T (isReading (r .kw .0)) (f .1))
-  has-cells closeᶜ e z = refl
+  module _ (m : ℕ) (e : m ≡ anyOf b room c) (z : m ≡ 0) where
+    pub own-refuses-at : (n : ℕ) → ((meter : Memory) → n ≡ ownOf b meter c) → n ≢ 0 → EntersAt b room c (refusedAs n b)
+    own-refuses-at n f h meter q = own-refuses b meter c m (there meter q m e) z n (f meter) h
 
--- a command that puts nothing into memory leaves it
-pub still : (b : Book) (meter : Memory) (c : Command) → putMeter meter c ≡ meter → meter ≡ enterBook b meter c .meter
-unfolding enterBook
-still b meter c e = go (refusal (not (sound b)) (roomIn meter) (ledgerIn b meter) c)
-  where
-    go : (o : Option ℕ) → meter ≡ enteredBy o b meter c .meter
-    go none = sym e
-    go (some n) = refl
+    pub own-takes-at : ((meter : Memory) → ownOf b meter c ≡ 0) → ((meter : Memory) → putMeter meter c ≡ meter)
+        → EntersAt b room c (takenAs (putBook b c))
+    own-takes-at f k meter q =
+        let t = own-takes b meter c m (there meter q m e) z (f meter) in
+        record { entry = t .entry; meter = sym (k meter) ∙ t .meter }
+
+-- ---- a reading
+
+-- one whose operands meet nothing fits a cell
+pub reading-ranged : (r : Reading) → inputRefusal (readingᶜ r) ≡ 0 → T (isReading (r .kw .0))
+reading-ranged r z =
+    let clear : eqb (inputRefusal (readingᶜ r)) 0 ≡ true = ap (λ n. eqb n 0) z in
+    let ranged = on-and (inRange (readingᶜ r)) (not (rampTooLong (readingᶜ r)) && not (badWindow (readingᶜ r))) (sym (input-none (readingᶜ r)) ∙ clear) .0 in
+    to-T (on-and (from-to 0 mostMinute (r .minute .0)) (isReading (r .kw .0)) ranged .1)

@@ -7,27 +7,24 @@ use mathlib.Core.Option.{Option, none, some}
 use Prim.Native.Nat.{ℕ, suc, _+_, _-_, _≤_, _<_}
 use native.Mathlib.Numerals.{add-one}
 use native.Mathlib.Omega.{arith}
-use borrow.Author.Tests.{leb-false, ltb-false}
-use lib.Dec.{T, leb, leb·suc-zero}
+use borrow.Author.Tests.{ltb-false}
+use lib.IntN.{ℤ}
+use lib.Dec.{T, leb·suc-zero}
 use lib.ListN.{length, take, drop, set, getD, replicate, length-set, length-append, length-drop, length-replicate}
 use lib.Seq.{drop-cons, drop-set-lt}
 use Rattle.energy.specs.Lists.{all, any, pass, isEmpty, concatMap}
 use Rattle.energy.proofs.Tests.{T-and}
-use Rattle.commands.specs.Input.{from-to, isReading, mostMinute}
-use Rattle.rules.specs.Ledger.{Ledger, ledgerOf, contractOf, spanOf, spanIn, cellsIn, readingOf}
+use Rattle.commands.specs.Command.{always}
+use Rattle.commands.proofs.ByKind.{contract-or-not, window-or-not, instruction-or-not, default-or-not}
+use Rattle.rules.specs.Ledger.{Ledger, ledgerOf, isContract, spanOf, spanIn, cellsIn, readingOf}
 use Rattle.rules.specs.Refusal.{refusal, joined, answerOf}
 use Rattle.rules.specs.Reached.{Reached, untouched, agreed, agreedTests}
-use Rattle.commands.specs.declared.contract.Contract.{Contract}
-use Rattle.commands.specs.declared.entries.Window.{Window}
-use Rattle.commands.specs.declared.entries.Instruction.{Instruction}
-use Rattle.commands.specs.declared.entries.Default.{Default}
-use Rattle.commands.specs.declared.entries.Reading.{Reading}
 use Rattle.commands.specs.declared.entries.Command.{Command}
 use Rattle.commands.specs.declared.entries.Command.the-variants.{Contract as contractᶜ, Window as windowᶜ, Instruction as instructionᶜ, Default as defaultᶜ, Reading as readingᶜ, Close as closeᶜ}
 use Rattle.rules.proofs.Reached.{step, start}
 use Rattle.rules.proofs.Taken.{grown, ledgerOf-snoc, Allowed, allowed}
 use Rattle.rules.proofs.FileLength.{cells-fit}
-use Rattle.book_memory.specs.Meter.{putMeter, cell, missing, Memory, roomIn, kwAt}
+use Rattle.book_memory.specs.Meter.{putMeter, cellReading, missing, Memory, roomIn, kwAt}
 use Rattle.book.specs.Book.{emptyBook, bookSpan, bookCells, ledgerIn, putBook}
 use Rattle.book_sound.specs.Unused.{noContractTests, isNoWindow, isNoInstruction, isNoDefault}
 use Rattle.book.specs.Sound.{sound, Shaped, tableTests, emptyTests}
@@ -35,23 +32,11 @@ use Rattle.book.specs.Enter.{enterBook, enteredBy}
 use Rattle.book.specs.declared.Book.{Book}
 use Rattle.book_sound.proofs.Tables.{has-room}
 use Rattle.book.proofs.Tested.{Tables, contents, sound-parts, is-sound}
-use Rattle.book.proofs.Month.{span-cells, span-is, cells-is, span-empty}
+use Rattle.book.proofs.Month.{span-is, cells-is}
 pub use Rattle.book.proofs.Tested.{contract-is}
-use Rattle.book.proofs.Holds.{holds-contract, holds-window, holds-instruction, holds-default, holds-reading, holds-close}
+use Rattle.book.proofs.Holds.{was-agreed, holds}
 
 -- ---- a book with a contract, and its ledger
-
--- a contract has been taken where a command other than a contract is
-was-agreed : (s : Bool) (k : Contract) → (isEmpty (cond s (k ∷ []) []) && true) ≡ false → s ≡ true
-unfolding isEmpty
-was-agreed true k e = refl
-was-agreed false k e = absurd (true≢false e)
-
--- none has where a contract is
-not-agreed : (s : Bool) (k : Contract) → (not (isEmpty (cond s (k ∷ []) [])) && true) ≡ false → s ≡ false
-unfolding isEmpty
-not-agreed true k e = absurd (true≢false e)
-not-agreed false k e = refl
 
 -- tables of a reached ledger are sound
 pub reached-sound : (b : Book) (meter : Memory) {size : ℕ} → b .agreed ≡ true → Tables b → Reached size (ledgerIn b meter) → sound b ≡ true
@@ -67,8 +52,10 @@ reached-sound b meter s t (agreed a) =
       tables = t;
       contents =
           subst⁻¹ (λ x. T (pass (contents b x))) s
-          (subst (λ n. T (pass (agreedTests (b .contract) n (take (b .nwindows) (b .windows)) (take (b .ninstructions) (b .instructions)) (take (b .ndefaults) (b .defaults))))) (span-is b meter s)
-          (subst (λ k. T (pass (agreedTests k (spanIn (ledgerIn b meter)) (take (b .nwindows) (b .windows)) (take (b .ninstructions) (b .instructions)) (take (b .ndefaults) (b .defaults)))))
+          (subst (λ n. T (pass (agreedTests (b .contract) n (take (b .nwindows) (b .windows)) (take (b .ninstructions) (b .instructions))
+          (take (b .ndefaults) (b .defaults))))) (span-is b meter s)
+          (subst (λ k. T (pass (agreedTests k (spanIn (ledgerIn b meter)) (take (b .nwindows) (b .windows)) (take (b .ninstructions) (b .instructions))
+          (take (b .ndefaults) (b .defaults)))))
           (contract-is b meter s) (a .tests)));
     })
 
@@ -77,11 +64,11 @@ reached-sound b meter s t (agreed a) =
 pub record Follows (size : ℕ) (t : List Command) (b : Book) (meter : Memory) : Type 0 where
   pub ledger : ledgerIn b meter ≡ ledgerOf t
   pub reached : Reached size (ledgerOf t)
-  pub left : sound b ≡ true
+  pub sound : sound b ≡ true
   pub shaped : Shaped b
   pub memory : roomIn meter ≡ size
 
--- what is left to show of a command that is taken: what the book holds after it, a contract, its tables and their lengths
+-- what is to be shown of a command that is taken: what the book holds after it, a contract, its tables and their lengths
 pub record Put (c : Command) (b : Book) (meter : Memory) : Type 0 where
   pub holds : ledgerIn (putBook b c) (putMeter meter c) ≡ grown (ledgerIn b meter) c
   pub agreed : putBook b c .agreed ≡ true
@@ -89,21 +76,35 @@ pub record Put (c : Command) (b : Book) (meter : Memory) : Type 0 where
   pub shaped : Shaped (putBook b c)
   pub memory : roomIn (putMeter meter c) ≡ roomIn meter
 
--- entries past the n first are zeros, and one more is taken into use
-rest-zero : {A : Type 0} (f : A → Bool) (l : List A) (n : ℕ) (a : A) → n < length l → T (all f (drop n l)) → T (all f (drop (n + 1) (set l n a)))
-rest-zero {A} f l n a h t =
-    subst (λ x. T (all f x)) (sym (ap (λ k. drop k (set l n a)) (add-one n) ∙ drop-set-lt (suc n) l n a (omega arith)))
-    (go (drop n l) (drop (suc n) l) (drop-cons l n a h) t)
-  where
-    go : (u v : List A) → u ≡ getD l n a ∷ v → T (all f u) → T (all f v)
-    go u v e t = T-and (f (getD l n a)) (all f v) (unfold all in subst (λ x. T (all f x)) e t) .1
+-- a table after a command: how many entries are in use, zeros in the others, and its length
+record After {A : Type 0} (none : A → Bool) (most : ℕ) (l : List A) (n : ℕ) : Type 0 where
+  within : n ≤ most
+  rest : T (all none (drop n l))
+  size : length l ≡ most
+
+module _ {A : Type 0} (none : A → Bool) (most : ℕ) (l : List A) (n : ℕ) (t : After none most l n) where
+  -- with one entry more
+  one-more : (a : A) → n < most → After none most (set l n a) (n + 1)
+  one-more a h = record { within = omega arith; rest = zeros; size = length-set l n a ∙ t .size }
+    where
+      go : (u v : List A) → u ≡ getD l n a ∷ v → T (all none u) → T (all none v)
+      go u v e t = T-and (none (getD l n a)) (all none v) (unfold all in subst (λ x. T (all none x)) e t) .1
+
+      zeros : T (all none (drop (n + 1) (set l n a)))
+      zeros =
+          subst (λ x. T (all none x)) (sym (ap (λ k. drop k (set l n a)) (add-one n) ∙ drop-set-lt (suc n) l n a (omega arith)))
+          (go (drop n l) (drop (suc n) l) (drop-cons l n a (omega (arith, t .size))) (t .rest))
+
+  -- as it was
+  as-before : {l′ : List A} {n′ : ℕ} → l′ ≡ l → n′ ≡ n → After none most l′ n′
+  as-before {n′ = n′} e f = subst⁻¹ (λ x. After none most x n′) e (subst⁻¹ (λ x. After none most l x) f t)
 
 module _ {size : ℕ} {t : List Command} {b : Book} {meter : Memory} (f : Follows size t b meter) where
   abbrev g : Ledger
   g = ledgerIn b meter
 
   tables : Tables b
-  tables = sound-parts b (f .left) .tables
+  tables = sound-parts b (f .sound) .tables
 
   -- meter memory has the cells for the span
   fits : b .agreed ≡ true → bookCells b ≤ roomIn meter
@@ -111,116 +112,79 @@ module _ {size : ℕ} {t : List Command} {b : Book} {meter : Memory} (f : Follow
       subst (λ n. n ≤ roomIn meter) (cells-is b meter s)
       (subst⁻¹ (λ n. cellsIn g ≤ n) (f .memory) (cells-fit (subst⁻¹ (Reached size) (f .ledger) (f .reached))))
 
-  put-window : (w : Window) → Allowed size g (windowᶜ w) → Put (windowᶜ w) b meter
+  windows-after : (c : Command) → Allowed size g c → After isNoWindow 128 (putBook b c .windows) (putBook b c .nwindows)
   unfolding ledgerIn
-  put-window w a =
-      let room : b .nwindows < 128 = has-room (b .windows) (b .nwindows) 128 (f .shaped .windows) (tables .windows) (a .room) in
-      let inside : b .nwindows < length (b .windows) = omega (arith, f .shaped .windows) in
-      record {
-        holds = holds-window b meter w inside;
-        agreed = was-agreed (b .agreed) (b .contract) (a .agreed);
-        tables =
-            record {
-              windows = omega arith;
-              instructions = tables .instructions;
-              defaults = tables .defaults;
-              noWindows = rest-zero isNoWindow (b .windows) (b .nwindows) w inside (tables .noWindows);
-              noInstructions = tables .noInstructions;
-              noDefaults = tables .noDefaults;
-            };
-        shaped = record { windows = length-set (b .windows) (b .nwindows) w ∙ f .shaped .windows; instructions = f .shaped .instructions; defaults = f .shaped .defaults };
-        memory = refl;
-      }
+  windows-after =
+      let was : After isNoWindow 128 (b .windows) (b .nwindows) = record { within = tables .windows; rest = tables .noWindows; size = f .shaped .windows } in
+      window-or-not (λ c. Allowed size g c → After isNoWindow 128 (putBook b c .windows) (putBook b c .nwindows))
+      (λ w a. one-more isNoWindow 128 (b .windows) (b .nwindows) was w
+      (has-room (b .windows) (b .nwindows) 128 (f .shaped .windows) (tables .windows) (a .kind .room)))
+      (λ c o a. as-before isNoWindow 128 (b .windows) (b .nwindows) was (o .other _ (always (b .windows))) (o .other _ (always (b .nwindows))))
 
-  put-instruction : (x : Instruction) → Allowed size g (instructionᶜ x) → Put (instructionᶜ x) b meter
+  instructions-after : (c : Command) → Allowed size g c → After isNoInstruction 64 (putBook b c .instructions) (putBook b c .ninstructions)
   unfolding ledgerIn
-  put-instruction x a =
-      let room : b .ninstructions < 64 = has-room (b .instructions) (b .ninstructions) 64 (f .shaped .instructions) (tables .instructions) (a .room) in
-      let inside : b .ninstructions < length (b .instructions) = omega (arith, f .shaped .instructions) in
-      record {
-        holds = holds-instruction b meter x inside;
-        agreed = was-agreed (b .agreed) (b .contract) (a .agreed);
-        tables =
-            record {
-              windows = tables .windows;
-              instructions = omega arith;
-              defaults = tables .defaults;
-              noWindows = tables .noWindows;
-              noInstructions = rest-zero isNoInstruction (b .instructions) (b .ninstructions) x inside (tables .noInstructions);
-              noDefaults = tables .noDefaults;
-            };
-        shaped = record { windows = f .shaped .windows; instructions = length-set (b .instructions) (b .ninstructions) x ∙ f .shaped .instructions; defaults = f .shaped .defaults };
-        memory = refl;
-      }
+  instructions-after =
+      let was : After isNoInstruction 64 (b .instructions) (b .ninstructions) =
+      record { within = tables .instructions; rest = tables .noInstructions; size = f .shaped .instructions } in
+      instruction-or-not (λ c. Allowed size g c → After isNoInstruction 64 (putBook b c .instructions) (putBook b c .ninstructions))
+      (λ i a.
+      one-more isNoInstruction 64 (b .instructions) (b .ninstructions) was i
+      (has-room (b .instructions) (b .ninstructions) 64 (f .shaped .instructions) (tables .instructions) (a .kind .room)))
+      (λ c o a. as-before isNoInstruction 64 (b .instructions) (b .ninstructions) was (o .other _ (always (b .instructions)))
+      (o .other _ (always (b .ninstructions))))
 
-  put-default : (d : Default) → Allowed size g (defaultᶜ d) → Put (defaultᶜ d) b meter
+  defaults-after : (c : Command) → Allowed size g c → After isNoDefault 128 (putBook b c .defaults) (putBook b c .ndefaults)
   unfolding ledgerIn
-  put-default d a =
-      let room : b .ndefaults < 128 = has-room (b .defaults) (b .ndefaults) 128 (f .shaped .defaults) (tables .defaults) (a .room) in
-      let inside : b .ndefaults < length (b .defaults) = omega (arith, f .shaped .defaults) in
-      record {
-        holds = holds-default b meter d inside;
-        agreed = was-agreed (b .agreed) (b .contract) (a .agreed);
-        tables =
-            record {
-              windows = tables .windows;
-              instructions = tables .instructions;
-              defaults = omega arith;
-              noWindows = tables .noWindows;
-              noInstructions = tables .noInstructions;
-              noDefaults = rest-zero isNoDefault (b .defaults) (b .ndefaults) d inside (tables .noDefaults);
-            };
-        shaped = record { windows = f .shaped .windows; instructions = f .shaped .instructions; defaults = length-set (b .defaults) (b .ndefaults) d ∙ f .shaped .defaults };
-        memory = refl;
-      }
+  defaults-after =
+      let was : After isNoDefault 128 (b .defaults) (b .ndefaults) =
+      record { within = tables .defaults; rest = tables .noDefaults; size = f .shaped .defaults } in
+      default-or-not (λ c. Allowed size g c → After isNoDefault 128 (putBook b c .defaults) (putBook b c .ndefaults))
+      (λ d a. one-more isNoDefault 128 (b .defaults) (b .ndefaults) was d
+      (has-room (b .defaults) (b .ndefaults) 128 (f .shaped .defaults) (tables .defaults) (a .kind .room)))
+      (λ c o a. as-before isNoDefault 128 (b .defaults) (b .ndefaults) was (o .other _ (always (b .defaults))) (o .other _ (always (b .ndefaults))))
 
-  put-close : Allowed size g closeᶜ → Put closeᶜ b meter
+  agreed-after : (c : Command) → Allowed size g c → putBook b c .agreed ≡ true
   unfolding ledgerIn
-  put-close a =
-      record {
-        holds = holds-close b meter;
-        agreed = was-agreed (b .agreed) (b .contract) (a .agreed);
-        tables = tables;
-        shaped = record { windows = f .shaped .windows; instructions = f .shaped .instructions; defaults = f .shaped .defaults };
-        memory = refl;
-      }
+  agreed-after =
+      contract-or-not (λ c. Allowed size g c → putBook b c .agreed ≡ true) (λ k a. refl)
+      (λ c o a.
+      o .other (λ k. true) (always (b .agreed))
+      ∙ was-agreed (b .agreed) (b .contract) (isContract c) (o .other (λ k. true) (always false)) (a .book .agreed))
 
-  put-reading : (r : Reading) → Allowed size g (readingᶜ r) → Put (readingᶜ r) b meter
-  unfolding ledgerIn
-  put-reading r a =
-      let s : b .agreed ≡ true = was-agreed (b .agreed) (b .contract) (a .agreed) in
-      let below : r .minute .0 < bookSpan b = leb-false (bookSpan b) (r .minute .0) (subst (λ n. leb n (r .minute .0) ≡ false) (span-is b meter s) (a .inside)) in
-      let ranged : T (isReading (r .kw .0)) = T-and (from-to 0 mostMinute (r .minute .0)) (isReading (r .kw .0)) (a .operands) .1 in
-      record {
-        holds = holds-reading b meter r below (omega (arith, fits s, span-cells b)) ranged;
-        agreed = s;
-        tables = tables;
-        shaped = f .shaped;
-        memory = length-set (meter .cells) (r .minute .0) (r .kw .0);
-      }
-
-  put-contract : (k : Contract) → Allowed size g (contractᶜ k) → Put (contractᶜ k) b meter
-  unfolding ledgerIn
-  put-contract k a =
-      let s : b .agreed ≡ false = not-agreed (b .agreed) (b .contract) (a .only) in
-      let none : bookSpan b ≡ 0 = span-empty b (f .left) s in
-      let span : spanOf k ≤ roomIn meter = omega (arith, ltb-false size (spanOf k) (a .memory), f .memory) in
-      record {
-        holds = holds-contract b meter k s none;
-        agreed = refl;
-        tables = tables;
-        shaped = record { windows = f .shaped .windows; instructions = f .shaped .instructions; defaults = f .shaped .defaults };
-        memory = length-append (replicate (spanOf k) missing) (drop (spanOf k) (meter .cells)) ∙ ap₂ _+_ (length-replicate (spanOf k) missing) (length-drop (spanOf k) (meter .cells)) ∙ omega arith;
-      }
+  memory-after : (c : Command) → Allowed size g c → roomIn (putMeter meter c) ≡ roomIn meter
+  memory-after (contractᶜ k) a =
+      let cells : List ℤ = meter .cells in
+      let span : spanOf k ≤ roomIn meter = omega (arith, ltb-false size (spanOf k) (a .book .memory), f .memory) in
+      length-append (replicate (spanOf k) missing) (drop (spanOf k) cells)
+      ∙ ap₂ _+_ (length-replicate (spanOf k) missing) (length-drop (spanOf k) cells)
+      ∙ omega arith
+  memory-after (windowᶜ w) a = refl
+  memory-after (instructionᶜ i) a = refl
+  memory-after (defaultᶜ d) a = refl
+  memory-after (readingᶜ r) a = length-set (meter .cells) (r .minute .0) (r .kw .0)
+  memory-after closeᶜ a = refl
 
   -- any command that is taken
   put-any : (c : Command) → Allowed size g c → Put c b meter
-  put-any (contractᶜ k) a = put-contract k a
-  put-any (windowᶜ w) a = put-window w a
-  put-any (instructionᶜ x) a = put-instruction x a
-  put-any (defaultᶜ d) a = put-default d a
-  put-any (readingᶜ r) a = put-reading r a
-  put-any closeᶜ a = put-close a
+  put-any c a =
+      let w = windows-after c a in
+      let i = instructions-after c a in
+      let d = defaults-after c a in
+      record {
+        holds = holds size b meter (f .sound) (f .shaped) fits c a;
+        agreed = agreed-after c a;
+        tables =
+            record {
+              windows = w .within;
+              instructions = i .within;
+              defaults = d .within;
+              noWindows = w .rest;
+              noInstructions = i .rest;
+              noDefaults = d .rest;
+            };
+        shaped = record { windows = w .size; instructions = i .size; defaults = d .size };
+        memory = memory-after c a;
+      }
 
   -- the book keeps following
   pub put-follows : (c : Command) → refusal false size (ledgerOf t) c ≡ none → Follows size (t ++ (c ∷ [])) (putBook b c) (putMeter meter c)
@@ -231,7 +195,7 @@ module _ {size : ℕ} {t : List Command} {b : Book} {meter : Memory} (f : Follow
       record {
         ledger = l;
         reached = r;
-        left = reached-sound (putBook b c) (putMeter meter c) (p .agreed) (p .tables) (subst⁻¹ (Reached size) l r);
+        sound = reached-sound (putBook b c) (putMeter meter c) (p .agreed) (p .tables) (subst⁻¹ (Reached size) l r);
         shaped = p .shaped;
         memory = p .memory ∙ f .memory;
       }
@@ -241,17 +205,19 @@ module _ {size : ℕ} {t : List Command} {b : Book} {meter : Memory} (f : Follow
 -- for a book that follows the commands taken, the book's refusal is theirs
 same-refusal : {size : ℕ} {t : List Command} {b : Book} {meter : Memory} (c : Command) → Follows size t b meter
     → refusal (not (sound b)) (roomIn meter) (ledgerIn b meter) c ≡ refusal false size (ledgerOf t) c
-same-refusal c f = rw (f .left, f .memory, f .ledger)
+same-refusal c f = rw (f .sound, f .memory, f .ledger)
 
 -- entering keeps book and commands together, taken or refused
 pub follow : {size : ℕ} {t : List Command} {b : Book} {meter : Memory} (c : Command) → Follows size t b meter
     → Follows size (joined (refusal false size (ledgerOf t) c) t c) (enterBook b meter c .entry .book) (enterBook b meter c .meter)
 unfolding enterBook
 follow {size} {t} {b} {meter} c f =
-    subst⁻¹ (λ o. Follows size (joined (refusal false size (ledgerOf t) c) t c) (enteredBy o b meter c .entry .book) (enteredBy o b meter c .meter)) (same-refusal c f)
+    subst⁻¹ (λ o. Follows size (joined (refusal false size (ledgerOf t) c) t c) (enteredBy o b meter c .entry .book) (enteredBy o b meter c .meter))
+    (same-refusal c f)
     (go (refusal false size (ledgerOf t) c) refl)
   where
-    go : (o : Option ℕ) → refusal false size (ledgerOf t) c ≡ o → Follows size (joined o t c) (enteredBy o b meter c .entry .book) (enteredBy o b meter c .meter)
+    go : (o : Option ℕ) → refusal false size (ledgerOf t) c ≡ o
+        → Follows size (joined o t c) (enteredBy o b meter c .entry .book) (enteredBy o b meter c .meter)
     go none e = put-follows f c e
     go (some n) e = f
 
@@ -278,10 +244,10 @@ starts meter =
             instructions = [];
             defaults = [];
             closed = false;
-            reading = λ m. ap (λ (x : Bool). cond x (cell (kwAt meter m)) none) (leb·suc-zero m) i;
+            reading = λ m. ap (λ (x : Bool). cond x (cellReading (kwAt meter m)) none) (leb·suc-zero m) i;
           };
       reached = start (roomIn meter);
-      left = refl;
+      sound = refl;
       shaped = record { windows = refl; instructions = refl; defaults = refl };
       memory = refl;
     }

@@ -9,12 +9,13 @@ use borrow.Author.Tests.{ltb-false}
 use lib.Dec.{ltb}
 use Rattle.book_memory.specs.Meter.{Memory, roomIn}
 use Rattle.energy.specs.Lists.{isEmpty}
-use Rattle.rules.specs.Ledger.{Ledger, ledgerOf, cellsIn}
+use Rattle.commands.specs.Command.{always}
+use Rattle.rules.specs.Ledger.{Ledger, ledgerOf, cellsIn, spanOf}
 use Rattle.rules.specs.Refusal.{refusal}
 use Rattle.rules.specs.Reached.{Reached}
 use Rattle.rules.specs.File.{written}
 use Rattle.commands.specs.declared.entries.Command.{Command}
-use Rattle.commands.specs.declared.entries.Command.the-variants.{Contract as contractᶜ, Window as windowᶜ, Instruction as instructionᶜ, Default as defaultᶜ, Reading as readingᶜ, Close as closeᶜ}
+use Rattle.commands.proofs.ByKind.{contract-or-not}
 use Rattle.rules.proofs.Taken.{Allowed, allowed}
 use Rattle.rules.proofs.Rewritten.{rewritten}
 use Rattle.book.specs.Book.{bookCells, ledgerIn}
@@ -23,7 +24,7 @@ use Rattle.book.specs.Enter.{enterBook, enteredBy}
 use Rattle.book.specs.declared.Book.{Book}
 use Rattle.book.proofs.Follow.{Follows, follow}
 use Rattle.book.proofs.Month.{cells-is, cells-empty}
-use Rattle.book.proofs.Left.{book-reached}
+use Rattle.book.proofs.FromCommands.{book-reached}
 
 -- a sound book follows the commands that it is written as
 pub follows-itself : (b : Book) (meter : Memory) → Shaped b → sound b ≡ true → bookCells b ≤ roomIn meter
@@ -32,23 +33,24 @@ follows-itself b meter s e h =
     let g : Ledger = ledgerIn b meter in
     let r : Reached (roomIn meter) g = book-reached b meter (roomIn meter) e h in
     let same : g ≡ ledgerOf (written g) = sym (rewritten (roomIn meter) g r .same) in
-    record { ledger = same; reached = subst (Reached (roomIn meter)) same r; left = e; shaped = s; memory = refl }
+    record { ledger = same; reached = subst (Reached (roomIn meter)) same r; sound = e; shaped = s; memory = refl }
 
 -- meter memory has the cells where a command is taken
 cells-held : (b : Book) (meter : Memory) (c : Command) → sound b ≡ true → Allowed (roomIn meter) (ledgerIn b meter) c → bookCells b ≤ roomIn meter
 cells-held b meter c e a = go (b .agreed) refl
   where
+    -- a book with a contract takes no other
+    second : (x : Bool) → x ≡ true → (not (isEmpty (cond x (b .contract ∷ []) [])) && true) ≡ false → ⊥
+    second true q h = unfold isEmpty in true≢false h
+    second false q h = true≢false (sym q)
+
     under : (c : Command) → b .agreed ≡ true → Allowed (roomIn meter) (ledgerIn b meter) c → cellsIn (ledgerIn b meter) ≤ roomIn meter
-    under (contractᶜ k) s a = absurd (second (b .agreed) s (unfold ledgerIn in a .only))
-      where
-        second : (x : Bool) → x ≡ true → (not (isEmpty (cond x (b .contract ∷ []) [])) && true) ≡ false → ⊥
-        second true q h = unfold isEmpty in true≢false h
-        second false q h = true≢false (sym q)
-    under (windowᶜ w) s a = ltb-false (roomIn meter) (cellsIn (ledgerIn b meter)) (a .memory)
-    under (instructionᶜ i) s a = ltb-false (roomIn meter) (cellsIn (ledgerIn b meter)) (a .memory)
-    under (defaultᶜ d) s a = ltb-false (roomIn meter) (cellsIn (ledgerIn b meter)) (a .memory)
-    under (readingᶜ r) s a = ltb-false (roomIn meter) (cellsIn (ledgerIn b meter)) (a .memory)
-    under closeᶜ s a = ltb-false (roomIn meter) (cellsIn (ledgerIn b meter)) (a .memory)
+    under =
+        contract-or-not (λ c. b .agreed ≡ true → Allowed (roomIn meter) (ledgerIn b meter) c → cellsIn (ledgerIn b meter) ≤ roomIn meter)
+        (λ k s a. absurd (second (b .agreed) s (unfold ledgerIn in a .book .only)))
+        (λ c o s a.
+        ltb-false (roomIn meter) (cellsIn (ledgerIn b meter))
+        (subst (λ n. ltb (roomIn meter) n ≡ false) (o .other spanOf (always (cellsIn (ledgerIn b meter)))) (a .book .memory)))
 
     go : (x : Bool) → b .agreed ≡ x → bookCells b ≤ roomIn meter
     go true s = subst (λ n. n ≤ roomIn meter) (cells-is b meter s) (under c s a)
@@ -56,7 +58,7 @@ cells-held b meter c e a = go (b .agreed) refl
 
 -- what entering leaves of a sound book
 pub record Kept (b : Book) : Type 0 where
-  pub left : sound b ≡ true
+  pub sound : sound b ≡ true
   pub shaped : Shaped b
 
 pub kept : (b : Book) (meter : Memory) (c : Command) → Kept b → Kept (enterBook b meter c .entry .book)
@@ -65,7 +67,8 @@ kept b meter c k = go (refusal (not (sound b)) (roomIn meter) (ledgerIn b meter)
   where
     go : (o : Option ℕ) → refusal (not (sound b)) (roomIn meter) (ledgerIn b meter) c ≡ o → Kept (enterBook b meter c .entry .book)
     go none q =
-        let a : Allowed (roomIn meter) (ledgerIn b meter) c = allowed (roomIn meter) (ledgerIn b meter) c (ap (λ x. refusal (not x) (roomIn meter) (ledgerIn b meter) c) (sym (k .left)) ∙ q) in
-        let f = follow c (follows-itself b meter (k .shaped) (k .left) (cells-held b meter c (k .left) a)) in
-        record { left = f .left; shaped = f .shaped }
+        let a : Allowed (roomIn meter) (ledgerIn b meter) c =
+        allowed (roomIn meter) (ledgerIn b meter) c (ap (λ x. refusal (not x) (roomIn meter) (ledgerIn b meter) c) (sym (k .sound)) ∙ q) in
+        let f = follow c (follows-itself b meter (k .shaped) (k .sound) (cells-held b meter c (k .sound) a)) in
+        record { sound = f .sound; shaped = f .shaped }
     go (some n) q = subst⁻¹ (λ o. Kept (enteredBy o b meter c .entry .book)) q k

@@ -1,12 +1,11 @@
 pub mod Tested
 pub mod Month
-pub mod Numbers
+pub mod Refusals
 pub mod Entered
 pub mod Holds
 pub mod Follow
 pub mod Determined
-pub mod Left
+pub mod FromCommands
 pub mod Kept
-pub mod Readings
-pub mod Chains
+pub mod OpenSpan
 pub mod SoundBook

@@ -62,5 +62,8 @@ pub cells-most : (b : Book) → sound b ≡ true → bookCells b ≤ mostMinute
 cells-most b e = go (b .agreed) refl
   where
     go : (x : Bool) → b .agreed ≡ x → bookCells b ≤ mostMinute
-    go true s = let p = sound-used b e s in let t : Terms (b .contract) = terms (b .contract) (p .operands) (p .ramps) in unfold bookCells in omega (arith, t .ranges .days)
+    go true s =
+        let p = sound-used b e s in
+        let t : Terms (b .contract) = terms (b .contract) (p .operands) (p .ramps) in
+        unfold bookCells in omega (arith, t .ranges .days)
     go false s = omega (arith, cells-empty b e s)

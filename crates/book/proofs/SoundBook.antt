@@ -1,34 +1,35 @@
--- What a sound book says of its contract, its windows, its instructions and its defaults.
-use mathlib.Core.Path.{_≡_, refl, sym, _∙_, ap}
-use mathlib.Core.Bool.{Bool, true, false, cond, not, _&&_, _||_}
+-- What a sound book with a contract says of its contract, its windows, its instructions and its defaults, each entry by its place: read off the
+-- tests of 11 by the laws that the rules have of tables.
+use mathlib.Core.Path.{_≡_, refl, sym, _∙_}
+use mathlib.Core.Bool.{Bool, true, false, not, true≢false}
 use mathlib.Core.List.{List, [], _∷_}
-use Prim.Native.Nat.{ℕ, zero, suc, _+_, _-_, _%_, _≤_, _<_}
-use native.Mathlib.Nat.{le-div-iff-mul-le}
+use Prim.Native.Nat.{ℕ, zero, suc, _+_, _%_, _≤_, _<_}
 use native.Mathlib.Omega.{arith}
-use lib.Dec.{eqb, leb, ltb}
-use lib.IntN.{ℤ, pos, negsuc, natAbs}
+use lib.Dec.{T, ltb, ltb→lt}
+use lib.IntN.{pos}
 use lib.ListN.{length, getD, take}
-use lib.Signed.{leZ}
-use borrow.Author.Tests.{leb-true, leb-false, ltb-true, eqb-true, ltb-false, not-true, not-false}
-use Rattle.energy.specs.Lists.{any, pass}
-use Rattle.energy.specs.Number.{ceiling}
-use Rattle.energy.proofs.Integers.{leZ-true}
-use Rattle.energy.proofs.Tests.{on-and}
-use Rattle.rules.specs.Ledger.{expiry, endOf, within}
-use Rattle.rules.specs.Reached.{windowsSound, instructionsSound, defaultSound, agreedTests}
-use Rattle.commands.specs.Input.{kwOf, upMinutes, downMinutes, from-to, from-toℤ, inRange, rampTooLong, badWindow, mostMinute}
+use Rattle.energy.specs.Lists.{all, any}
+use Rattle.energy.proofs.Tests.{T-and}
+use Rattle.commands.specs.Input.{kwOf, upMinutes, downMinutes, from-to, inRange, rampTooLong, mostMinute}
 use Rattle.commands.specs.declared.contract.Contract.{Contract}
 use Rattle.commands.specs.declared.entries.Default.{Default}
 use Rattle.commands.specs.declared.entries.Instruction.{Instruction}
 use Rattle.commands.specs.declared.entries.Window.{Window}
-use Rattle.commands.specs.declared.entries.Command.the-variants.{Contract as contractᶜ, Window as windowᶜ, Instruction as instructionᶜ, Default as defaultᶜ}
+use Rattle.commands.specs.declared.entries.Command.the-variants.{Contract as contractᶜ, Default as defaultᶜ}
+use Rattle.commands.proofs.Chain.{apart}
+use Rattle.commands.proofs.Terms.{bounds, terms}
+use Rattle.rules.specs.Ledger.{expiry, endOf, within}
+use Rattle.rules.specs.Reached.{windowsSound, instructionsSound, defaultSound}
+use Rattle.rules.proofs.Tables.{windows-cons, instructions-cons}
+use Rattle.book_sound.proofs.Search.{in-order}
 use Rattle.book.specs.Book.{noWindow, noInstruction, noDefault, bookSpan, bookCells}
-use Rattle.book.specs.Sound.{tableTests, emptyTests, sound}
+use Rattle.book.specs.Sound.{sound}
 use Rattle.book.specs.declared.Book.{Book}
 use Rattle.book.proofs.Month.{cells-most}
-use Rattle.book.proofs.Chains.{ands-hold, pass-hold, all-at, or-neither, in-range}
+use Rattle.book.proofs.Tested.{sound-parts, sound-used, sound-empty}
 
 -- ---- the contract
+
 pub record SoundContract (k : Contract) : Type 0 where
   pub days : (1 ≤ k .days) × (k .days ≤ 31)
   pub kw : (3000 ≤ kwOf k) × (kwOf k ≤ 500000)
@@ -41,42 +42,25 @@ pub record SoundContract (k : Contract) : Type 0 where
   pub rise : (1 ≤ upMinutes k) × (upMinutes k ≤ k .response .0)
   pub fall : downMinutes k ≤ 240
 
-ceiling-one : (n d : ℕ) → 1 ≤ n → 1 ≤ d → 1 ≤ ceiling n d
-unfolding ceiling
-ceiling-one n d h l = le-div-iff-mul-le {k = d} {x = 1} {y = n + (d - 1)} l .1 (omega arith)
-
-plain-of : (z : ℤ) → from-toℤ (pos 3000) (pos 500000) z ≡ true → (z ≡ pos (natAbs z)) × (3000 ≤ natAbs z) × (natAbs z ≤ 500000)
-plain-of (pos n) e =
-    let (x, y) = on-and (leZ (pos 3000) (pos n)) (leZ (pos n) (pos 500000)) e in
-    (refl, omega (arith, leZ-true (pos 3000) (pos n) x), omega (arith, leZ-true (pos n) (pos 500000) y))
-plain-of (negsuc n) e =
-    let (x, y) = on-and (leZ (pos 3000) (negsuc n)) (leZ (negsuc n) (pos 500000)) e in
-    absurd (omega (arith, leZ-true (pos 3000) (negsuc n) x))
-
-contract-sound : (k : Contract) → inRange (contractᶜ k) ≡ true → not (rampTooLong (contractᶜ k)) ≡ true → SoundContract k
-unfolding upMinutes
-contract-sound k e f =
-    let (a, (b, (c, (d, (u, (v, (r, (w, (x, (y, (z, q))))))))))) =
-    ands-hold (from-to 1 31 (k .days))
-    (from-to 0 1 (k .kind) ∷ from-to 0 1 (k .service) ∷ from-toℤ (pos 3000) (pos 500000) (k .contracted .0) ∷ from-to 1 500000 (k .rampup) ∷ from-to 1 500000 (k .rampdown) ∷ from-to 1 240 (k .response .0) ∷ from-to 0 1200 (k .recovery .0) ∷ from-to 0 1000000 (k .availability) ∷ from-to 0 1000000 (k .utilisation) ∷ from-to 0 1000000 (k .optional) ∷ [])
-    e in
-    let p = plain-of (k .contracted .0) d in
-    let ru = in-range 1 500000 (k .rampup) u in
-    let (o₁, o₂) = or-neither (ltb (k .response .0) (upMinutes k)) (ltb 240 (downMinutes k)) f in
+contract-sound : (k : Contract) → T (inRange (contractᶜ k)) → T (not (rampTooLong (contractᶜ k))) → SoundContract k
+contract-sound k operands ramps =
+    let t = terms k operands ramps in
+    let r = t .ranges in
     record {
-      days = in-range 1 31 (k .days) a;
-      kw = (p .1, p .2);
-      plain = p .0;
-      response = in-range 1 240 (k .response .0) r;
-      recovery = in-range 0 1200 (k .recovery .0) w .1;
-      availability = in-range 0 1000000 (k .availability) x .1;
-      utilisation = in-range 0 1000000 (k .utilisation) y .1;
-      optional = in-range 0 1000000 (k .optional) z .1;
-      rise = (ceiling-one (kwOf k) (k .rampup) (omega (arith, p .1)) (ru .0), ltb-false (k .response .0) (upMinutes k) o₁);
-      fall = ltb-false 240 (downMinutes k) o₂;
+      days = r .days;
+      kw = r .contracted;
+      plain = r .positive;
+      response = r .response;
+      recovery = r .recovery;
+      availability = r .availability;
+      utilisation = r .utilisation;
+      optional = r .optional;
+      rise = t .up;
+      fall = t .down .1;
     }
 
 -- ---- windows
+
 pub record SoundWindow (span : ℕ) (w : Window) : Type 0 where
   pub order : w .start .0 < w .end .0
   pub start : w .start .0 % 30 ≡ 0
@@ -84,126 +68,101 @@ pub record SoundWindow (span : ℕ) (w : Window) : Type 0 where
   pub inside : w .end .0 ≤ span
 
 module _ (k : Contract) (span : ℕ) where
-  -- windows one after the other, the first not before minute e
-  pub record SoundWindows (e : ℕ) (ws : List Window) : Type 0 where
+  pub record SoundWindows (ws : List Window) : Type 0 where
     pub window : (i : ℕ) → i < length ws → SoundWindow span (getD ws i noWindow)
-    pub from : (i : ℕ) → i < length ws → e ≤ getD ws i noWindow .start .0
     pub apart : (i j : ℕ) → i < j → j < length ws → getD ws i noWindow .end .0 ≤ getD ws j noWindow .start .0
 
-  windows-sound : (e : ℕ) (ws : List Window) → windowsSound k span e ws ≡ true → SoundWindows e ws
-  unfolding windowsSound
-  windows-sound e [] h = record { window = λ i l. absurd (omega arith); from = λ i l. absurd (omega arith); apart = λ i j l m. absurd (omega arith) }
-  windows-sound e (w ∷ ws) h =
-      let (a, (b, (c, (d, (f, (r, q)))))) =
-      ands-hold (inRange (windowᶜ w)) (not (badWindow (windowᶜ w)) ∷ leb (w .end .0) span ∷ not (eqb (k .service) 0 && eqb (w .verdict) 1) ∷ leb e (w .start .0) ∷ windowsSound k span (w .end .0) ws ∷ []) h in
-      let rest = windows-sound (w .end .0) ws r in
-      let one = first b c in
-      record { window = window one rest; from = from one (leb-true e (w .start .0) f) rest; apart = apart rest }
-    where
-      first : not (badWindow (windowᶜ w)) ≡ true → leb (w .end .0) span ≡ true → SoundWindow span w
-      first b c =
-          let (o, z) = or-neither (leb (w .end .0) (w .start .0) || not (eqb (w .start .0 % 30) 0)) (not (eqb (w .end .0 % 30) 0)) b in
-          let (x, y) = or-neither (leb (w .end .0) (w .start .0)) (not (eqb (w .start .0 % 30) 0)) (ap not o) in
-          record {
-            order = leb-false (w .end .0) (w .start .0) x;
-            start = eqb-true (w .start .0 % 30) 0 (not-false (eqb (w .start .0 % 30) 0) y);
-            end = eqb-true (w .end .0 % 30) 0 (not-false (eqb (w .end .0 % 30) 0) z);
-            inside = leb-true (w .end .0) span c;
-          }
+  each-window : (e : ℕ) (ws : List Window) → T (windowsSound k span e ws) → (i : ℕ) → i < length ws → SoundWindow span (getD ws i noWindow)
+  each-window e [] t i h = absurd (omega arith)
+  each-window e (w ∷ ws) t zero h =
+      let f = windows-cons k span e w ws t .0 in record { order = f .order; start = f .start; end = f .end; inside = f .inside }
+  each-window e (w ∷ ws) t (suc i) h = each-window (w .end .0) ws (windows-cons k span e w ws t .1) i (omega arith)
 
-      window : SoundWindow span w → SoundWindows (w .end .0) ws → (i : ℕ) → i < suc (length ws) → SoundWindow span (getD (w ∷ ws) i noWindow)
-      window one rest zero l = one
-      window one rest (suc i) l = rest .window i (omega arith)
-
-      from : SoundWindow span w → e ≤ w .start .0 → SoundWindows (w .end .0) ws → (i : ℕ) → i < suc (length ws) → e ≤ getD (w ∷ ws) i noWindow .start .0
-      from one m rest zero l = m
-      from one m rest (suc i) l = omega (arith, one .order, rest .from i (omega arith))
-
-      apart : SoundWindows (w .end .0) ws → (i j : ℕ) → i < j → j < suc (length ws) → getD (w ∷ ws) i noWindow .end .0 ≤ getD (w ∷ ws) j noWindow .start .0
-      apart rest i zero l m = absurd (omega arith)
-      apart rest zero (suc j) l m = rest .from j (omega arith)
-      apart rest (suc i) (suc j) l m = rest .apart i j (omega arith) (omega arith)
+  windows-sound : (ws : List Window) → T (windowsSound k span 0 ws) → SoundWindows ws
+  windows-sound ws t = record { window = each-window 0 ws t; apart = in-order k span 0 ws t .apart }
 
   -- ---- instructions
+
   pub record SoundCall (i : Instruction) : Type 0 where
     pub three : 3 ≤ i .issue .0
     pub inside : endOf k i ≤ span
     pub steady : expiry k i ≤ i .cease .0
 
-  -- instructions one after the other, the first not before minute e
-  pub record SoundCalls (e : ℕ) (is : List Instruction) : Type 0 where
+  pub record SoundCalls (is : List Instruction) : Type 0 where
     pub call : (j : ℕ) → j < length is → SoundCall (getD is j noInstruction)
-    pub first : 0 < length is → e ≤ getD is 0 noInstruction .issue .0
     pub order : (j : ℕ) → j + 1 < length is → endOf k (getD is j noInstruction) + k .recovery .0 ≤ getD is (j + 1) noInstruction .issue .0
 
-  instructions-sound : (e : ℕ) (is : List Instruction) → instructionsSound k span e is ≡ true → SoundCalls e is
-  unfolding instructionsSound
-  instructions-sound e [] h = record { call = λ j l. absurd (omega arith); first = λ l. absurd (omega arith); order = λ j l. absurd (omega arith) }
-  instructions-sound e (i ∷ is) h =
-      let (a, (b, (c, (d, (r, q))))) =
-      ands-hold (inRange (instructionᶜ i)) (leb (endOf k i) span ∷ leb (expiry k i) (i .cease .0) ∷ leb e (i .issue .0) ∷ instructionsSound k span (endOf k i + k .recovery .0) is ∷ []) h in
-      let rest = instructions-sound (endOf k i + k .recovery .0) is r in
-      let (x, y) = on-and (from-to 3 mostMinute (i .issue .0)) (from-to 0 mostMinute (i .cease .0)) a in
-      let one : SoundCall i = record { three = in-range 3 mostMinute (i .issue .0) x .0; inside = leb-true (endOf k i) span b; steady = leb-true (expiry k i) (i .cease .0) c } in
-      record { call = call one rest; first = λ l. leb-true e (i .issue .0) d; order = order rest }
-    where
-      call : SoundCall i → SoundCalls (endOf k i + k .recovery .0) is → (j : ℕ) → j < suc (length is) → SoundCall (getD (i ∷ is) j noInstruction)
-      call one rest zero l = one
-      call one rest (suc j) l = rest .call j (omega arith)
+  each-call : (e : ℕ) (is : List Instruction) → T (instructionsSound k span e is) → (j : ℕ) → j < length is → SoundCall (getD is j noInstruction)
+  each-call e [] t j h = absurd (omega arith)
+  each-call e (i ∷ is) t zero h =
+      let f = instructions-cons k span e i is t .0 in record { three = f .issue .0; inside = f .inside; steady = f .ceased }
+  each-call e (i ∷ is) t (suc j) h = each-call (endOf k i + k .recovery .0) is (instructions-cons k span e i is t .1) j (omega arith)
 
-      order : SoundCalls (endOf k i + k .recovery .0) is → (j : ℕ) → j + 1 < suc (length is) → endOf k (getD (i ∷ is) j noInstruction) + k .recovery .0 ≤ getD (i ∷ is) (j + 1) noInstruction .issue .0
-      order rest zero l = rest .first (omega arith)
-      order rest (suc j) l = let e : suc j + 1 ≡ suc (j + 1) = omega arith in rw e (rest .order j (omega arith))
+  -- the first is not issued before minute e
+  first-after : (e : ℕ) (is : List Instruction) → T (instructionsSound k span e is) → 0 < length is → e ≤ getD is 0 noInstruction .issue .0
+  first-after e [] t h = absurd (omega arith)
+  first-after e (i ∷ is) t h = instructions-cons k span e i is t .0 .after
+
+  in-turn : (e : ℕ) (is : List Instruction) → T (instructionsSound k span e is) → (j : ℕ) → j + 1 < length is
+      → endOf k (getD is j noInstruction) + k .recovery .0 ≤ getD is (j + 1) noInstruction .issue .0
+  in-turn e [] t j h = absurd (omega arith)
+  in-turn e (i ∷ is) t zero h = first-after (endOf k i + k .recovery .0) is (instructions-cons k span e i is t .1) (omega arith)
+  in-turn e (i ∷ is) t (suc j) h =
+      let next : suc j + 1 ≡ suc (j + 1) = omega arith in
+      rw next (in-turn (endOf k i + k .recovery .0) is (instructions-cons k span e i is t .1) j (omega arith))
+
+  instructions-sound : (is : List Instruction) → T (instructionsSound k span 0 is) → SoundCalls is
+  instructions-sound is t = record { call = each-call 0 is t; order = in-turn 0 is t }
 
   -- ---- defaults
+
   pub record SoundDefault (x : Default) : Type 0 where
     pub inside : x .minute .0 < span
+    pub kind : (1 ≤ x .kind) × (x .kind ≤ 4)
     pub reach : (1 ≤ x .reach) × (x .reach ≤ 3)
 
-  default-sound : (ws : List Window) (x : Default) → defaultSound k span ws x ≡ true → SoundDefault x
-  default-sound ws x e =
-      let (a, (b, (c, q))) = ands-hold (inRange (defaultᶜ x)) (ltb (x .minute .0) span ∷ any (λ w. within w (x .minute .0)) ws ∷ []) e in
-      let (r, (s, (t, p))) = ands-hold (from-to 0 mostMinute (x .minute .0)) (from-to 1 4 (x .kind) ∷ from-to 1 3 (x .reach) ∷ []) a in
-      record { inside = ltb-true (x .minute .0) span b; reach = in-range 1 3 (x .reach) t }
+  default-sound : (ws : List Window) (x : Default) → T (defaultSound k span ws x) → SoundDefault x
+  default-sound ws x t =
+      let p = apart (inRange (defaultᶜ x)) (ltb (x .minute .0) span ∷ any (λ w. within w (x .minute .0)) ws ∷ []) t in
+      let r = apart (from-to 0 mostMinute (x .minute .0)) (from-to 1 4 (x .kind) ∷ from-to 1 3 (x .reach) ∷ []) (p .0) in
+      record { inside = ltb→lt (x .minute .0) span (p .1 .0); kind = bounds 1 4 (x .kind) (r .1 .0); reach = bounds 1 3 (x .reach) (r .1 .1 .0) }
+
+  each-default : (ws : List Window) (ds : List Default) → T (all (defaultSound k span ws) ds) → (j : ℕ) → j < length ds → SoundDefault (getD ds j noDefault)
+  unfolding all
+  each-default ws [] t j h = absurd (omega arith)
+  each-default ws (d ∷ ds) t zero h = default-sound ws d (T-and (defaultSound k span ws d) (all (defaultSound k span ws) ds) t .0)
+  each-default ws (d ∷ ds) t (suc j) h = each-default ws ds (T-and (defaultSound k span ws d) (all (defaultSound k span ws) ds) t .1) j (omega arith)
 
 -- ---- the book
+
 pub record SoundBook (b : Book) : Type 0 where
   pub counts : (b .nwindows ≤ 128) × (b .ninstructions ≤ 64) × (b .ndefaults ≤ 128)
   pub contract : SoundContract (b .contract)
   pub month : bookCells b ≤ mostMinute
-  pub windows : SoundWindows (b .contract) (bookSpan b) 0 (take (b .nwindows) (b .windows))
-  pub calls : SoundCalls (b .contract) (bookSpan b) 0 (take (b .ninstructions) (b .instructions))
-  pub defaults : (j : ℕ) → j < length (take (b .ndefaults) (b .defaults)) → SoundDefault (b .contract) (bookSpan b) (getD (take (b .ndefaults) (b .defaults)) j noDefault)
-
--- the tests beside those of the tables
-abbrev rest : Book → Bool → List Bool
-rest b a = cond a (agreedTests (b .contract) (bookSpan b) (take (b .nwindows) (b .windows)) (take (b .ninstructions) (b .instructions)) (take (b .ndefaults) (b .defaults))) (emptyTests b)
+  pub windows : SoundWindows (b .contract) (bookSpan b) (take (b .nwindows) (b .windows))
+  pub calls : SoundCalls (b .contract) (bookSpan b) (take (b .ninstructions) (b .instructions))
+  pub defaults : (j : ℕ) → j < length (take (b .ndefaults) (b .defaults))
+      → SoundDefault (b .contract) (bookSpan b) (getD (take (b .ndefaults) (b .defaults)) j noDefault)
 
 pub sound-book : (b : Book) → sound b ≡ true → b .agreed ≡ true → SoundBook b
-unfolding sound tableTests agreedTests
 sound-book b e s =
     let k : Contract = b .contract in
     let span : ℕ = bookSpan b in
-    let ws : List Window = take (b .nwindows) (b .windows) in
-    let is : List Instruction = take (b .ninstructions) (b .instructions) in
-    let ds : List Default = take (b .ndefaults) (b .defaults) in
-    let (x, y) = on-and (pass (tableTests b)) (pass (rest b (b .agreed))) e in
-    let (n₁, (n₂, (n₃, q))) = pass-hold (tableTests b) x in
-    let (c, (r, (w, (i, (d, z))))) = pass-hold (agreedTests k span ws is ds) (ap (λ v. pass (rest b v)) (sym s) ∙ y) in
+    let t = sound-parts b e .tables in
+    let p = sound-used b e s in
     record {
-      counts = (leb-true (b .nwindows) 128 n₁, leb-true (b .ninstructions) 64 n₂, leb-true (b .ndefaults) 128 n₃);
-      contract = contract-sound k c r;
+      counts = (t .windows, t .instructions, t .defaults);
+      contract = contract-sound k (p .operands) (p .ramps);
       month = cells-most b e;
-      windows = windows-sound k span 0 ws w;
-      calls = instructions-sound k span 0 is i;
-      defaults = λ j h. default-sound k span ws (getD ds j noDefault) (all-at (defaultSound k span ws) noDefault ds d j h);
+      windows = windows-sound k span (take (b .nwindows) (b .windows)) (p .windows);
+      calls = instructions-sound k span (take (b .ninstructions) (b .instructions)) (p .instructions);
+      defaults = each-default k span (take (b .nwindows) (b .windows)) (take (b .ndefaults) (b .defaults)) (p .defaults);
     }
 
 -- a closed book has a contract
 pub closed-agreed : (b : Book) → sound b ≡ true → b .closed ≡ true → b .agreed ≡ true
-unfolding sound emptyTests
-closed-agreed b e c = let (x, y) = on-and (pass (tableTests b)) (pass (rest b (b .agreed))) e in go (b .agreed) y
+closed-agreed b e c = go (b .agreed) refl
   where
-    go : (s : Bool) → pass (rest b s) ≡ true → s ≡ true
-    go true y = refl
-    go false y = let (k, (n, q)) = pass-hold (emptyTests b) y in sym (not-true (b .closed) n) ∙ c
+    go : (s : Bool) → b .agreed ≡ s → s ≡ true
+    go true q = refl
+    go false q = absurd (true≢false (sym c ∙ sound-empty b e q .notClosed))

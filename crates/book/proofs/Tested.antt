@@ -64,7 +64,8 @@ tables-pass b t =
 -- the tests of what is in the tables, with a contract or without
 abbrev pub contents : Book → Bool → List Bool
 contents b c =
-    cond c (agreedTests (b .contract) (bookSpan b) (take (b .nwindows) (b .windows)) (take (b .ninstructions) (b .instructions)) (take (b .ndefaults) (b .defaults)))
+    cond c (agreedTests (b .contract) (bookSpan b) (take (b .nwindows) (b .windows)) (take (b .ninstructions) (b .instructions))
+    (take (b .ndefaults) (b .defaults)))
     (emptyTests b)
 
 pub record Sound (b : Book) : Type 0 where

@@ -9,7 +9,7 @@ use Rattle.rules.specs.Ledger.{Ledger, noContract, spanOf}
 use Rattle.commands.specs.Command.{onContract, onWindow, onInstruction, onDefault, onClose, always}
 use Rattle.commands.specs.declared.entries.Command.{Command}
 pub use Rattle.rules.specs.Ledger.{noWindow, noInstruction, noDefault}
-use Rattle.book_memory.specs.Meter.{cell, Memory, kwAt}
+use Rattle.book_memory.specs.Meter.{cellReading, Memory, kwAt}
 use Rattle.book.specs.declared.Book.{Book}
 
 -- the empty book: no contract, and zeros
@@ -46,7 +46,7 @@ ledgerIn b meter =
       instructions = take (b .ninstructions) (b .instructions);
       defaults = take (b .ndefaults) (b .defaults);
       closed = b .closed;
-      reading = λ m. cond (ltb m (bookSpan b)) (cell (kwAt meter m)) none;
+      reading = λ m. cond (ltb m (bookSpan b)) (cellReading (kwAt meter m)) none;
     }
 
 -- ---- a taken command put into the book

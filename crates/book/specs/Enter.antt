@@ -16,10 +16,18 @@ pub record Entered : Type 0 where
   pub entry : Entry
   pub meter : Memory
 
+-- a command was taken, and this is the book after it
+abbrev pub takenAs : Book → Entry
+takenAs b = record { answer = answerOf none; book = b }
+
+-- a command was refused under a number, and this is the book as it was
+abbrev pub refusedAs : ℕ → Book → Entry
+refusedAs n b = record { answer = answerOf (some n); book = b }
+
 -- a command refused under a number changes nothing; one that is not is put into both
 abbrev pub enteredBy : Option ℕ → Book → Memory → Command → Entered
-enteredBy none b meter c = record { entry = record { answer = answerOf none; book = putBook b c }; meter = putMeter meter c }
-enteredBy (some n) b meter c = record { entry = record { answer = answerOf (some n); book = b }; meter = meter }
+enteredBy none b meter c = record { entry = takenAs (putBook b c); meter = putMeter meter c }
+enteredBy (some n) b meter c = record { entry = refusedAs n b; meter = meter }
 
 -- entering a command
 unfoldable pub enterBook : Book → Memory → Command → Entered
@@ -29,3 +37,7 @@ enterBook b meter c = enteredBy (refusal (not (sound b)) (roomIn meter) (ledgerI
 pub record Enters (b : Book) (before : Memory) (c : Command) (e : Entry) (after : Memory) : Type 0 where
   pub entry : e ≡ enterBook b before c .entry
   pub meter : after ≡ enterBook b before c .meter
+
+-- the same of an entry that leaves lent memory as it is, whatever memory of that room is lent
+abbrev pub EntersAt : Book → ℕ → Command → Entry → Type 0
+EntersAt b room c e = (meter : Memory) → roomIn meter ≡ room → Enters b meter c e meter

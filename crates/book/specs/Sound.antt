@@ -16,7 +16,7 @@ use Rattle.commands.specs.declared.entries.Command.{Command}
 use Rattle.book.specs.declared.Book.{Book}
 
 -- some list of commands, with meter memory of some length, leaves the book
-pub record Left (b : Book) : Type 0 where
+pub record FromCommands (b : Book) : Type 0 where
   pub size : ℕ
   pub commands : List Command
   pub leaves : b ≡ putAll emptyBook (taken size commands)
@@ -55,5 +55,5 @@ sound b =
     (emptyTests b))
 
 -- the test is what document 01 words
-unfoldable pub Left·theorem : Type 0
-Left·theorem = (b : Book) → Shaped b → T (sound b) ↔ Left b
+unfoldable pub Sound·theorem : Type 0
+Sound·theorem = (b : Book) → Shaped b → T (sound b) ↔ FromCommands b

@@ -37,7 +37,7 @@ impl Book {
             issue: zero,
             cease: zero,
         };
-        let fault = Default {
+        let default = Default {
             minute: zero,
             kind: 0,
             reach: 0,
@@ -50,7 +50,7 @@ impl Book {
             nwindows: 0,
             instructions: [instruction; 64],
             ninstructions: 0,
-            defaults: [fault; 128],
+            defaults: [default; 128],
             ndefaults: 0,
         }
     }

@@ -1,55 +1,42 @@
-// Any command: asked for its refusal, then put into memory and into the book.
+// Any command: each kind by its own method. Whoever enters a list of commands tests once whether the book is sound.
 ghost use mathlib.Core.Path.{_≡_};
 ghost use mathlib.Core.Bool.{true};
 ghost use Rattle.book_memory.specs.Meter.{lent};
-ghost use Rattle.book.specs.Enter.{Enters, enterBook};
-ghost use Rattle.book.specs.Sound.{sound};
+ghost use Rattle.book.specs.Enter.{Enters};
+ghost use Rattle.book.specs.Sound.{sound as soundOf};
 use crate::Book;
 use crate::Entry;
-use crate::put::put_memory;
 use commands::entries::Command;
 
 impl Book {
     // Enters a command.
-    pub fn enter(self, c: Command, meter: &mut [i32]) -> Entry
+    pub fn enter(mut self, c: Command, meter: &mut [i32]) -> Entry
         ensures { λ r. ⌜ Enters self (lent (now (meter .entry))) c r (lent (now (meter .exit))) ⌝ }
     {
-        let left = self.sound();
-        self.enter_command(left, c, meter)
+        let sound = self.sound();
+        self.enter_command(sound, c, meter)
     }
 
-    // The same for a book that commands leave, as each of a list of them does: 11 is not tested again.
-    pub fn enter_known(self, c: Command, meter: &mut [i32]) -> Entry
-        requires { ⌜ sound self ≡ true ⌝ }
+    // The same for a sound book, as each is that a list of commands leaves: 11 is not tested again.
+    pub fn enter_known(mut self, c: Command, meter: &mut [i32]) -> Entry
+        requires { ⌜ soundOf self ≡ true ⌝ }
         ensures { λ r. ⌜ Enters self (lent (now (meter .entry))) c r (lent (now (meter .exit))) ⌝ }
     {
         self.enter_command(true, c, meter)
     }
 
-    // The same where it is known whether commands leave the book.
-    fn enter_command(self, left: bool, c: Command, meter: &mut [i32]) -> Entry
-        requires { ⌜ left ≡ sound self ⌝ }
+    // The same where it is known whether the book is sound.
+    fn enter_command(mut self, sound: bool, c: Command, meter: &mut [i32]) -> Entry
+        requires { ⌜ sound ≡ soundOf self ⌝ }
         ensures { λ r. ⌜ Enters self (lent (now (meter .entry))) c r (lent (now (meter .exit))) ⌝ }
     {
-        let met = self.refusal(left, c, meter);
-        if met != 0 {
-            return self.refused(met);
+        match c {
+            Command::Contract(k) => self.enter_contract(sound, k, meter),
+            Command::Window(w) => self.enter_window(sound, w, meter.len()),
+            Command::Instruction(i) => self.enter_instruction(sound, i, meter.len()),
+            Command::Default(d) => self.enter_default(sound, d, meter.len()),
+            Command::Reading(r) => self.enter_reading(sound, r, meter),
+            Command::Close => self.enter_close(sound, meter.len()),
         }
-        put_memory(c, meter);
-        let b = self.put(c);
-        b.taken()
-    }
-
-    // The entry of a command that leaves memory as it is.
-    pub(crate) fn enter_entry(self, c: Command, meter: &[i32]) -> Entry
-        ensures { λ r. ⌜ r ≡ enterBook self (lent (now (meter .entry))) c .entry ⌝ }
-    {
-        let left = self.sound();
-        let number = self.refusal(left, c, meter);
-        if number != 0 {
-            return self.refused(number);
-        }
-        let b = self.put(c);
-        b.taken()
     }
 }

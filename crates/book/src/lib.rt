@@ -1,15 +1,19 @@
 // The book of one unit: what has been entered, by value, and one method for each entry.
 //
-// Each method tests whether commands leave the book at all (11). A command is then asked for its refusal, and where it meets none put into lent
-// memory and into the book. Whoever enters a list of commands tests once and goes by `enter_known`; a reading among them goes by
-// `book_memory::take_reading`, which is not handed the book.
+// Each method asks what its entry meets at the book, and where that is nothing puts it: into the book, and a contract's marks and a reading
+// into lent memory. It first tests whether the book is sound (11). Whoever enters a list of commands tests once and goes by `enter_known`,
+// which is the same code; a reading among them goes by `book_memory::take_reading`, which is not handed the book.
+mod answers;
+mod closing;
+mod contracts;
+mod defaults;
 mod empty;
 mod enter;
-mod entries;
-mod put;
-mod refusals;
+mod instructions;
+mod readings;
 mod sound;
 mod span;
+mod windows;
 
 use commands::contract::Contract;
 use commands::entries::Default;

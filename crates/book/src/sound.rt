@@ -11,7 +11,7 @@ use book_sound::windows::windows_unused;
 use commands::contract::Contract;
 
 impl Book {
-    // Whether commands leave this book.
+    // Whether some list of commands leaves this book.
     pub fn sound(self) -> bool
         ensures { λ r. ⌜ r ≡ sound self ⌝ }
     {

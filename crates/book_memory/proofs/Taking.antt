@@ -27,8 +27,10 @@ tests span meter r t =
     record { input = o .0; inside = ltb-true m span (o .1); held = ltb-true m (roomIn meter) (q .1); unread = not-true (isReading (kwAt meter m)) (p .1) }
 
 -- such a reading has a cell, and fits it
-pub taken-fits : (span : ℕ) (meter : Memory) (r : Reading) → takesReading span meter (readingᶜ r) ≡ true → (r .minute .0 < roomIn meter) × T (isReading (r .kw .0))
+pub taken-fits : (span : ℕ) (meter : Memory) (r : Reading) → takesReading span meter (readingᶜ r) ≡ true
+    → (r .minute .0 < roomIn meter) × T (isReading (r .kw .0))
 taken-fits span meter r t =
     let p = tests span meter r t in
-    let n : inRange (readingᶜ r) ≡ true = on-and (inRange (readingᶜ r)) (not (rampTooLong (readingᶜ r)) && not (badWindow (readingᶜ r))) (sym (input-none (readingᶜ r)) ∙ p .input) .0 in
+    let n : inRange (readingᶜ r) ≡ true =
+    on-and (inRange (readingᶜ r)) (not (rampTooLong (readingᶜ r)) && not (badWindow (readingᶜ r))) (sym (input-none (readingᶜ r)) ∙ p .input) .0 in
     (p .held, to-T (on-and (from-to 0 mostMinute (r .minute .0)) (isReading (r .kw .0)) n .1))

@@ -17,8 +17,8 @@ abbrev pub missing : ℤ
 missing = negsuc 2147483647
 
 -- a cell's reading: none where it is outside the range
-abbrev pub cell : ℤ → Option ℤ
-cell z = cond (isReading z) (some z) none
+abbrev pub cellReading : ℤ → Option ℤ
+cellReading z = cond (isReading z) (some z) none
 
 -- ---- lent memory
 

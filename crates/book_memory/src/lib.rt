@@ -4,9 +4,9 @@ ghost use mathlib.Core.Bool.{cond};
 ghost use mathlib.Core.List.{_++_};
 ghost use Prim.Native.Nat.{_<_, _≤_};
 ghost use lib.Dec.{T};
-ghost use lib.ListN.{length, getD, set, drop, replicate};
+ghost use lib.ListN.{length, set, drop, replicate};
 ghost use Rattle.commands.specs.Input.{isReading};
-ghost use Rattle.book_memory.specs.Meter.{missing, lent, putMeter, takesReading};
+ghost use Rattle.book_memory.specs.Meter.{missing, lent, kwAt, putMeter, takesReading};
 use commands::checks::kw_from_to;
 use commands::contract::Contract;
 use commands::entries::Command;
@@ -50,14 +50,26 @@ fn is_taken(span: usize, r: Reading, meter: &[i32]) -> bool
     if meter.len() <= at {
         return false;
     }
-    let held = cell(meter, minute);
-    let full = kw_from_to(Contract::READING_LEAST, Contract::READING_MOST, held);
-    (r.input_refusal() == 0) & (at < span) & !full
+    (r.input_refusal() == 0) & (at < span) & !has_reading(meter, minute)
 }
 
-// The cell of a minute; past the end it counts as marked.
-pub fn cell(meter: &[i32], m: Minutes) -> Kw
-    ensures { λ r. ⌜ r .0 ≡ getD (now (meter .entry)) (m .0) missing ⌝ }
+// Whether a minute's cell holds a reading.
+pub fn has_reading(meter: &[i32], m: Minutes) -> bool
+    ensures { λ r. ⌜ r ≡ isReading (kwAt (lent (now (meter .entry))) (m .0)) ⌝ }
+{
+    is_reading(kw_at(meter, m))
+}
+
+// Whether a kW is a reading: in its range, which the mark of a minute without one is not.
+pub fn is_reading(kw: Kw) -> bool
+    ensures { λ r. ⌜ r ≡ isReading (kw .0) ⌝ }
+{
+    kw_from_to(Contract::READING_LEAST, Contract::READING_MOST, kw)
+}
+
+// The kW in a minute's cell, which past the end counts as marked.
+fn kw_at(meter: &[i32], m: Minutes) -> Kw
+    ensures { λ r. ⌜ r .0 ≡ kwAt (lent (now (meter .entry))) (m .0) ⌝ }
 {
     let at = m.0 as usize;
     if at < meter.len() {

@@ -1,10 +1,9 @@
 // A default after those of the table.
 ghost use mathlib.Core.Path.{_≡_};
-ghost use mathlib.Core.Bool.{true};
 ghost use Prim.Native.Nat.{_≤_};
 ghost use lib.ListN.{take};
-ghost use Rattle.rules.specs.Reached.{windowsSound};
-ghost use Rattle.book_refusal.specs.Numbers.{defaultNumber};
+ghost use Rattle.book_sound.specs.Columns.{InOrder};
+ghost use Rattle.book_refusal.specs.Refusals.{defaultRefusal};
 use book_sound::defaults::in_window;
 use commands::checks::pick;
 use commands::contract::Contract;
@@ -12,19 +11,12 @@ use commands::entries::Default;
 use commands::entries::Window;
 
 // 16, 21 and 23, beside the first w windows and after n defaults.
-pub fn default_number(
-    k: Contract,
-    span: usize,
-    windows: [Window; 128],
-    w: usize,
-    n: usize,
-    d: Default,
-) -> u8
-    requires { ⌜ (w ≤ 128) × (windowsSound k span 0 (take w windows) ≡ true) ⌝ }
-    ensures { λ r. ⌜ r ≡ defaultNumber span (take w windows) n d ⌝ }
+pub fn default_refusal(span: usize, windows: [Window; 128], w: usize, n: usize, d: Default) -> u8
+    requires { ⌜ (w ≤ 128) × InOrder 0 (take w windows) ⌝ }
+    ensures { λ r. ⌜ r ≡ defaultRefusal span (take w windows) n d ⌝ }
 {
     let minute = d.minute;
-    let inside = in_window(k, span, windows, w, minute);
+    let inside = in_window(windows, w, minute);
     let beyond = span <= minute.0 as usize;
     let full = Contract::DEFAULTS_MOST <= n;
     let r23 = pick(full, 23, 0);

@@ -1,32 +1,30 @@
 // An instruction after those of the table.
 ghost use mathlib.Core.Path.{_≡_};
 ghost use mathlib.Core.Bool.{true};
-ghost use Prim.Native.Nat.{_≤_};
-ghost use lib.ListN.{take};
 ghost use Rattle.commands.specs.Input.{downMinutes, inRange};
-ghost use Rattle.rules.specs.Refusal.{recovered};
-ghost use Rattle.book_refusal.specs.Numbers.{instructionNumber};
-use book_sound::instructions::down_minutes;
+ghost use Rattle.book_refusal.specs.Refusals.{readyAfter, instructionRefusal};
 use commands::checks::pick;
 use commands::contract::Contract;
 use commands::entries::Command;
 use commands::entries::Instruction;
+use commands::entries::end_of;
 
-// 16, 19, 20 and 23, after the first n instructions.
-pub fn instruction_number(
+// 16, 19, 20 and 23, after n instructions. Where there are any, this is the last of them.
+pub fn instruction_refusal(
     k: Contract,
     span: usize,
-    instructions: [Instruction; 64],
+    last: Instruction,
     n: usize,
     i: Instruction,
 ) -> u8
-    requires { ⌜ (n ≤ 64) × (inRange (Command.Contract k) ≡ true) ⌝ }
-    ensures { λ r. ⌜ r ≡ instructionNumber k span (take n instructions) i ⌝ }
+    requires { ⌜ inRange (Command.Contract k) ≡ true ⌝ }
+    ensures { λ r. ⌜ r ≡ instructionRefusal k span (readyAfter k n last) n i ⌝ }
 {
-    let down = down_minutes(k);
-    let ready = ready(k, down, instructions, n);
-    let beyond = span < i.cease.0 as usize + down as usize;
-    let ceased = (i.cease.0 as usize) < i.issue.0 as usize + k.response.0 as usize;
+    let down = k.ramp_down_minutes();
+    let ready = ready_after(k, down, last, n);
+    let cease = i.cease;
+    let beyond = span < end_of(cease, down);
+    let ceased = (cease.0 as usize) < i.issue.0 as usize + k.response.0 as usize;
     let early = (i.issue.0 as usize) < ready;
     let full = Contract::INSTRUCTIONS_MOST <= n;
     let r23 = pick(full, 23, 0);
@@ -35,16 +33,14 @@ pub fn instruction_number(
     pick(beyond, 16, r19)
 }
 
-// The end of the last of the first n instructions plus recovery, 0 where there is none.
-fn ready(k: Contract, down: u32, instructions: [Instruction; 64], n: usize) -> usize
-    requires { ⌜ (n ≤ 64) × (down ≡ downMinutes k) ⌝ }
-    ensures { λ r. ⌜ r ≡ recovered k (take n instructions) ⌝ }
+// The end of the last of n instructions plus recovery, 0 where there is none.
+fn ready_after(k: Contract, down: u32, last: Instruction, n: usize) -> usize
+    requires { ⌜ down ≡ downMinutes k ⌝ }
+    ensures { λ r. ⌜ r ≡ readyAfter k n last ⌝ }
 {
-    let recovery = k.recovery.0 as usize;
     if n == 0 {
         return 0;
     }
-    let at = n - 1;
-    let i = instructions[at];
-    i.cease.0 as usize + down as usize + recovery
+    let cease = last.cease;
+    end_of(cease, down) + k.recovery.0 as usize
 }

@@ -1,6 +1,6 @@
-// What a command meets at a book as one number, 0 for none: each function on what it needs of the book, and none on the whole of it.
+// What a command meets at a book as one number, 0 for none: each function on the few numbers that it needs of the book.
+pub mod any;
 pub mod defaults;
-pub mod first;
 pub mod instructions;
 pub mod readings;
 pub mod windows;

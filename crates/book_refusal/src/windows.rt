@@ -1,23 +1,18 @@
 // A window after those of the table.
 ghost use mathlib.Core.Path.{_≡_};
-ghost use Prim.Native.Nat.{_≤_};
-ghost use lib.ListN.{take};
-ghost use Rattle.energy.specs.Lists.{last};
-ghost use Rattle.rules.specs.Ledger.{noWindow};
-ghost use Rattle.book_refusal.specs.Numbers.{windowNumber};
+ghost use Rattle.book_refusal.specs.Refusals.{windowsEnd, windowRefusal};
 use commands::checks::pick;
 use commands::contract::Contract;
 use commands::entries::Window;
 use energy::units::Minutes;
 
-// 16, 17, 18 and 23, after the first n windows.
-pub fn window_number(k: Contract, span: usize, windows: [Window; 128], n: usize, w: Window) -> u8
-    requires { ⌜ n ≤ 128 ⌝ }
-    ensures { λ r. ⌜ r ≡ windowNumber k span (take n windows) w ⌝ }
+// 16, 17, 18 and 23, after n windows. Where there are any, this is the last of them.
+pub fn window_refusal(service: u8, span: usize, last: Window, n: usize, w: Window) -> u8
+    ensures { λ r. ⌜ r ≡ windowRefusal service span (windowsEnd n last) n w ⌝ }
 {
-    let end = last_end(windows, n);
+    let end = windows_end(last, n);
     let beyond = span < w.end.0 as usize;
-    let rejected = (k.service == Contract::COMMITTED) & (w.verdict == Contract::REJECTED);
+    let rejected = (service == Contract::COMMITTED) & (w.verdict == Contract::REJECTED);
     let overlaps = w.start.0 < end.0;
     let full = Contract::WINDOWS_MOST <= n;
     let r23 = pick(full, 23, 0);
@@ -26,15 +21,12 @@ pub fn window_number(k: Contract, span: usize, windows: [Window; 128], n: usize,
     pick(beyond, 16, r17)
 }
 
-// The end of the last of the first n windows, 0 where there is none.
-fn last_end(windows: [Window; 128], n: usize) -> Minutes
-    requires { ⌜ n ≤ 128 ⌝ }
-    ensures { λ r. ⌜ r .0 ≡ last noWindow (take n windows) .end .0 ⌝ }
+// The end of the last of n windows, 0 where there is none.
+fn windows_end(last: Window, n: usize) -> Minutes
+    ensures { λ r. ⌜ r .0 ≡ windowsEnd n last ⌝ }
 {
     if n == 0 {
         return Minutes(0);
     }
-    let at = n - 1;
-    let w = windows[at];
-    w.end
+    last.end
 }

@@ -18,7 +18,7 @@ use Rattle.commands.specs.declared.contract.Contract.{Contract}
 use Rattle.commands.specs.declared.entries.Window.{Window}
 use Rattle.rules.proofs.Tables.{WindowFits, windows-cons}
 use Rattle.book_sound.proofs.Tables.{same-test}
-use Rattle.book_sound.specs.Columns.{Rising, Ordered, Held, Started}
+use Rattle.book_sound.specs.Columns.{InOrder, Rising, Ordered, Held, Started}
 
 -- ---- an element that a test holds of
 
@@ -80,12 +80,6 @@ module _ {starts ends : List ℕ} {n : ℕ} (o : Ordered starts ends n) where
 
 -- ---- windows that could be entered
 
--- each is some minutes long, after minute e, and after the one before
-record InOrder (e : ℕ) (ws : List Window) : Type 0 where
-  some : (i : ℕ) → i < length ws → getD ws i noWindow .start .0 < getD ws i noWindow .end .0
-  after : (i : ℕ) → i < length ws → e ≤ getD ws i noWindow .start .0
-  apart : (i j : ℕ) → i < j → j < length ws → getD ws i noWindow .end .0 ≤ getD ws j noWindow .start .0
-
 -- one window before windows in order
 before-all : (k : Contract) (span e : ℕ) (w : Window) (ws : List Window) → WindowFits k span e w → InOrder (w .end .0) ws → InOrder e (w ∷ ws)
 before-all k span e w ws f r = record { some = some; after = after; apart = apart }
@@ -103,7 +97,7 @@ before-all k span e w ws f r = record { some = some; after = after; apart = apar
     apart zero (suc j) h l = r .after j (omega arith)
     apart (suc i) (suc j) h l = r .apart i j (omega arith) (omega arith)
 
-in-order : (k : Contract) (span e : ℕ) (ws : List Window) → T (windowsSound k span e ws) → InOrder e ws
+pub in-order : (k : Contract) (span e : ℕ) (ws : List Window) → T (windowsSound k span e ws) → InOrder e ws
 in-order k span e [] t = record { some = λ i h. absurd (omega arith); after = λ i h. absurd (omega arith); apart = λ i j h l. absurd (omega arith) }
 in-order k span e (w ∷ ws) t = let (f, rest) = windows-cons k span e w ws t in before-all k span e w ws f (in-order k span (w .end .0) ws rest)
 
@@ -118,10 +112,9 @@ module _ (ws : List Window) (n : ℕ) (fits : n ≤ length ws) where
   at-column : (f : Window → ℕ) → f noWindow ≡ 0 → (i : ℕ) → i < n → getD (map f ws) i 0 ≡ f (getD (take n ws) i noWindow)
   at-column f z i h = ap (λ x. getD (map f ws) i x) (sym z) ∙ List·getD-map f ws i noWindow ∙ ap f (sym (getD-take n ws i noWindow h))
 
-  -- the columns of windows that could be entered
-  pub ordered : (k : Contract) (span : ℕ) → T (windowsSound k span 0 (take n ws)) → Ordered (map startOf ws) (map endsAt ws) n
-  ordered k span t =
-      let o : InOrder 0 (take n ws) = in-order k span 0 (take n ws) t in
+  -- the columns of windows in order
+  pub ordered : InOrder 0 (take n ws) → Ordered (map startOf ws) (map endsAt ws) n
+  ordered o =
       let m : length (take n ws) ≡ n = length-take-le n ws fits in
       record {
         some = λ i h. rw (at-column startOf refl i h, at-column endsAt refl i h) (o .some i (omega arith));

@@ -39,7 +39,8 @@ default-input d = input-none (defaultᶜ d) ∙ and-true (inRange (defaultᶜ d)
 
 -- ---- a table is sound where its first entry is, and the rest after it
 
-windows-first : (k : Contract) (span e : ℕ) (w : Window) (ws : List Window) → windowsSound k span e (w ∷ ws) ≡ (windowsSound k span e (w ∷ []) && windowsSound k span (w .end .0) ws)
+windows-first : (k : Contract) (span e : ℕ) (w : Window) (ws : List Window)
+    → windowsSound k span e (w ∷ ws) ≡ (windowsSound k span e (w ∷ []) && windowsSound k span (w .end .0) ws)
 unfolding windowsSound
 windows-first k span e w ws = rw and-true
 
@@ -50,7 +51,8 @@ instructions-first k span e i is = rw and-true
 
 -- ---- a walk at entry i of the first n: what it has still to find is what it was asked
 
-module _ {a : Bool} (k : Contract) (span e : ℕ) (ws : List Window) (i n : ℕ) (h : i < n) (r : n ≤ length ws) (inv : a ≡ windowsSound k span e (slice i n ws)) where
+module _ {a : Bool} (k : Contract) (span e : ℕ) (ws : List Window) (i n : ℕ) (h : i < n) (r : n ≤ length ws)
+    (inv : a ≡ windowsSound k span e (slice i n ws)) where
   abbrev window : Window
   window = getD ws i noWindow
 
@@ -63,7 +65,8 @@ module _ {a : Bool} (k : Contract) (span e : ℕ) (ws : List Window) (i n : ℕ)
   pub windows-on : windowsSound k span e (window ∷ []) ≡ true → a ≡ windowsSound k span (window .end .0) (slice (i + 1) n ws)
   windows-on q = window-turn ∙ rw q
 
-module _ {a : Bool} (k : Contract) (span e : ℕ) (is : List Instruction) (i n : ℕ) (h : i < n) (r : n ≤ length is) (inv : a ≡ instructionsSound k span e (slice i n is)) where
+module _ {a : Bool} (k : Contract) (span e : ℕ) (is : List Instruction) (i n : ℕ) (h : i < n) (r : n ≤ length is)
+    (inv : a ≡ instructionsSound k span e (slice i n is)) where
   abbrev instruction : Instruction
   instruction = getD is i noInstruction
 
@@ -73,7 +76,8 @@ module _ {a : Bool} (k : Contract) (span e : ℕ) (is : List Instruction) (i n :
   pub instructions-fail : instructionsSound k span e (instruction ∷ []) ≡ false → false ≡ a
   instructions-fail q = sym (instruction-turn ∙ rw q)
 
-  pub instructions-on : instructionsSound k span e (instruction ∷ []) ≡ true → a ≡ instructionsSound k span (endOf k instruction + k .recovery .0) (slice (i + 1) n is)
+  pub instructions-on : instructionsSound k span e (instruction ∷ []) ≡ true
+      → a ≡ instructionsSound k span (endOf k instruction + k .recovery .0) (slice (i + 1) n is)
   instructions-on q = instruction-turn ∙ rw q
 
 -- when an instruction may be issued, by the last one

@@ -1,7 +1,15 @@
--- The windows' times as columns, and the place of a minute among them.
+-- Windows in order, their times as columns, and the place of a minute among them.
 use mathlib.Core.List.{List}
 use Prim.Native.Nat.{ℕ, _≤_, _<_}
-use lib.ListN.{getD}
+use lib.ListN.{length, getD}
+use Rattle.commands.specs.declared.entries.Window.{Window}
+use Rattle.rules.specs.Ledger.{noWindow}
+
+-- each window is some minutes long, from minute e on, and from the end of every one before it on
+pub record InOrder (e : ℕ) (ws : List Window) : Type 0 where
+  pub some : (i : ℕ) → i < length ws → getD ws i noWindow .start .0 < getD ws i noWindow .end .0
+  pub after : (i : ℕ) → i < length ws → e ≤ getD ws i noWindow .start .0
+  pub apart : (i j : ℕ) → i < j → j < length ws → getD ws i noWindow .end .0 ≤ getD ws j noWindow .start .0
 
 -- the first n numbers never fall
 pub record Rising (starts : List ℕ) (n : ℕ) : Type 0 where

@@ -11,23 +11,16 @@ ghost use Rattle.book_sound.specs.Unused.{isNoInstruction};
 use commands::contract::Contract;
 use commands::entries::Command;
 use commands::entries::Instruction;
-use energy::ramp::ramp_minutes;
-
-// The minutes of the ramp down.
-pub fn down_minutes(k: Contract) -> u32
-    requires { ⌜ inRange (Command.Contract k) ≡ true ⌝ }
-    ensures { λ r. ⌜ r ≡ downMinutes k ⌝ }
-{
-    ramp_minutes(k.contracted.0 as u32, k.rampdown)
-}
+use commands::entries::end_of;
 
 // Whether an instruction could be entered under a contract with this span, where none may be issued before a minute.
 fn instruction_fits(k: Contract, span: usize, down: u32, ready: usize, i: Instruction) -> bool
     requires { ⌜ down ≡ downMinutes k ⌝ }
     ensures { λ r. ⌜ r ≡ instructionsSound k span ready (i ∷ []) ⌝ }
 {
+    let cease = i.cease;
     (i.input_refusal() == 0)
-        & (i.cease.0 as usize + down as usize <= span)
+        & (end_of(cease, down) <= span)
         & (i.issue.0 as usize + k.response.0 as usize <= i.cease.0 as usize)
         & (ready <= i.issue.0 as usize)
 }
@@ -42,7 +35,7 @@ pub fn instructions_sound(
     requires { ⌜ (n ≤ 64) × (inRange (Command.Contract k) ≡ true) ⌝ }
     ensures { λ r. ⌜ r ≡ instructionsSound k span 0 (take n instructions) ⌝ }
 {
-    let down = down_minutes(k);
+    let down = k.ramp_down_minutes();
     let mut ready = 0;
     let mut x = 0;
     while x < n {
@@ -51,7 +44,8 @@ pub fn instructions_sound(
         if !fits {
             return false;
         }
-        ready = i.cease.0 as usize + down as usize + k.recovery.0 as usize;
+        let cease = i.cease;
+        ready = end_of(cease, down) + k.recovery.0 as usize;
         x += 1;
     }
     true

@@ -1,15 +1,17 @@
 -- Laws of the refusals from the input: how they come out as one number, and how the first of two lists of conditions gives it.
 use mathlib.Core.Path.{_≡_, refl, sym, ap, _∙_}
 use mathlib.Core.Logic.{_≢_}
-use mathlib.Core.Bool.{Bool, true, false, not, _&&_, cond, and-false}
+use mathlib.Core.Bool.{Bool, true, false, not, _&&_, cond, and-false, true≢false}
 use mathlib.Core.List.{List, [], _∷_, _++_}
 use mathlib.Core.Option.{Option, none, some}
 use Prim.Native.Nat.{ℕ, zero, suc, _≤_, _<_}
+use native.Mathlib.Omega.{arith}
 use lib.Dec.{eqb, leb}
 use borrow.Author.Tests.{le-leb, lt-leb}
 use Rattle.energy.specs.Lists.{later}
 use Rattle.commands.specs.Input.{from-to, inRange, rampTooLong, badWindow, Condition, _when_, inputConditions, lowest, inputRefusal, orZero, offerFor, offerOf}
 use Rattle.commands.specs.declared.contract.Contract.{Contract}
+use Rattle.commands.specs.declared.contract.Offer.{Offer}
 use Rattle.commands.specs.declared.contract.Offer.the-variants.{Agreed, Refused}
 use Rattle.commands.specs.declared.entries.Command.{Command}
 use Rattle.commands.specs.declared.entries.Command.the-variants.{Contract as contractᶜ}
@@ -27,7 +29,8 @@ input-cond c = go (not (inRange c)) (rampTooLong c) (badWindow c)
     go false false false = refl
 
 -- the number from the test of the range, and that of the conditions after it
-pub input-picked : (c : Command) {b : Bool} {r n : ℕ} → r ≡ cond (not b) 3 n → b ≡ inRange c → n ≡ cond (rampTooLong c) 4 (cond (badWindow c) 5 0) → r ≡ inputRefusal c
+pub input-picked : (c : Command) {b : Bool} {r n : ℕ} → r ≡ cond (not b) 3 n → b ≡ inRange c → n ≡ cond (rampTooLong c) 4 (cond (badWindow c) 5 0)
+    → r ≡ inputRefusal c
 input-picked c e f g = e ∙ (λ i. cond (not (f i)) 3 (g i)) ∙ sym (input-cond c)
 
 -- an operand outside its range comes first
@@ -86,6 +89,31 @@ offer-agreed k e = sym (ap (offerFor k) (input-number (contractᶜ k) ∙ ap num
 pub offer-refused : (k : Contract) → inputRefusal (contractᶜ k) ≢ 0 → Refused (inputRefusal (contractᶜ k)) ≡ offerOf k
 unfolding offerOf
 offer-refused k h = sym (ap (offerFor k) (input-number (contractᶜ k) ∙ numbered-some (inputRefusal (contractᶜ k)) h))
+
+-- an offer is one or the other
+abbrev isAgreed : Offer → Bool
+isAgreed (Agreed k) = true
+isAgreed (Refused n) = false
+
+agreed-not-refused : {k : Contract} {n : ℕ} → Agreed k ≡ Refused n → ⊥
+agreed-not-refused e = true≢false (ap isAgreed e)
+
+-- the number that an offer gives: that of the operands, or none where they are agreed to
+pub offer-says : (k : Contract) (n : ℕ) → offerOf k ≡ Refused n → (inputRefusal (contractᶜ k) ≡ n) × (n ≢ 0)
+unfolding offerOf
+offer-says k n e = go (inputRefusal (contractᶜ k)) (sym (ap (offerFor k) (input-number (contractᶜ k))) ∙ e)
+  where
+    go : (x : ℕ) → offerFor k (numbered x) ≡ Refused n → (x ≡ n) × (n ≢ 0)
+    go zero q = absurd (agreed-not-refused q)
+    go (suc x) q = let same : suc x ≡ n = cc in (same, λ z. omega arith)
+
+pub offer-agrees : (k a : Contract) → offerOf k ≡ Agreed a → (k ≡ a) × (inputRefusal (contractᶜ k) ≡ 0)
+unfolding offerOf
+offer-agrees k a e = go (inputRefusal (contractᶜ k)) (sym (ap (offerFor k) (input-number (contractᶜ k))) ∙ e)
+  where
+    go : (x : ℕ) → offerFor k (numbered x) ≡ Agreed a → (k ≡ a) × (x ≡ 0)
+    go zero q = (cc, refl)
+    go (suc x) q = absurd (agreed-not-refused (sym q))
 
 -- ---- two lists of conditions
 

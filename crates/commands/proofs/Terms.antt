@@ -1,17 +1,14 @@
 -- What the ranges and ramps of a contract come to as numbers.
-use mathlib.Core.Path.{_≡_, refl, sym, subst}
+use mathlib.Core.Path.{_≡_, refl, ap}
 use mathlib.Core.Bool.{not}
 use mathlib.Core.List.{[], _∷_}
 use Prim.Native.Nat.{ℕ, _≤_}
 use lib.Dec.{T, leb, ltb, leb→le}
-use lib.Signed.{nonNeg}
-use mir.Syntax.{w32}
-use mir.Val.{Fits}
 use native.Mathlib.Nat.{le-div-iff-mul-le}
 use native.Mathlib.Omega.{arith}
 use lib.IntN.{ℤ, pos, negsuc, natAbs}
 use borrow.Author.Tests.{ltb-false}
-use Rattle.energy.specs.Number.{ceiling}
+use Rattle.energy.specs.Number.{ceiling, down, Upto}
 use Rattle.energy.proofs.Tests.{T-and, off-or}
 use Rattle.commands.specs.Input.{kwOf, upMinutes, downMinutes, from-to, from-toℤ, inRange, rampTooLong}
 use Rattle.commands.specs.declared.contract.Contract.{Contract}
@@ -73,9 +70,9 @@ ranges k t =
       optional = bounds 0 1000000 (k .optional) (q .1 .1 .1 .1 .1 .1 .1 .1 .1 .1 .0) .1;
     }
 
--- the contracted kW as an unsigned number
-pub kw-unsigned : (k : Contract) → Ranges k → T (nonNeg (k .contracted .0)) × Fits w32 (natAbs (k .contracted .0))
-kw-unsigned k r = (subst (λ z. T (nonNeg z)) (sym (r .positive)) tt, record { fits = omega arith })
+-- the contracted kW are not below 0, and fit an unsigned number
+pub kw-upto : (k : Contract) → Ranges k → Upto 4294967295 (k .contracted .0)
+kw-upto k r = (omega arith, ap down (r .positive))
 
 -- a ramp takes a minute at least
 pub ceiling-some : (n d : ℕ) → 1 ≤ n → 1 ≤ d → 1 ≤ ceiling n d

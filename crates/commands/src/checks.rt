@@ -12,16 +12,16 @@ pub fn pick(holds: bool, number: u8, rest: u8) -> u8
     if holds { number } else { rest }
 }
 
-pub fn byte_from_to(least: u8, most: u8, n: u8) -> bool
-    ensures { λ r. ⌜ r ≡ from-to least most n ⌝ }
+pub fn byte_from_to(least: u8, most: u8, byte: u8) -> bool
+    ensures { λ r. ⌜ r ≡ from-to least most byte ⌝ }
 {
-    (least <= n) & (n <= most)
+    (least <= byte) & (byte <= most)
 }
 
-pub fn number_from_to(least: u32, most: u32, n: u32) -> bool
-    ensures { λ r. ⌜ r ≡ from-to least most n ⌝ }
+pub fn number_from_to(least: u32, most: u32, number: u32) -> bool
+    ensures { λ r. ⌜ r ≡ from-to least most number ⌝ }
 {
-    (least <= n) & (n <= most)
+    (least <= number) & (number <= most)
 }
 
 pub fn minutes_from_to(least: Minutes, most: Minutes, m: Minutes) -> bool

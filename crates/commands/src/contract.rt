@@ -1,6 +1,8 @@
 // The contract of a unit: its operands, and the limits of every operand of an entry under it.
 ghost use mathlib.Core.Path.{_≡_};
-ghost use Rattle.commands.specs.Input.{inRange, inputRefusal, offerOf};
+ghost use mathlib.Core.Bool.{true};
+ghost use Rattle.commands.specs.Input.{inRange, inputRefusal, kwOf, offerOf, upMinutes, downMinutes};
+ghost use Rattle.energy.specs.Number.{ceiling};
 ghost use Rattle.commands.specs.declared.entries.Command.the-variants.{Contract as contractᶜ};
 use crate::checks::byte_from_to;
 use crate::checks::kw_from_to;
@@ -169,6 +171,28 @@ impl Contract {
         Offer::Agreed(contract)
     }
 
+    // What comes of the operands that a command has: the constructor's answer.
+    pub fn offer(self) -> Offer
+        ensures { λ r. ⌜ r ≡ offerOf self ⌝ }
+    {
+        let contracted = self.contracted;
+        let response = self.response;
+        let recovery = self.recovery;
+        Contract::new(
+            self.days,
+            self.kind,
+            self.service,
+            contracted,
+            self.rampup,
+            self.rampdown,
+            response,
+            recovery,
+            self.availability,
+            self.utilisation,
+            self.optional,
+        )
+    }
+
     // The lowest refusal that its own operands meet, 0 for none. Ramps are asked only of operands in range, as 3 comes before 4.
     pub fn input_refusal(self) -> u8
         ensures { λ r. ⌜ r ≡ inputRefusal (contractᶜ self) ⌝ }
@@ -177,14 +201,38 @@ impl Contract {
         if !fits {
             return 3;
         }
-        let kw = self.contracted.0 as u32;
-        let up = ramp_minutes(kw, self.rampup);
-        let down = ramp_minutes(kw, self.rampdown);
+        let up = self.ramp_up_minutes();
+        let down = self.ramp_down_minutes();
         pick(
             ((self.response.0 as u32) < up) | (Contract::RAMP_DOWN_MOST < down),
             4,
             0,
         )
+    }
+
+    // U: the minutes of the ramp up.
+    pub fn ramp_up_minutes(self) -> u32
+        requires { ⌜ inRange (contractᶜ self) ≡ true ⌝ }
+        ensures { λ r. ⌜ r ≡ upMinutes self ⌝ }
+    {
+        self.minutes_at(self.rampup)
+    }
+
+    // V: the minutes of the ramp down.
+    pub fn ramp_down_minutes(self) -> u32
+        requires { ⌜ inRange (contractᶜ self) ≡ true ⌝ }
+        ensures { λ r. ⌜ r ≡ downMinutes self ⌝ }
+    {
+        self.minutes_at(self.rampdown)
+    }
+
+    // The minutes of a ramp to or from the contracted kW.
+    fn minutes_at(self, ramp: u32) -> u32
+        requires { ⌜ inRange (contractᶜ self) ≡ true ⌝ }
+        ensures { λ r. ⌜ r ≡ ceiling (kwOf self) ramp ⌝ }
+    {
+        let kw = self.contracted;
+        ramp_minutes(kw, ramp)
     }
 
     // Whether each operand is in its range or one of its values.

@@ -1,6 +1,7 @@
 // The entries of a unit file, and the command that is one of them or a close. A field holds whatever its operand bytes can say;
 // an entry's `input_refusal` tells whether that is in its range.
 ghost use mathlib.Core.Path.{_≡_};
+ghost use Prim.Native.Nat.{_+_, _<_, _^_};
 ghost use Rattle.commands.specs.Input.{from-to, inputRefusal};
 ghost use Rattle.commands.specs.declared.entries.Command.the-variants.{Window as windowᶜ, Instruction as instructionᶜ, Default as defaultᶜ, Reading as readingᶜ};
 use crate::checks::byte_from_to;
@@ -102,20 +103,11 @@ impl Reading {
     }
 }
 
-impl Command {
-    pub fn input_refusal(self) -> u8
-        ensures { λ r. ⌜ r ≡ inputRefusal self ⌝ }
-    {
-        let c = self;
-        match c {
-            Command::Contract(k) => k.input_refusal(),
-            Command::Window(w) => w.input_refusal(),
-            Command::Instruction(i) => i.input_refusal(),
-            Command::Default(d) => d.input_refusal(),
-            Command::Reading(r) => r.input_refusal(),
-            Command::Close => 0,
-        }
-    }
+// f: the end of an instruction that ceases at a minute, where the ramp down takes so many minutes.
+pub fn end_of(cease: Minutes, down: u32) -> usize
+    ensures { λ r. ⌜ (r ≡ cease .0 + down) × (r < 2 ^ 33) ⌝ }
+{
+    cease.0 as usize + down as usize
 }
 
 // The kinds of default, and every other byte.

@@ -1,53 +1,46 @@
 -- Appendix 2 by demand 3: its bytes are its commands, its commands are all taken, and the statement of the rules pays 416,400 pence.
 use mathlib.Core.Path.{_≡_, refl, sym, ap, _∙_, subst}
-use mathlib.Core.Bool.{false}
 use mathlib.Core.List.{List, []}
 use mathlib.Core.Option.{some}
 use Prim.Native.Nat.{_≤_}
-use lib.Dec.{T}
 use lib.ListN.{length, replicate, length-replicate, getElem?}
 use Rattle.book_memory.specs.Meter.{roomIn, lent}
-use Rattle.energy.specs.Lists.{all}
-use Rattle.energy.proofs.Tests.{off-not}
 use Rattle.rules.specs.Ledger.{Ledger, ledgerOf}
 use Rattle.rules.specs.Refusal.{taken}
-use Rattle.rules.specs.Segment.{complete}
-use Rattle.rules.specs.Statement.{lines, settleConditions, settleRefusal}
+use Rattle.rules.specs.Statement.{lines}
 use Rattle.rules.specs.Reread.{sayable, fit}
 use Rattle.rules.specs.Examples.{appendix2, ledger}
-use Rattle.rules.proofs.Taken.{Clear, clear}
 use Rattle.rules.proofs.Opened.{opened}
 use Rattle.rules.proofs.Figures.{figures}
 use Rattle.rules.proofs.Reread.{reread}
-use Rattle.demands.specs.Steps.{Step, read, settled, start, outcomes, entries}
+use Rattle.demands.specs.Steps.{Step, read, settled, start, outcomes, readsTo}
 use Rattle.demands.specs.Demand3.{SettlementRight, Demand3·theorem}
 use Rattle.demands.specs.Appendix2.{bytes, steps, Appendix2·theorem}
-use Rattle.demands.proofs.Demand3.{demand3, complete-given}
+use Rattle.demands.proofs.Settled.{complete-given, Settleable, settleable}
+use Rattle.demands.proofs.Demand3.{demand3}
 
 -- its bytes are its commands
-entered : entries bytes 0 (replicate (length bytes) read) ≡ appendix2
+entered : readsTo bytes (length bytes) .commands ≡ appendix2
 unfolding bytes Demand3·theorem opened sayable fit
 entered = demand3 bytes (lent []) [] .wholeFile ∙ reread .file appendix2 tt
 
--- what its settlement meets
-met : Clear (settleConditions false 1440 6 (ledger appendix2))
-unfolding settleRefusal
-met = clear (settleConditions false 1440 6 (ledger appendix2)) (figures .F1-settled)
+-- its book is closed and complete
+met : Settleable 6 (ledger appendix2)
+met = settleable 1440 6 (ledger appendix2) (figures .F1-settled)
 
 pub appendix2-paid : Appendix2·theorem
-unfolding Appendix2·theorem Demand3·theorem ledger settleConditions
-appendix2-paid meter memory e h =
+unfolding Appendix2·theorem Demand3·theorem ledger
+appendix2-paid memory records e h =
     let g : Ledger = ledgerOf (taken 1440 appendix2) in
     let before : List Step = replicate (length bytes) read in
-    let d = demand3 bytes meter (steps memory) .settlements before [] memory refl in
-    let r : SettlementRight (taken 1440 appendix2) memory (d .0) =
-    subst (λ n. SettlementRight (taken n appendix2) memory (d .0)) e (subst (λ cs. SettlementRight (taken (roomIn meter) cs) memory (d .0)) entered (d .2)) in
-    let closed : T (g .closed) = off-not (g .closed) (met .1 .1 .0) in
-    let whole : T (complete g) = off-not (complete g) (met .1 .1 .1 .0) in
+    let d = demand3 bytes memory (steps records) .settlements before [] records refl in
+    let r : SettlementRight 1440 (taken 1440 appendix2) records (d .0) =
+    subst (λ n. SettlementRight n (taken n appendix2) records (d .0)) e
+    (subst (λ cs. SettlementRight (roomIn memory) (taken (roomIn memory) cs) records (d .0)) entered (d .2)) in
     let six : length (lines g) ≡ 6 = ap length (figures .F1-lines) in
-    let answered = r .answered .1 (closed, complete-given g .0 whole, subst (λ n. n ≤ length memory) (sym six) h) in
+    let answered = r .answered .1 (met .closed, complete-given g .0 (met .whole), subst (λ n. n ≤ length records) (sym six) h) in
     record {
       result = d .0;
-      outcome = subst (λ n. getElem? (outcomes bytes (start meter) (steps memory)) n ≡ some (settled (d .0))) (length-replicate (length bytes) read) (d .1);
+      outcome = subst (λ n. getElem? (outcomes bytes (start memory) (steps records)) n ≡ some (settled (d .0))) (length-replicate (length bytes) read) (d .1);
       total = ap (λ s. s .total .0) (r .statement answered .ruled ∙ figures .F1-statement);
     }

@@ -1,19 +1,22 @@
--- Pieces of a file, entered one after the other, do what the whole file does.
+-- Pieces of a file, entered one after the other, do what the whole file does. By induction over the turns of the loop: a command that lies in the piece
+-- is read alike in the whole, so both go on together, up to where the piece ends. If it ends at its end or under 2, the whole goes on from there, and
+-- that is entering the bytes from there on as a file of its own; if it ends otherwise, the whole ends so too, since the book never answers 2.
 use mathlib.Core.Path.{_≡_, refl, sym, ap, _∙_, subst, subst⁻¹}
 use mathlib.Core.Logic.{⊎-elim}
 use mathlib.Core.Bool.{Bool, true, false, not, true≢false}
 use mathlib.Core.Option.{Option, none, some, Option·none-ne-some}
 use mathlib.Core.List.{List, [], _∷_, _++_}
-use Prim.Native.Nat.{ℕ, zero, suc, _+_, _-_, _≤_, _<_}
+use Prim.Native.Nat.{ℕ, zero, suc, _+_, _≤_, _<_}
 use native.Mathlib.Omega.{arith}
-use borrow.Author.Tests.{le-leb, eq-eqb}
-use lib.Dec.{T, eqb, leb, eqb→eq}
+use borrow.Author.Tests.{eq-eqb}
+use lib.Dec.{T, eqb, eqb→eq}
 use lib.ListN.{length, drop, length-append, length-drop}
 use lib.Seq.{drop-append-le}
 use Rattle.book_memory.specs.Meter.{Memory, roomIn}
 use Rattle.energy.specs.Lists.{all}
 use Rattle.energy.proofs.Tests.{T-and}
 use Rattle.commands.specs.Input.{Condition, lowest}
+use Rattle.commands.proofs.Chain.{not-on}
 use Rattle.rules.specs.Refusal.{conditions, refusal}
 use Rattle.rules.specs.File.{readAt}
 use Rattle.commands.specs.declared.entries.Command.{Command}
@@ -24,13 +27,13 @@ use Rattle.rules.specs.declared.file.Read.the-variants.{Got, End}
 use Rattle.rules.specs.declared.file.Read.the-variants.{Refused as refusedʳ}
 use Rattle.book.specs.Book.{ledgerIn}
 use Rattle.book.specs.Sound.{sound}
-use Rattle.book.specs.Enter.{enterBook, enteredBy, Entered}
+use Rattle.book.specs.Enter.{enterBook, enteredBy}
 use Rattle.book.specs.declared.Book.{Book}
 use Rattle.file_read.proofs.Steps.{got-within, refused-number, refused-near}
 use Rattle.file_read.proofs.Pieces.{piece-got, piece-unknown, piece-end, shift, read-drop}
 use Rattle.file_load.specs.Load.{LoadedFile, carriesOn, loadsOn, loadFrom, load}
 use Rattle.file_load.proofs.From.{enough, from, from-step}
-use Rattle.demands.specs.Pieces.{unfinished, later, Pieces, Pieces·theorem}
+use Rattle.demands.specs.Pieces.{unfinished, later, Pieces·theorem}
 
 -- the book never answers 2
 lowest-not : (cs : List Condition) → T (all (λ c. not (eqb (c .number) 2)) cs) → (x : ℕ) → lowest cs ≡ some x → eqb x 2 ≡ false
@@ -41,13 +44,9 @@ lowest-not (c ∷ cs) t x e = go (λ u. lowest-not cs u x) (c .holds) e
     ts : T (not (eqb (c .number) 2)) × T (all (λ c. not (eqb (c .number) 2)) cs)
     ts = T-and (not (eqb (c .number) 2)) (all (λ c. not (eqb (c .number) 2)) cs) t
 
-    is-false : (b : Bool) → T (not b) → b ≡ false
-    is-false true t = absurd t
-    is-false false t = refl
-
     go : (T (all (λ c. not (eqb (c .number) 2)) cs) → lowest cs ≡ some x → eqb x 2 ≡ false)
         → (b : Bool) → elim b as (λ x. Option ℕ) [ true ↦ some (c .number) | false ↦ lowest cs ] ≡ some x → eqb x 2 ≡ false
-    go rest true e = let n : c .number ≡ x = cc in subst (λ y. eqb y 2 ≡ false) n (is-false (eqb (c .number) 2) (ts .0))
+    go rest true e = let n : c .number ≡ x = cc in subst (λ y. eqb y 2 ≡ false) n (not-on (eqb (c .number) 2) (ts .0))
     go rest false e = rest (ts .1) e
 
 book-not-two : (b : Book) (m : Memory) (c : Command) (x : ℕ) → enterBook b m c .entry .answer ≡ Refused x → T (eqb x 2) → ⊥
@@ -88,7 +87,7 @@ shifted (suc n) k s at b m h = rw (read-drop s k at) (go (λ next b m. shifted n
     go rest End = refl
 
 -- the reader never leaves the bytes
-inside : (n : ℕ) (p : List ℕ) (at : ℕ) (b : Book) (m : Memory) → at ≤ length p → loadFrom n p at b m .loaded .at ≤ length p
+pub inside : (n : ℕ) (p : List ℕ) (at : ℕ) (b : Book) (m : Memory) → at ≤ length p → loadFrom n p at b m .loaded .at ≤ length p
 unfolding loadFrom
 inside zero p at b m h = h
 inside (suc n) p at b m h = go (λ next b m. inside n p next b m) (readAt p at) refl
@@ -118,7 +117,8 @@ module _ (p q : List ℕ) where
   goes-on (suc n) at b m t = go (λ next b m. goes-on n next b m) (readAt p at) refl t
     where
       Rest : Type 0
-      Rest = (next : ℕ) (b : Book) (m : Memory) → T (unfinished (loadFrom n p next b m .loaded .answer)) → from (p ++ q) next b m ≡ onwards (loadFrom n p next b m)
+      Rest = (next : ℕ) (b : Book) (m : Memory) → T (unfinished (loadFrom n p next b m .loaded .answer))
+          → from (p ++ q) next b m ≡ onwards (loadFrom n p next b m)
 
       goAnswer : Rest → (c : Command) (next : ℕ) (a : Answer) → enterBook b m c .entry .answer ≡ a
           → T (unfinished (carriesOn (loadFrom n p next) at a (enterBook b m c) .loaded .answer))
@@ -170,7 +170,8 @@ pieces p q b m =
           goes-on p q (length p) 0 b m t ∙ ap (λ x. loadFrom (length (p ++ q)) (p ++ q) x b′ m′) (sym zeroed)
           ∙ shifted (length (p ++ q)) k (p ++ q) 0 b′ m′ inAll
           ∙ ap (λ s. later k (loadFrom (length (p ++ q)) s 0 b′ m′)) (drop-append-le k p q inP)
-          ∙ ap (later k) (enough (length (p ++ q)) (length (drop k p ++ q)) (drop k p ++ q) 0 b′ m′ (simp (length-append, length-drop) (omega arith)) (omega arith));
+          ∙ ap (later k)
+          (enough (length (p ++ q)) (length (drop k p ++ q)) (drop k p ++ q) 0 b′ m′ (simp (length-append, length-drop) (omega arith)) (omega arith));
       ends = λ t. ends-there p q (length p) 0 b m t;
     }
 
@@ -183,7 +184,8 @@ left zero p at b m h t = omega arith
 left (suc n) p at b m h t = go (λ next b m. left n p next b m) (readAt p at) refl t
   where
     Rest : Type 0
-    Rest = (next : ℕ) (b : Book) (m : Memory) → length p ≤ next + n → T (unfinished (loadFrom n p next b m .loaded .answer)) → length p < loadFrom n p next b m .loaded .at + 32
+    Rest = (next : ℕ) (b : Book) (m : Memory) → length p ≤ next + n → T (unfinished (loadFrom n p next b m .loaded .answer))
+        → length p < loadFrom n p next b m .loaded .at + 32
 
     goAnswer : Rest → (c : Command) (next : ℕ) → length p ≤ next + n → (a : Answer) → enterBook b m c .entry .answer ≡ a
         → T (unfinished (carriesOn (loadFrom n p next) at a (enterBook b m c) .loaded .answer))

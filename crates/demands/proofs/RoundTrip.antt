@@ -1,87 +1,146 @@
--- A book written as a unit file and read again is the same book with the same readings: the commands that it is written as are the commands of its file,
--- they are all taken, and they leave its ledger.
+-- A book written as a unit file and loaded again is the same book with the same readings: the commands that it is written as are the commands of its file,
+-- they are all taken, so that loading ends at the last byte, and they leave its ledger, which fixes the book and what a settlement answers.
 use mathlib.Core.Path.{_≡_, refl, sym, ap, _∙_, subst, subst⁻¹}
-use mathlib.Core.Bool.{Bool, true, false, not}
-use mathlib.Core.List.{List, [], _∷_}
+use mathlib.Core.Bool.{true, not}
+use mathlib.Core.List.{List, [], _∷_, _++_}
 use mathlib.Core.Option.{Option, none, some}
-use Prim.Native.Nat.{ℕ, _≤_}
+use Prim.Native.Nat.{ℕ, zero, suc, _+_, _≤_}
 use native.Mathlib.Omega.{arith}
 use borrow.Author.Tests.{ltb-false}
-use lib.Dec.{T, ltb}
-use lib.ListN.{length, take, drop}
+use lib.ListN.{length, drop, length-append}
 use lib.Seq.{take-append-seam}
-use Rattle.book_memory.specs.Meter.{Memory, lent, roomIn}
+use Rattle.book_memory.specs.Meter.{Memory, roomIn}
+use Rattle.energy.specs.Lists.{concatMap}
 use Rattle.energy.proofs.Tests.{of-T, off-not}
-use Rattle.commands.specs.Input.{lowest}
-use Rattle.rules.specs.Ledger.{Ledger, cellsIn}
-use Rattle.rules.specs.Refusal.{takenAfter, taken}
-use Rattle.rules.specs.File.{written, fileOf, commandsIn}
+use Rattle.commands.specs.Input.{Condition, lowest}
+use Rattle.rules.specs.Ledger.{Ledger, ledgerOf, cellsIn}
+use Rattle.rules.specs.Refusal.{joined, answerOf}
+use Rattle.rules.specs.File.{readAt, readOn, write, written, fileOf, commandsFrom, commandsIn}
 use Rattle.rules.specs.Reached.{Reached}
 use Rattle.rules.specs.Rewritten.{Rewritten}
 use Rattle.commands.specs.declared.entries.Command.{Command}
 use Rattle.rules.specs.declared.answer.Answer.the-variants.{Taken}
-use Rattle.rules.proofs.Rewritten.{rewritten, file-commands}
-use Rattle.rules.proofs.Taken.{Clear, clear}
+use Rattle.rules.specs.declared.file.Read.{Read}
+use Rattle.rules.specs.declared.file.Read.the-variants.{Got, End}
+use Rattle.rules.specs.declared.file.Read.the-variants.{Refused as refusedʳ}
+use Rattle.rules.proofs.Replay.{Accepted}
+use Rattle.rules.proofs.Rewritten.{rewritten, written-replay, file-commands}
+use Rattle.rules.proofs.Taken.{Clear, clear, ledgerOf-snoc}
 use Rattle.book.specs.Book.{emptyBook, bookCells, ledgerIn}
 use Rattle.book.specs.Sound.{sound, Shaped}
+use Rattle.book.specs.Enter.{enterBook}
 use Rattle.book.specs.declared.Book.{Book}
-use Rattle.book.proofs.Follow.{Follows, follow, starts}
+use Rattle.book.proofs.Follow.{Follows, follow, answers, starts}
 use Rattle.book.proofs.Month.{cells-sound}
-use Rattle.book.proofs.Left.{book-reached, same-book}
+use Rattle.book.proofs.FromCommands.{book-reached, same-book}
+use Rattle.settle.specs.Settle.{settleBook}
+use Rattle.file_read.proofs.Steps.{got-long}
+use Rattle.file_load.specs.Load.{LoadedFile, carriesOn, loadsOn, loadFrom, load}
+use Rattle.file_load.proofs.From.{past-end}
 use Rattle.file_write.specs.Write.{writeConditions, writtenBy, writeBook}
-use Rattle.demands.specs.RoundTrip.{enterAll, bytesIn, SameAgain, RoundTrip·theorem}
+use Rattle.demands.specs.Files.{File·theorem}
+use Rattle.demands.specs.RoundTrip.{bytesIn, SameAgain, RoundTrip·theorem}
+use Rattle.demands.proofs.Along.{Along}
+use Rattle.demands.proofs.Settled.{refused-taken}
+use Rattle.demands.proofs.Files.{file-right, taken-along}
 
 -- ---- what was written
 
--- the conditions under which a book is written: it is sound, meter memory has the cells for it, and the lent bytes hold its file
-record Writable (b : Book) (meter : Memory) (memory : List ℕ) : Type 0 where
+-- the conditions under which a book is written: it is sound, lent memory has the cells for it, and the lent bytes hold its file
+record Writable (b : Book) (memory : Memory) (bytes : List ℕ) : Type 0 where
   left : sound b ≡ true
-  cells : cellsIn (ledgerIn b meter) ≤ roomIn meter
-  bytes : bytesIn (writeBook b meter memory) ≡ fileOf (ledgerIn b meter)
+  cells : cellsIn (ledgerIn b memory) ≤ roomIn memory
+  file : bytesIn (writeBook b memory bytes) ≡ fileOf (ledgerIn b memory)
 
-writable : (b : Book) (meter : Memory) (memory : List ℕ) → writeBook b meter memory .written .answer ≡ Taken → Writable b meter memory
+writable : (b : Book) (memory : Memory) (bytes : List ℕ) → writeBook b memory bytes .written .answer ≡ Taken → Writable b memory bytes
 unfolding writeBook writeConditions
-writable b meter memory e = go (lowest (writeConditions (not (sound b)) (roomIn meter) (length memory) (ledgerIn b meter))) refl e
+writable b memory bytes e = go (lowest met) refl e
   where
-    go : (o : Option ℕ) → lowest (writeConditions (not (sound b)) (roomIn meter) (length memory) (ledgerIn b meter)) ≡ o → writtenBy o (ledgerIn b meter) memory .written .answer ≡ Taken → Writable b meter memory
+    g : Ledger
+    g = ledgerIn b memory
+
+    met : List Condition
+    met = writeConditions (not (sound b)) (roomIn memory) (length bytes) g
+
+    go : (o : Option ℕ) → lowest met ≡ o → writtenBy o g bytes .written .answer ≡ Taken → Writable b memory bytes
     go none q h =
-        let c : Clear (writeConditions (not (sound b)) (roomIn meter) (length memory) (ledgerIn b meter)) = clear (writeConditions (not (sound b)) (roomIn meter) (length memory) (ledgerIn b meter)) q in
+        let c : Clear met = clear met q in
         record {
           left = of-T (sound b) (off-not (sound b) (c .0));
-          cells = ltb-false (roomIn meter) (cellsIn (ledgerIn b meter)) (c .1 .0);
-          bytes = ap (λ o. bytesIn (writtenBy o (ledgerIn b meter) memory)) q ∙ take-append-seam (fileOf (ledgerIn b meter)) (drop (length (fileOf (ledgerIn b meter))) memory);
+          cells = ltb-false (roomIn memory) (cellsIn g) (c .1 .0);
+          file = ap (λ o. bytesIn (writtenBy o g bytes)) q ∙ take-append-seam (fileOf g) (drop (length (fileOf g)) bytes);
         }
-    go (some n) q h = absurd (let z : _≡_ {A = ℕ} 0 1 = cc in omega arith)
+    go (some n) q h = absurd (refused-taken n h)
 
--- ---- read again
+-- ---- loaded again
 
--- entering commands one after the other keeps book and commands together
-follow-all : {size : ℕ} {t : List Command} {b : Book} {meter : Memory} (cs : List Command) → Follows size t b meter
-    → Follows size (takenAfter size t cs) (enterAll b meter cs .book) (enterAll b meter cs .meter)
-unfolding takenAfter enterAll
-follow-all [] f = f
-follow-all (c ∷ cs) f = follow-all cs (follow c f)
+-- a file of nothing but commands that are taken is taken
+module _ (file : List ℕ) {size : ℕ} where
+  all-loaded : (n at : ℕ) (t : List Command) (b : Book) (m : Memory) → Follows size t b m → Accepted size (ledgerOf t) (commandsFrom n file at)
+      → length file ≡ at + length (concatMap write (commandsFrom n file at))
+      → loadFrom n file at b m .loaded .answer ≡ Taken
+  unfolding loadFrom commandsFrom Accepted concatMap
+  all-loaded zero at t b m f a l = refl
+  all-loaded (suc n) at t b m f a l = go (λ next t b m. all-loaded n next t b m) (readAt file at) refl a l
+    where
+      Rest : Type 0
+      Rest = (next : ℕ) (t : List Command) (b : Book) (m : Memory) → Follows size t b m → Accepted size (ledgerOf t) (commandsFrom n file next)
+          → length file ≡ next + length (concatMap write (commandsFrom n file next))
+          → loadFrom n file next b m .loaded .answer ≡ Taken
 
-again : (b : Book) (meter fresh : Memory) → Shaped b → sound b ≡ true → bookCells b ≤ roomIn fresh → SameAgain b meter fresh (fileOf (ledgerIn b meter))
-unfolding taken
-again b meter fresh s e h =
-    let g : Ledger = ledgerIn b meter in
-    let r : Reached (roomIn fresh) g = book-reached b meter (roomIn fresh) e h in
+      go : Rest → (r : Read) → readAt file at ≡ r → Accepted size (ledgerOf t) (readOn (λ next. commandsFrom n file next) r)
+          → length file ≡ at + length (concatMap write (readOn (λ next. commandsFrom n file next) r))
+          → loadsOn (λ next b m. loadFrom n file next b m) at b m r .loaded .answer ≡ Taken
+      go rest (Got c next) e a l =
+          let cs : List Command = commandsFrom n file next in
+          let b′ : Book = enterBook b m c .entry .book in
+          let m′ : Memory = enterBook b m c .meter in
+          ap (λ x. carriesOn (loadFrom n file next) at x (enterBook b m c) .loaded .answer) (answers c f ∙ ap answerOf (a .0))
+          ∙ rest next (t ++ c ∷ []) b′ m′ (subst (λ o. Follows size (joined o t c) b′ m′) (a .0) (follow c f))
+          (subst⁻¹ (λ g. Accepted size g cs) (ledgerOf-snoc t c) (a .1))
+          (omega (arith, l, got-long file at e, length-append (write c) (concatMap write cs)))
+      go rest (refusedʳ x) e a l =
+          let z : refusedʳ x ≡ End = sym e ∙ past-end file at (omega (arith, l)) in
+          absurd (let o : _≡_ {A = ℕ} 0 1 = cc in omega arith)
+      go rest End e a l = refl
+
+-- so is the file of a ledger that commands leave
+file-taken : (fresh : Memory) (g : Ledger) → Reached (roomIn fresh) g → load (fileOf g) emptyBook fresh .loaded .answer ≡ Taken
+unfolding load commandsIn fileOf
+file-taken fresh g r =
+    let size : ℕ = roomIn fresh in
+    let cs : List Command = commandsIn (fileOf g) in
+    let back : cs ≡ written g = file-commands size g r in
+    let long : length (fileOf g) ≡ length (concatMap write cs) = ap (λ cs. length (concatMap write cs)) (sym back) in
+    all-loaded (fileOf g) (length (fileOf g)) 0 [] emptyBook fresh (starts fresh)
+    (subst⁻¹ (λ cs. Accepted size (ledgerOf []) cs) back (written-replay size g r .accepted))
+    (omega (arith, long))
+
+again : (b : Book) (memory fresh : Memory) → Shaped b → sound b ≡ true → bookCells b ≤ roomIn fresh → roomIn fresh ≡ roomIn memory
+    → SameAgain b memory (fileOf (ledgerIn b memory)) (load (fileOf (ledgerIn b memory)) emptyBook fresh)
+unfolding File·theorem settleBook
+again b memory fresh s e h n =
+    let g : Ledger = ledgerIn b memory in
+    let l : LoadedFile = load (fileOf g) emptyBook fresh in
+    let r : Reached (roomIn fresh) g = book-reached b memory (roomIn fresh) e h in
     let w : Rewritten (roomIn fresh) g = rewritten (roomIn fresh) g r in
-    let back : commandsIn (fileOf g) ≡ written g = file-commands (roomIn fresh) g r in
-    let b′ : Book = enterAll emptyBook fresh (written g) .book in
-    let m′ : Memory = enterAll emptyBook fresh (written g) .meter in
-    let f : Follows (roomIn fresh) (written g) b′ m′ = subst (λ t. Follows (roomIn fresh) t b′ m′) (w .allTaken) (follow-all (written g) (starts fresh)) in
-    let l : ledgerIn b′ m′ ≡ g = f .ledger ∙ w .same in
-    let same : b′ ≡ b = same-book b′ b m′ meter (f .shaped) s (f .left) e l in
+    let taken : l .loaded .answer ≡ Taken = file-taken fresh g r in
+    let a : Along fresh (written g) (l .loaded .book) (l .meter) =
+    subst (λ cs. Along fresh cs (l .loaded .book) (l .meter)) (file-commands (roomIn fresh) g r) (taken-along (fileOf g) fresh taken) in
+    let f : Follows (roomIn fresh) (written g) (l .loaded .book) (l .meter) = a .follows in
+    let same : ledgerIn (l .loaded .book) (l .meter) ≡ g = f .ledger ∙ w .same in
+    let book : l .loaded .book ≡ b = same-book (l .loaded .book) b (l .meter) memory (f .shaped) s (f .sound) e same in
     record {
-      sameBook = ap (λ cs. enterAll emptyBook fresh cs .book) back ∙ same;
-      sameReadings = λ m.
-          ap (λ cs. ledgerIn b (enterAll emptyBook fresh cs .meter) .reading m) back ∙ ap (λ x. ledgerIn x m′ .reading m) (sym same) ∙ ap (λ g. g .reading m) l;
+      answer = taken;
+      ended = file-right (fileOf g) fresh [] .ended taken;
+      sameBook = book;
+      sameReadings = λ m. ap (λ x. ledgerIn x (l .meter) .reading m) (sym book) ∙ ap (λ g. g .reading m) same;
+      sameSettlement = λ records. rw (f .sound, f .memory, same, n, e);
     }
 
 pub round-trip : RoundTrip·theorem
 unfolding RoundTrip·theorem
-round-trip b meter fresh memory s n e =
-    let w : Writable b meter memory = writable b meter memory e in
-    subst⁻¹ (λ bytes. SameAgain b meter fresh bytes) (w .bytes) (again b meter fresh s (w .left) (omega (arith, n, w .cells, cells-sound b meter (w .left))))
+round-trip b memory fresh bytes s n e =
+    let w : Writable b memory bytes = writable b memory bytes e in
+    subst⁻¹ (λ file. SameAgain b memory file (load file emptyBook fresh)) (w .file)
+    (again b memory fresh s (w .left) (omega (arith, n, w .cells, cells-sound b memory (w .left))) n)

@@ -5,7 +5,7 @@ use mathlib.Core.Option.{some}
 use Prim.Native.Nat.{ℕ, _≤_}
 use lib.IntN.{pos}
 use lib.ListN.{length, getElem?, replicate}
-use Rattle.book_memory.specs.Meter.{Memory, lent, roomIn}
+use Rattle.book_memory.specs.Meter.{Memory, roomIn}
 use Rattle.energy.specs.Lists.{concatMap}
 use Rattle.rules.specs.File.{write}
 use Rattle.rules.specs.Examples.{appendix2}
@@ -17,16 +17,16 @@ use Rattle.demands.specs.Steps.{Step, read, settle, settled, start, outc
 unfoldable pub bytes : List ℕ
 bytes = concatMap write appendix2
 
--- the file is read whole, and then settled into the lent line memory
+-- the file is read whole, and then settled into the lent line records
 abbrev pub steps : List Line → List Step
-steps memory = replicate (length bytes) read ++ settle memory ∷ []
+steps records = replicate (length bytes) read ++ settle records ∷ []
 
 -- the settlement pays 416,400 pence
-pub record Paid (meter : Memory) (memory : List Line) : Type 0 where
+pub record Paid (memory : Memory) (records : List Line) : Type 0 where
   pub result : Settled
-  pub outcome : getElem? (outcomes bytes (start meter) (steps memory)) (length bytes) ≡ some (settled result)
+  pub outcome : getElem? (outcomes bytes (start memory) (steps records)) (length bytes) ≡ some (settled result)
   pub total : result .settlement .statement .total .0 ≡ pos 416400
 
--- with any meter memory of a day, and line memory for six lines
+-- with any memory of a day, and records for six lines
 unfoldable pub Appendix2·theorem : Type 0
-Appendix2·theorem = (meter : Memory) (memory : List Line) → roomIn meter ≡ 1440 → 6 ≤ length memory → Paid meter memory
+Appendix2·theorem = (memory : Memory) (records : List Line) → roomIn memory ≡ 1440 → 6 ≤ length records → Paid memory records

@@ -4,7 +4,7 @@ use mathlib.Core.Bool.{false}
 use mathlib.Core.List.{List}
 use mathlib.Core.Option.{Option, none, some}
 use Prim.Native.Nat.{ℕ}
-use lib.ListN.{replicate}
+use lib.ListN.{length}
 use Rattle.book_memory.specs.Meter.{Memory, roomIn}
 use Rattle.rules.specs.Ledger.{ledgerOf}
 use Rattle.rules.specs.Refusal.{refusal, taken, answerOf}
@@ -17,8 +17,8 @@ use Rattle.rules.specs.declared.file.Read.the-variants.{Got, End}
 use Rattle.rules.specs.declared.file.Read.the-variants.{Refused as refusedʳ}
 use Rattle.book.specs.Book.{emptyBook}
 use Rattle.settle.specs.Settle.{settleBook}
-use Rattle.file_load.specs.Load.{load}
-use Rattle.demands.specs.Steps.{read, entries, position}
+use Rattle.file_load.specs.Load.{LoadedFile, load}
+use Rattle.demands.specs.Steps.{State, readsTo, leftAt}
 use Rattle.demands.specs.Demand3.{SettlementRight}
 
 -- the number under which what is read is turned down, for the commands t taken before it: the reader's own, or the book's
@@ -27,22 +27,29 @@ readRefusal size t (Got c next) = refusal false size (ledgerOf t) c
 readRefusal size t (refusedʳ n) = some n
 readRefusal size t End = none
 
--- for a file's bytes and lent meter and line memory of any length and contents
-pub record FileRight (file : List ℕ) (meter : Memory) (memory : List Line) : Type 0 where
+-- where entering a file ended, with the book and lent memory then
+abbrev pub endOf : LoadedFile → State
+endOf l = record { at = l .loaded .at; book = l .loaded .book; memory = l .meter }
+
+-- for a file's bytes, and lent memory and line records of any length and contents
+pub record FileRight (file : List ℕ) (memory : Memory) (records : List Line) : Type 0 where
   -- so many commands were read and taken, each read where the last one stopped
   pub reads : ℕ
-  pub allTaken : taken (roomIn meter) (entries file 0 (replicate reads read)) ≡ entries file 0 (replicate reads read)
-  pub stands : load file emptyBook meter .loaded .at ≡ position file 0 (replicate reads read)
+  pub allTaken : taken (roomIn memory) (readsTo file reads .commands) ≡ readsTo file reads .commands
+  -- entering ended behind them, with the book and lent memory that they leave
+  pub left : endOf (load file emptyBook memory) ≡ leftAt memory (readsTo file reads)
   -- what stands there decides: the file's end, or the first refusal under its number
   pub answer :
-      load file emptyBook meter .loaded .answer
-      ≡ answerOf (readRefusal (roomIn meter) (entries file 0 (replicate reads read)) (readAt file (position file 0 (replicate reads read))))
-  -- at the end these were all the file's commands, and its settlement is right for them
-  pub whole : load file emptyBook meter .loaded .answer ≡ Taken → entries file 0 (replicate reads read) ≡ commandsIn file
+      load file emptyBook memory .loaded .answer
+      ≡ answerOf (readRefusal (roomIn memory) (readsTo file reads .commands) (readAt file (readsTo file reads .at)))
+  -- a file that is taken is taken to its last byte; these were all its commands, and its settlement is right for them
+  pub ended : load file emptyBook memory .loaded .answer ≡ Taken → load file emptyBook memory .loaded .at ≡ length file
+  pub whole : load file emptyBook memory .loaded .answer ≡ Taken → readsTo file reads .commands ≡ commandsIn file
   pub settlement :
-      load file emptyBook meter .loaded .answer ≡ Taken
-      → SettlementRight (commandsIn file) memory (settleBook (load file emptyBook meter .loaded .book) (load file emptyBook meter .meter) memory)
+      load file emptyBook memory .loaded .answer ≡ Taken
+      → SettlementRight (roomIn memory) (commandsIn file) records
+      (settleBook (load file emptyBook memory .loaded .book) (load file emptyBook memory .meter) records)
 
 -- entering a whole file, and settling what it leaves, is right
 unfoldable pub File·theorem : Type 0
-File·theorem = (file : List ℕ) (meter : Memory) (memory : List Line) → FileRight file meter memory
+File·theorem = (file : List ℕ) (memory : Memory) (records : List Line) → FileRight file memory records

@@ -22,13 +22,13 @@ later k l = record { loaded = record { answer = l .loaded .answer; at = k + l .l
 
 -- a piece p of a file, and the bytes q after it: where the piece is unfinished, its unread bytes with q behind them, entered into what the
 -- piece left, do what the whole does; where it is not, the whole ends as the piece does
-pub record Pieces (p q : List ℕ) (b : Book) (meter : Memory) : Type 0 where
+pub record Pieces (p q : List ℕ) (b : Book) (memory : Memory) : Type 0 where
   pub goesOn :
-      T (unfinished (load p b meter .loaded .answer))
-      → load (p ++ q) b meter
-      ≡ later (load p b meter .loaded .at) (load (drop (load p b meter .loaded .at) p ++ q) (load p b meter .loaded .book) (load p b meter .meter))
-  pub ends : unfinished (load p b meter .loaded .answer) ≡ false → load (p ++ q) b meter ≡ load p b meter
+      T (unfinished (load p b memory .loaded .answer))
+      → load (p ++ q) b memory
+      ≡ later (load p b memory .loaded .at) (load (drop (load p b memory .loaded .at) p ++ q) (load p b memory .loaded .book) (load p b memory .meter))
+  pub ends : unfinished (load p b memory .loaded .answer) ≡ false → load (p ++ q) b memory ≡ load p b memory
 
 -- pieces one after the other do what the whole file does
 unfoldable pub Pieces·theorem : Type 0
-Pieces·theorem = (p q : List ℕ) (b : Book) (meter : Memory) → Pieces p q b meter
+Pieces·theorem = (p q : List ℕ) (b : Book) (memory : Memory) → Pieces p q b memory

@@ -1,43 +1,38 @@
 -- Demand 2, second half: a book written as a unit file and read again is the same book with the same readings.
 use mathlib.Core.Path.{_≡_}
-use mathlib.Core.List.{List, [], _∷_}
+use mathlib.Core.List.{List}
 use Prim.Native.Nat.{ℕ}
 use lib.ListN.{length, take}
-use Rattle.book_memory.specs.Meter.{Memory, lent, roomIn}
-use Rattle.rules.specs.File.{commandsIn}
-use Rattle.commands.specs.declared.entries.Command.{Command}
+use Rattle.book_memory.specs.Meter.{Memory, roomIn}
+use Rattle.rules.specs.declared.statement.Line.{Line}
 use Rattle.rules.specs.declared.answer.Answer.the-variants.{Taken}
 use Rattle.book.specs.Book.{ledgerIn, emptyBook}
 use Rattle.book.specs.Sound.{Shaped}
-use Rattle.book.specs.Enter.{enterBook}
 use Rattle.book.specs.declared.Book.{Book}
+use Rattle.settle.specs.Settle.{settleBook}
+use Rattle.file_load.specs.Load.{LoadedFile, load}
 use Rattle.file_write.specs.Write.{writeBook, WrittenBytes}
 
--- book and meter memory after entering commands one after the other
-pub record After : Type 0 where
-  pub book : Book
-  pub meter : Memory
-
--- entering commands one after the other, by the equation of entering
-unfoldable pub enterAll : Book → Memory → List Command → After
-enterAll b meter [] = record { book = b; meter = meter }
-enterAll b meter (c ∷ cs) = enterAll (enterBook b meter c .entry .book) (enterBook b meter c .meter) cs
-
--- the bytes that a file has in the lent memory
+-- the bytes that a file has in the lent bytes
 abbrev pub bytesIn : WrittenBytes → List ℕ
 bytesIn w = take (w .written .size) (w .memory)
 
--- read and entered from the empty book with fresh meter memory, the bytes give the book b, and each minute the reading, or none, that it had
--- (minutes past the span have none)
-pub record SameAgain (b : Book) (meter fresh : Memory) (bytes : List ℕ) : Type 0 where
-  pub sameBook : enterAll emptyBook fresh (commandsIn bytes) .book ≡ b
-  pub sameReadings : (m : ℕ) → ledgerIn b (enterAll emptyBook fresh (commandsIn bytes) .meter) .reading m ≡ ledgerIn b meter .reading m
+-- what loading some bytes left is the book b, with the readings that lent memory had for it
+pub record SameAgain (b : Book) (memory : Memory) (bytes : List ℕ) (l : LoadedFile) : Type 0 where
+  -- all bytes are taken, to the last one
+  pub answer : l .loaded .answer ≡ Taken
+  pub ended : l .loaded .at ≡ length bytes
+  pub sameBook : l .loaded .book ≡ b
+  -- each minute has the reading, or none, that it had; minutes past the span have none
+  pub sameReadings : (m : ℕ) → ledgerIn b (l .meter) .reading m ≡ ledgerIn b memory .reading m
+  -- so it is settled as it was: under the same number or, if closed and complete, with the same statement and lines
+  pub sameSettlement : (records : List Line) → settleBook (l .loaded .book) (l .meter) records ≡ settleBook b memory records
 
--- every book that is written is read again as itself, into meter memory of the same length and any contents
+-- every book that is written is loaded again as itself, from the empty one, into fresh memory of the same length and any contents
 unfoldable pub RoundTrip·theorem : Type 0
 RoundTrip·theorem =
-    (b : Book) (meter fresh : Memory) (memory : List ℕ)
+    (b : Book) (memory fresh : Memory) (bytes : List ℕ)
     → Shaped b
-    → roomIn fresh ≡ roomIn meter
-    → writeBook b meter memory .written .answer ≡ Taken
-    → SameAgain b meter fresh (bytesIn (writeBook b meter memory))
+    → roomIn fresh ≡ roomIn memory
+    → writeBook b memory bytes .written .answer ≡ Taken
+    → SameAgain b memory (bytesIn (writeBook b memory bytes)) (load (bytesIn (writeBook b memory bytes)) emptyBook fresh)

@@ -1,8 +1,13 @@
--- "The lists of demand 3": a list of steps, what the calls do along it by the equations that they promise, and what it enters by the rules alone.
-use mathlib.Core.List.{List, [], _∷_}
+-- "The lists of demand 3": a list of steps, what each comes to at the reader's position, what the calls do along it by the equations that they
+-- promise, and what they must do by the rules alone.
+use mathlib.Core.Bool.{false}
+use mathlib.Core.List.{List, [], _∷_, _++_}
 use Prim.Native.Nat.{ℕ}
-use lib.ListN.{length}
-use Rattle.book_memory.specs.Meter.{Memory, lent}
+use lib.ListN.{length, replicate}
+use Rattle.book_memory.specs.Meter.{Memory, roomIn, putMeter}
+use Rattle.rules.specs.Ledger.{ledgerOf}
+use Rattle.rules.specs.Refusal.{refusal, taken, answerOf}
+use Rattle.rules.specs.Statement.{settleRefusal}
 use Rattle.rules.specs.File.{readAt}
 use Rattle.commands.specs.declared.entries.Command.{Command}
 use Rattle.rules.specs.declared.statement.Line.{Line}
@@ -10,97 +15,127 @@ use Rattle.rules.specs.declared.answer.Answer.{Answer}
 use Rattle.rules.specs.declared.file.Read.{Read}
 use Rattle.rules.specs.declared.file.Read.the-variants.{Got, End}
 use Rattle.rules.specs.declared.file.Read.the-variants.{Refused as refusedʳ}
-use Rattle.book.specs.Book.{emptyBook}
-use Rattle.book.specs.Enter.{enterBook, Entered}
+use Rattle.book.specs.Book.{emptyBook, putAll}
+use Rattle.book.specs.Enter.{enterBook}
 use Rattle.book.specs.declared.Book.{Book}
-use Rattle.settle.specs.Settle.{settleBook, Settled}
+use Rattle.settle.specs.Settle.{settleBook, settledBy, Settled}
 
--- a step: a command is entered, the file's next command is read and entered, or there is a settlement with lent line memory of any length and contents
+-- a step: a command is entered, the file's next command is read and entered, or there is a settlement with lent line records of any number and contents
 pub data Step : Type 0 where
   enter : Command → Step
   read : Step
   settle : List Line → Step
 
--- ---- what the calls do
-
--- what the calls carry along, each as the last one left it: the reader's position, the book and meter memory
-pub record State : Type 0 where
-  pub at : ℕ
-  pub book : Book
-  pub meter : Memory
-
--- the empty book, with the reader at the file's first byte and meter memory of any length and contents
-abbrev pub start : Memory → State
-start meter = record { at = 0; book = emptyBook; meter = meter }
-
--- what a step is answered: an entry's answer; the reader's end, 1 or 2, and then nothing is entered; a settlement's answer with line memory after it
+-- what a step is answered: an entry's answer; the reader's end, 1 or 2, and then nothing is entered; a settlement's answer with the records after it
 pub data Outcome : Type 0 where
   entered : Answer → Outcome
   stopped : Read → Outcome
   settled : Settled → Outcome
 
--- the state after an entry, with the reader at a position
-abbrev pub entering : ℕ → Entered → State
-entering at e = record { at = at; book = e .entry .book; meter = e .meter }
+-- ---- what a step comes to
 
--- the state after what was read is entered
-abbrev pub reading : State → Read → State
-reading s (Got c next) = entering next (enterBook (s .book) (s .meter) c)
-reading s (refusedʳ n) = s
-reading s End = s
+-- a command is entered, with the reader at a position after it; the reader stops, and nothing is entered; or there is a settlement
+pub data Call : Type 0 where
+  command : Command → ℕ → Call
+  stop : Read → Call
+  settlement : List Line → Call
 
--- the outcome of it
-abbrev pub readingSays : State → Read → Outcome
-readingSays s (Got c next) = entered (enterBook (s .book) (s .meter) c .entry .answer)
-readingSays s (refusedʳ n) = stopped (refusedʳ n)
-readingSays s End = stopped End
+-- a command read is entered, and the reader goes on behind it; at end, 1 and 2 it stops
+abbrev pub readCall : Read → Call
+readCall (Got c next) = command c next
+readCall (refusedʳ n) = stop (refusedʳ n)
+readCall End = stop End
 
--- the state after a step
-abbrev pub after : List ℕ → State → Step → State
-after file s (enter c) = entering (s .at) (enterBook (s .book) (s .meter) c)
-after file s read = reading s (readAt file (s .at))
-after file s (settle memory) = s
+-- what a step comes to, with the reader at a position
+abbrev pub callAt : List ℕ → ℕ → Step → Call
+callAt file at (enter c) = command c at
+callAt file at read = readCall (readAt file at)
+callAt file at (settle records) = settlement records
 
--- the outcome of a step
-abbrev pub says : List ℕ → State → Step → Outcome
-says file s (enter c) = entered (enterBook (s .book) (s .meter) c .entry .answer)
-says file s read = readingSays s (readAt file (s .at))
-says file s (settle memory) = settled (settleBook (s .book) (s .meter) memory)
+-- ---- what the calls do
+
+-- what they carry along, each as the last one left it: the reader's position, the book and lent memory
+pub record State : Type 0 where
+  pub at : ℕ
+  pub book : Book
+  pub memory : Memory
+
+-- the empty book, with the reader at the file's first byte and lent memory of any length and contents
+abbrev pub start : Memory → State
+start memory = record { at = 0; book = emptyBook; memory = memory }
+
+-- the state after a call
+abbrev pub after : State → Call → State
+after s (command c next) = record { at = next; book = enterBook (s .book) (s .memory) c .entry .book; memory = enterBook (s .book) (s .memory) c .meter }
+after s (stop r) = s
+after s (settlement records) = s
+
+-- what it is answered
+abbrev pub says : State → Call → Outcome
+says s (command c next) = entered (enterBook (s .book) (s .memory) c .entry .answer)
+says s (stop r) = stopped r
+says s (settlement records) = settled (settleBook (s .book) (s .memory) records)
 
 -- the state after a list of steps
 unfoldable pub afterAll : List ℕ → State → List Step → State
 afterAll file s [] = s
-afterAll file s (x ∷ xs) = afterAll file (after file s x) xs
+afterAll file s (x ∷ xs) = afterAll file (after s (callAt file (s .at) x)) xs
 
 -- the outcomes of a list of steps
 unfoldable pub outcomes : List ℕ → State → List Step → List Outcome
 outcomes file s [] = []
-outcomes file s (x ∷ xs) = says file s x ∷ outcomes file (after file s x) xs
+outcomes file s (x ∷ xs) = says s (callAt file (s .at) x) ∷ outcomes file (after s (callAt file (s .at) x)) xs
 
--- ---- what the list enters, by the rules alone
+-- ---- what the rules say, which know no book
 
--- a command read is entered and the reader goes on behind it; end, 1 and 2 enter nothing and do not move
-abbrev pub readsOn : (ℕ → List Command) → List Command → Read → List Command
-readsOn go rest (Got c next) = c ∷ go next
-readsOn go rest (refusedʳ n) = rest
-readsOn go rest End = rest
+-- how far a list has come, by the file's bytes alone: the reader's position, and the commands entered, taken or not
+pub record Place : Type 0 where
+  pub at : ℕ
+  pub commands : List Command
 
--- the commands that a list enters, with the reader at a position
-unfoldable pub entries : List ℕ → ℕ → List Step → List Command
-entries file at [] = []
-entries file at (enter c ∷ xs) = c ∷ entries file at xs
-entries file at (read ∷ xs) = readsOn (λ next. entries file next xs) (entries file at xs) (readAt file at)
-entries file at (settle memory ∷ xs) = entries file at xs
+-- reading starts at the first byte
+abbrev pub outset : Place
+outset = record { at = 0; commands = [] }
 
--- where a reader at a position goes on
-abbrev pub onwards : (ℕ → ℕ) → ℕ → Read → ℕ
-onwards go at (Got c next) = go next
-onwards go at (refusedʳ n) = go at
-onwards go at End = go at
+-- the place after a call: where the reader stopped it does not move
+abbrev pub onwards : Place → Call → Place
+onwards p (command c next) = record { at = next; commands = p .commands ++ c ∷ [] }
+onwards p (stop r) = p
+onwards p (settlement records) = p
 
--- where the reader stands after a list of steps
-unfoldable pub position : List ℕ → ℕ → List Step → ℕ
-position file at [] = at
-position file at (enter c ∷ xs) = position file at xs
-position file at (read ∷ xs) = onwards (λ next. position file next xs) at (readAt file at)
-position file at (settle memory ∷ xs) = position file at xs
+-- the place after a list of steps
+unfoldable pub placeFrom : List ℕ → Place → List Step → Place
+placeFrom file p [] = p
+placeFrom file p (x ∷ xs) = placeFrom file (onwards p (callAt file (p .at) x)) xs
+
+-- the place after so many reads of a file from its first byte
+abbrev pub readsTo : List ℕ → ℕ → Place
+readsTo file n = placeFrom file outset (replicate n read)
+
+-- what a call must be answered, for the length of lent memory and the commands t taken before it
+abbrev pub ruled : ℕ → List Command → Call → Outcome
+ruled size t (command c next) = entered (answerOf (refusal false size (ledgerOf t) c))
+ruled size t (stop r) = stopped r
+ruled size t (settlement records) = settled (settledBy (settleRefusal false size (length records) (ledgerOf t)) (ledgerOf t) records)
+
+-- the outcomes that a list of steps must have from a place on
+unfoldable pub ruledFrom : List ℕ → ℕ → Place → List Step → List Outcome
+ruledFrom file size p [] = []
+ruledFrom file size p (x ∷ xs) =
+    ruled size (taken size (p .commands)) (callAt file (p .at) x) ∷ ruledFrom file size (onwards p (callAt file (p .at) x)) xs
+
+-- ---- what a list leaves
+
+-- lent memory with the entries of a list of commands
+unfoldable pub putInto : Memory → List Command → Memory
+putInto memory [] = memory
+putInto memory (c ∷ t) = putInto (putMeter memory c) t
+
+-- the state that a list must leave at a place: the commands taken, put into the empty book and into what was lent
+abbrev pub leftAt : Memory → Place → State
+leftAt memory p =
+    record {
+      at = p .at;
+      book = putAll emptyBook (taken (roomIn memory) (p .commands));
+      memory = putInto memory (taken (roomIn memory) (p .commands));
+    }

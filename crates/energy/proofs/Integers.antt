@@ -25,10 +25,11 @@ use lib.Dec.{T, ltb, leb, leb→le, le→leb, ltb→lt, lt→ltb, nltb→le}
 use lib.IntN.{ℤ, pos, negsuc, negℤ, natAbs, subℕ, _+ℤ_, _-ℤ_, _*ℤ_}
 use lib.Signed.{leZ, ltZ, nonNeg, quotZ, remZ, _≤ℤ_, _<ℤ_}
 use native.Mathlib.Nat.{zero-div, zero-mod, div-add-mod, div-le-self, mod-lt}
-use mir.Syntax.{Width}
-use mir.Val.{SFits, hbits}
+use mir.Syntax.{Width, w64}
+use mir.Val.{SFits, toZ, ofZ, hbits}
+use mir.Facts.{toZ-ofZ}
 use lib.Pow.{pow-pos}
-use Rattle.energy.specs.Number.{up, down}
+use Rattle.energy.specs.Number.{up, down, Within, Upto}
 use borrow.Author.Tests.{leb-false, ltb-false, le-leb, lt-leb}
 
 -- z is p - n. Then its own parts, of which one is 0, are at most p and n
@@ -140,7 +141,17 @@ pub <-apart : {a b : ℤ} → a <ℤ b → up a + down b < up b + down a
 pub ruleset arithℤ = (arith, from-parts, to-parts, ≤-from-parts, <-from-parts, ≤-apart, <-apart)
 
 pub distrib : (a b c : ℤ) → a *ℤ (b +ℤ c) ≡ a *ℤ b +ℤ a *ℤ c
-distrib a b c = omega (arithℤ, mul-parts a (b +ℤ c), mul-parts a b, mul-parts a c, add-parts (a *ℤ b) (a *ℤ c), ap (λ x. up a * x) (add-is b c), ap (λ x. down a * x) (add-is b c))
+distrib a b c =
+    omega (
+      arithℤ,
+      mul-parts a (b +ℤ c),
+      mul-parts a b,
+      mul-parts a c,
+      add-parts (a *ℤ b) (a *ℤ c),
+      ap (λ x. up a * x) (add-is b c),
+      ap
+          (λ x. down a * x) (add-is b c),
+    )
 
 -- ---- a signed width's range, and the magnitude
 pub fits-parts : (w : Width) (z : ℤ) → (up z < 2 ^ hbits w) × (down z ≤ 2 ^ hbits w) → SFits w z
@@ -162,6 +173,20 @@ pub fits-product : (w : Width) (a b : ℤ)
     → (up a * up b + down a * down b < 2 ^ hbits w) × (up a * down b + down a * up b ≤ 2 ^ hbits w)
     → SFits w (a *ℤ b)
 fits-product w a b h = fits-parts w (a *ℤ b) (omega (arith, mul-parts a b))
+
+-- two amounts and their sum fit the machine's 64 bits
+pub record Added (a b : ℤ) : Type 0 where
+  pub first : SFits w64 a
+  pub second : SFits w64 b
+  pub both : SFits w64 (a +ℤ b)
+
+pub added : (a b : ℤ) → Within 100000000000000 a → Within 100000000000000 b → Added a b
+added a b h k =
+    record {
+      first = fits-parts w64 a (omega arith);
+      second = fits-parts w64 b (omega arith);
+      both = fits-parts w64 (a +ℤ b) (omega (arith, add-parts a b));
+    }
 
 pub abs-parts : (z : ℤ) → natAbs z ≡ up z + down z
 abs-parts (pos n) = omega arith
@@ -226,6 +251,18 @@ leZ-no (negsuc a) (negsuc b) h = lt-leb b a (omega arith)
 pub nonNeg-parts : (z : ℤ) → down z ≡ 0 → T (nonNeg z)
 nonNeg-parts (pos n) h = tt
 nonNeg-parts (negsuc n) h = absurd (omega arith)
+
+-- a signed number from 0 on, as the machine holds it: it reads back as it is, and may be cast to an unsigned one
+pub record Unsigned (z : ℤ) : Type 0 where
+  pub plain : toZ w64 (ofZ w64 z) ≡ z
+  pub nonneg : T (nonNeg z)
+
+pub unsigned : (n : ℕ) (z : ℤ) → n < 2 ^ 63 → Upto n z → Unsigned z
+unsigned n z l h =
+    record {
+      plain = toZ-ofZ (fits-parts w64 z (omega (arith, abs-parts z)));
+      nonneg = nonNeg-parts z (h .1);
+    }
 
 pub order : (a b : ℤ) → (a <ℤ b) ⊎ (b ≤ℤ a)
 order a b = go (ltZ a b) refl

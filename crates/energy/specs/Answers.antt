@@ -4,14 +4,30 @@ use mathlib.Core.Bool.{Bool, _&&_, cond}
 use mathlib.Core.Option.{Option, none, some}
 use Prim.Native.Nat.{ℕ}
 use lib.Dec.{leb}
-use lib.IntN.{ℤ, pos, negsuc}
+use lib.IntN.{ℤ, pos, negℤ, natAbs}
 use lib.Signed.{leZ}
 use Rattle.energy.specs.Energy.{payment, penceOfParts, periodParts}
-use Rattle.energy.specs.Number.{nearest, up}
+use Rattle.energy.specs.Number.{nearest}
 use Rattle.energy.specs.declared.money.Paid.{Paid}
 use Rattle.energy.specs.declared.money.Paid.the-variants.{Pays, Refused as RefusedPay}
 use Rattle.energy.specs.declared.round.Rounded.{Rounded}
 use Rattle.energy.specs.declared.round.Rounded.the-variants.{Value, Refused}
+
+-- the largest contracted kW, and the largest rate
+abbrev pub mostKw : ℕ
+mostKw = 500000
+
+abbrev pub mostRate : ℕ
+mostRate = 1000000
+
+-- the largest P
+abbrev pub mostP : ℕ
+mostP = 30
+
+-- the most kWh of a segment, either way: 30 minutes, each at most 500,000 kW from a base load that is at most 500,000 kW on the other side of 0. No operand
+-- gives kWh, so that the paper states no range of them
+abbrev pub mostKwh : ℕ
+mostKwh = 500000
 
 -- 3 where the numbers are not inside their ranges
 abbrev pub unless : Bool → Option ℕ
@@ -31,11 +47,11 @@ paidBy (some r) p = RefusedPay r
 unfoldable pub rounded : ℤ → ℕ → Rounded
 rounded n d = roundedBy (unless (leb 1 d)) (nearest n d)
 
--- the pence for k kWh at a rate: from −500,000 to 500,000 kWh, and a rate to 1,000,000
+-- the pence for k kWh at a rate: kWh that a segment can have, and a rate that a contract can have
 unfoldable pub paidFor : ℤ → ℕ → Paid
-paidFor k rate = paidBy (unless (leZ (negsuc 499999) k && leZ k (pos 500000) && leb rate 1000000)) (payment k rate)
+paidFor k rate = paidBy (unless (leZ (negℤ (pos mostKwh)) k && leZ k (pos mostKwh) && leb rate mostRate)) (payment k rate)
 
--- the pence of a period: from 0 to 500,000 kW, a rate to 1,000,000, and P to 30
+-- the pence of a period: kW from 0 to the largest contract's, a rate that a contract can have, and P to its limit
 unfoldable pub paidForPeriod : ℤ → ℕ → ℕ → Paid
 paidForPeriod kw rate p =
-    paidBy (unless (leZ (pos 0) kw && leZ kw (pos 500000) && leb rate 1000000 && leb p 30)) (penceOfParts (periodParts (up kw) rate p))
+    paidBy (unless (leZ (pos 0) kw && leZ kw (pos mostKw) && leb rate mostRate && leb p mostP)) (penceOfParts (periodParts (natAbs kw) rate p))

@@ -1,7 +1,8 @@
 -- Division as the rules round it, and how large a signed number is.
+use mathlib.Core.Path.{_≡_}
 use Prim.Native.Nat.{ℕ, suc, _+_, _-_, _*_, _/_, _≤_}
 use mathlib.Core.Bool.{cond}
-use lib.IntN.{ℤ, pos, negsuc, _+ℤ_, _*ℤ_}
+use lib.IntN.{ℤ, pos, negsuc, natAbs, _+ℤ_, _*ℤ_}
 use lib.Signed.{shrZ, leZ}
 
 -- n / d, taken up to a whole number
@@ -29,3 +30,7 @@ down (negsuc n) = suc n
 -- z is from −n to n
 abbrev pub Within : ℕ → ℤ → Type 0
 Within n z = (up z ≤ n) × (down z ≤ n)
+
+-- z is from 0 to n
+abbrev pub Upto : ℕ → ℤ → Type 0
+Upto n z = (natAbs z ≤ n) × (down z ≡ 0)

@@ -2,10 +2,15 @@
 // rounded number again: a single unsigned division then rounds.
 ghost use mathlib.Core.Path.{_≡_};
 ghost use Prim.Native.Nat.{_≤_};
-ghost use lib.IntN.{pos};
+ghost use lib.IntN.{natAbs, pos};
 ghost use Rattle.energy.specs.Answers.{paidFor, paidForPeriod};
 ghost use Rattle.energy.specs.Energy.{capped, kwh, payment, penceOfParts, periodParts};
-ghost use Rattle.energy.specs.Number.{Within, down};
+ghost use Rattle.energy.specs.Number.{Upto, Within, down};
+use crate::limits::KW_MOST;
+use crate::limits::KWH_LEAST;
+use crate::limits::KWH_MOST;
+use crate::limits::P_MOST;
+use crate::limits::RATE_MOST;
 use crate::round::half_up;
 use crate::round::quotient;
 use crate::units::Kw;
@@ -62,11 +67,11 @@ pub fn payment_pence(k: Kwh, rate: u32) -> Pence
 }
 
 // The pence of a paid period.
-pub fn period_pence(kw: u32, rate: u32, p: u32) -> Pence
-    requires { ⌜ (kw ≤ 500000) × (rate ≤ 1000000) × (p ≤ 30) ⌝ }
-    ensures { λ r. ⌜ (r .0 ≡ penceOfParts (periodParts kw rate p)) × Within 250000000 (r .0) × (down (r .0) ≡ 0) ⌝ }
+pub fn period_pence(kw: Kw, rate: u32, p: u32) -> Pence
+    requires { ⌜ Upto 500000 (kw .0) × (rate ≤ 1000000) × (p ≤ 30) ⌝ }
+    ensures { λ r. ⌜ (r .0 ≡ penceOfParts (periodParts (natAbs (kw .0)) rate p)) × Within 250000000 (r .0) × (down (r .0) ≡ 0) ⌝ }
 {
-    let parts = kw as u64 * rate as u64 * (100 - p) as u64;
+    let parts = kw.0 as u64 * rate as u64 * (100 - p) as u64;
     let pence = half_up(parts, 200000) as i64;
     Pence(pence)
 }
@@ -79,24 +84,24 @@ pub fn kwh_of(quarters: i64) -> Kwh
     Kwh(k)
 }
 
-// The pence for kWh at a rate, for any numbers: 3 outside -500,000 to 500,000 kWh or above a rate of 1,000,000.
+// The pence for kWh at a rate, for any numbers: 3 for kWh that no segment has, or a rate that no contract has.
 pub fn pay(capped: Kwh, rate: u32) -> Paid
     ensures { λ r. ⌜ r ≡ paidFor (capped .0) rate ⌝ }
 {
     let k = capped.0;
-    if (-500000 <= k) & (k <= 500000) & (rate <= 1000000) {
+    if (KWH_LEAST <= k) & (k <= KWH_MOST) & (rate <= RATE_MOST) {
         return Paid::Pays(payment_pence(capped, rate));
     }
     Paid::Refused(3)
 }
 
-// The pence of a period, for any numbers: 3 outside 0 to 500,000 kW, above a rate of 1,000,000, or above a P of 30.
+// The pence of a period, for any numbers: 3 for kW below 0 or above every contract's, a rate that no contract has, or a P above its limit.
 pub fn pay_period(kw: Kw, rate: u32, p: u32) -> Paid
     ensures { λ r. ⌜ r ≡ paidForPeriod (kw .0) rate p ⌝ }
 {
     let power = kw.0;
-    if (0 <= power) & (power <= 500000) & (rate <= 1000000) & (p <= 30) {
-        return Paid::Pays(period_pence(power as u32, rate, p));
+    if (0 <= power) & (power <= KW_MOST) & (rate <= RATE_MOST) & (p <= P_MOST) {
+        return Paid::Pays(period_pence(kw, rate, p));
     }
     Paid::Refused(3)
 }

@@ -1,9 +1,12 @@
 // The two sums of a segment, in quarter kW-minutes: what its minutes expect, and what they deliver over the base load.
 ghost use mathlib.Core.Path.{_≡_};
 ghost use Prim.Native.Nat.{_≤_};
+ghost use lib.IntN.{natAbs};
 ghost use Rattle.energy.specs.Energy.{Readable, cell, deliveredIn, expectedIn};
 ghost use Rattle.energy.specs.Lists.{between, sum};
-ghost use Rattle.energy.specs.Number.{Within};
+ghost use Rattle.energy.specs.Number.{Upto, Within};
+use crate::units::Kw;
+use crate::units::Minutes;
 
 // The sum of the readings from minute `from` to `to` - 1. A period's sum fits i32, and the compiler adds several cells at a time.
 pub fn total(meter: &[i32], from: usize, to: usize) -> i32
@@ -35,12 +38,14 @@ pub fn delivered(kind: u8, base: i32, meter: &[i32], from: usize, to: usize) -> 
 }
 
 // What so many minutes of one stage expect, steady or on a ramp.
-pub fn expected(kw: u32, steady: bool, minutes: u32) -> u32
-    requires { ⌜ (kw ≤ 500000) × (minutes ≤ 30) ⌝ }
-    ensures { λ r. ⌜ (r ≡ expectedIn kw steady minutes) × (r ≤ 60000000) ⌝ }
+pub fn expected(kw: Kw, steady: bool, minutes: Minutes) -> u32
+    requires { ⌜ Upto 500000 (kw .0) × (minutes .0 ≤ 30) ⌝ }
+    ensures { λ r. ⌜ (r ≡ expectedIn (natAbs (kw .0)) steady (minutes .0)) × (r ≤ 60000000) ⌝ }
 {
+    let power = kw.0 as u32;
+    let n = minutes.0 as u32;
     if steady {
-        return minutes * (4 * kw);
+        return n * (4 * power);
     }
-    minutes * (2 * kw)
+    n * (2 * power)
 }

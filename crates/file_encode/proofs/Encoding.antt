@@ -71,8 +71,18 @@ module _ (m : List ℕ) (at : ℕ) (widths v out : List ℕ) (place k : ℕ) (p 
         record {
           stands = rw (total-more widths k inside, p .stands, add-assoc);
           holds =
-              rw (e, part, width, put-part (bytesOf (getD widths k 0) (getD v k 0)) out place (getD widths k 0) (length-bytes (getD widths k 0) (getD v k 0)), p .holds, add-one k, operand-suc widths v k inside has)
-              (put-put (writeOperands (take k widths) v) (bytesOf (getD widths k 0) (getD v k 0)) m at place (reached (le-of-lt inside) (le-of-lt has)) (omega arith));
+              rw (
+                e,
+                part,
+                width,
+                put-part (bytesOf (getD widths k 0) (getD v k 0)) out place (getD widths k 0)
+                    (length-bytes (getD widths k 0) (getD v k 0)),
+                p .holds,
+                add-one k,
+                operand-suc widths v k inside has,
+              )
+              (put-put (writeOperands (take k widths) v) (bytesOf (getD widths k 0) (getD v k 0)) m at place (reached (le-of-lt inside) (le-of-lt has))
+              (omega arith));
         }
 
 -- ---- commands

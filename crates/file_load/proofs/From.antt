@@ -24,7 +24,8 @@ unfolding readAt
 past-end s at h = rw (le-leb (length s) at h)
 
 -- a command that is taken is followed by what `go` gives
-carried : (go go′ : Book → Memory → LoadedFile) (at : ℕ) (a : Answer) (e : Entered) → ((b : Book) (m : Memory) → go b m ≡ go′ b m) → carriesOn go at a e ≡ carriesOn go′ at a e
+carried : (go go′ : Book → Memory → LoadedFile) (at : ℕ) (a : Answer) (e : Entered) → ((b : Book) (m : Memory) → go b m ≡ go′ b m)
+    → carriesOn go at a e ≡ carriesOn go′ at a e
 carried go go′ at Taken e h = h (e .entry .book) (e .meter)
 carried go go′ at (Refused n) e h = refl
 
@@ -39,7 +40,8 @@ enough (suc n) (suc k) s at b m h i = go (λ next b m. enough n k s next b m) (r
         → (r : Read) → readAt s at ≡ r → loadsOn (λ next b m. loadFrom n s next b m) at b m r ≡ loadsOn (λ next b m. loadFrom k s next b m) at b m r
     go rest (Got c next) e =
         let l : (at < next) × (next ≤ length s) = got-within s at e in
-        carried (loadFrom n s next) (loadFrom k s next) at (enterBook b m c .entry .answer) (enterBook b m c) (λ b′ m′. rest next b′ m′ (omega arith) (omega arith))
+        carried (loadFrom n s next) (loadFrom k s next) at (enterBook b m c .entry .answer) (enterBook b m c)
+        (λ b′ m′. rest next b′ m′ (omega arith) (omega arith))
     go rest (refusedʳ x) e = refl
     go rest End e = refl
 

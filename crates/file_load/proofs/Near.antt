@@ -1,4 +1,4 @@
--- A reading as the bytes say it, its kW raised and lowered again: the same reading where a cell takes it, and none where none does.
+-- A reading as the bytes say it, its kW raised and lowered again: the same reading where a cellReading takes it, and none where none does.
 use mathlib.Core.Path.{_≡_, refl, sym, ap, _∙_}
 use mathlib.Core.Bool.{Bool, true, false, cond}
 use mathlib.Core.List.{List, [], _∷_}
@@ -17,7 +17,7 @@ use Rattle.commands.specs.declared.entries.Command.the-variants.{Reading as rea
 use Rattle.commands.proofs.Input.{input-none}
 use Rattle.rules.specs.File.{table, widthsOf, total, operands, wordFrom, signedOf, commandOf, readAt}
 use Rattle.rules.specs.declared.file.Read.the-variants.{Got}
-use Rattle.book_memory.specs.Meter.{cell, putMeter, takesReading, Memory}
+use Rattle.book_memory.specs.Meter.{cellReading, putMeter, takesReading, Memory}
 use Rattle.book_memory.proofs.Taking.{taken-fits}
 use Rattle.file_read.proofs.Found.{entire, found-reads}
 use Rattle.file_load.specs.Turn.{Stand, standAt}
@@ -42,19 +42,20 @@ module _ (n : ℕ) (fits : n < 2 ^ 32) where
   far-down h = rw (lt-leb (2 ^ 32 - suc n) 499999 (omega arith))
 
   -- lowered again, it is the same reading, or none
-  pub near-cell : cell (pos (raised n) -ℤ pos 500000) ≡ cell (signedOf n)
+  pub near-cell : cellReading (pos (raised n) -ℤ pos 500000) ≡ cellReading (signedOf n)
   unfolding signedOf
   near-cell = go (ltb n (2 ^ 31)) (ltb n (2 ^ 32 - 500000)) refl refl
     where
-      go : (x y : Bool) → ltb n (2 ^ 31) ≡ x → ltb n (2 ^ 32 - 500000) ≡ y → cell (pos (raised n) -ℤ pos 500000) ≡ cell (cond x (pos n) (negsuc (2 ^ 32 - suc n)))
-      go true y e f = ap cell (low (omega (arith, ltb-true n (2 ^ 31) e)))
+      go : (x y : Bool) → ltb n (2 ^ 31) ≡ x → ltb n (2 ^ 32 - 500000) ≡ y
+          → cellReading (pos (raised n) -ℤ pos 500000) ≡ cellReading (cond x (pos n) (negsuc (2 ^ 32 - suc n)))
+      go true y e f = ap cellReading (low (omega (arith, ltb-true n (2 ^ 31) e)))
       go false true e f =
           let h = ltb-true n (2 ^ 32 - 500000) f in
           rw (low h, far-up (ltb-false n (2 ^ 31) e), far-down h)
-      go false false e f = ap cell (high (ltb-false n (2 ^ 32 - 500000) f))
+      go false false e f = ap cellReading (high (ltb-false n (2 ^ 32 - 500000) f))
 
--- two numbers of which a cell says the same
-module _ (k z : ℤ) (e : cell k ≡ cell z) where
+-- two numbers of which a cellReading says the same
+module _ (k z : ℤ) (e : cellReading k ≡ cellReading z) where
   pub same-test : isReading k ≡ isReading z
   same-test = go (isReading k) (isReading z) e
     where
@@ -84,10 +85,11 @@ unfolding total operands commandOf
 reads s at room byte =
     let known : widthsOf (getD s at 0) table ≡ some (2 ∷ 4 ∷ []) = unfold table widthsOf in rw byte in
     let three : at + 1 + 2 ≡ at + 3 = omega arith in
-    rw (found-reads {s = s} {at = at} (entire (omega arith) known (omega arith)), byte, drop-drop 2 (at + 1) s, three)
+    let said : commandOf (getD s at 0) (operands (2 ∷ 4 ∷ []) (drop (at + 1) s)) ≡ some (readingᶜ (read s at)) = rw (byte, drop-drop 2 (at + 1) s, three) in
+    found-reads {s = s} {at = at} (entire (omega arith) known (omega arith) said)
 
--- a reading with the same minute, and a kW of which a cell says the same, is taken alike and leaves the same
-module _ (span : ℕ) (meter : Memory) (r o : Reading) (minute : r .minute .0 ≡ o .minute .0) (kw : cell (r .kw .0) ≡ cell (o .kw .0)) where
+-- a reading with the same minute, and a kW of which a cellReading says the same, is taken alike and leaves the same
+module _ (span : ℕ) (meter : Memory) (r o : Reading) (minute : r .minute .0 ≡ o .minute .0) (kw : cellReading (r .kw .0) ≡ cellReading (o .kw .0)) where
   taken-alike : takesReading span meter (readingᶜ r) ≡ takesReading span meter (readingᶜ o)
   unfolding takesReading
   taken-alike = rw (input-none (readingᶜ r), input-none (readingᶜ o), minute, same-test (r .kw .0) (o .kw .0) kw)
@@ -97,7 +99,7 @@ module _ (span : ℕ) (meter : Memory) (r o : Reading) (minute : r .minute .0 �
 
 -- a turn at a whole reading, as the code takes it
 module _ (span : ℕ) (s : List ℕ) (at : ℕ) (meter : Memory) (room : at + 7 ≤ length s) (byte : getD s at 0 ≡ 0x4D) (r : Reading)
-    (minute : r .minute .0 ≡ read s at .minute .0) (kw : cell (r .kw .0) ≡ cell (read s at .kw .0)) where
+    (minute : r .minute .0 ≡ read s at .minute .0) (kw : cellReading (r .kw .0) ≡ cellReading (read s at .kw .0)) where
   pub near-stand : (t : Bool) (after : Memory) → t ≡ takesReading span meter (readingᶜ r) → after ≡ cond t (putMeter meter (readingᶜ r)) meter
       → (cond t (at + 7) at ≡ standAt span s at meter .at) × (after ≡ standAt span s at meter .meter)
   unfolding standAt
@@ -106,6 +108,7 @@ module _ (span : ℕ) (s : List ℕ) (at : ℕ) (meter : Memory) (room : at + 7 
       left : Bool → Stand
       left t = cond t (record { at = at + 7; meter = putMeter meter (readingᶜ (read s at)) }) (record { at = at; meter = meter })
 
-      go : (t : Bool) → t ≡ takesReading span meter (readingᶜ r) → after ≡ cond t (putMeter meter (readingᶜ r)) meter → (cond t (at + 7) at ≡ left t .at) × (after ≡ left t .meter)
+      go : (t : Bool) → t ≡ takesReading span meter (readingᶜ r) → after ≡ cond t (putMeter meter (readingᶜ r)) meter
+          → (cond t (at + 7) at ≡ left t .at) × (after ≡ left t .meter)
       go true e f = (refl, f ∙ put-alike span meter r (read s at) minute kw (sym e))
       go false e f = (refl, f)

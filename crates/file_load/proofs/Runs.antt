@@ -10,19 +10,15 @@ use lib.Dec.{eqb, leb, ltb}
 use lib.ListN.{length, getD, drop}
 use Rattle.energy.specs.Lists.{else}
 use Rattle.energy.proofs.Tests.{on-and}
-use Rattle.commands.specs.declared.contract.Contract.{Contract}
-use Rattle.commands.specs.declared.entries.Window.{Window}
-use Rattle.commands.specs.declared.entries.Instruction.{Instruction}
-use Rattle.commands.specs.declared.entries.Default.{Default}
 use Rattle.commands.specs.declared.entries.Command.{Command}
-use Rattle.commands.specs.declared.entries.Command.the-variants.{Contract as contractᶜ, Window as windowᶜ, Instruction as instructionᶜ, Default as defaultᶜ, Close as closeᶜ}
-use Rattle.rules.specs.File.{table, widthsOf, total, operands, commandOf, readAt}
+use Rattle.commands.specs.declared.entries.Command.the-variants.{Contract as contractᶜ, Window as windowᶜ, Instruction as instructionᶜ, Default as defaultᶜ, Reading as readingᶜ, Close as closeᶜ}
+use Rattle.rules.specs.File.{table, widthsOf, total, operands, byteOf, readAt}
 use Rattle.rules.specs.declared.file.Read.{Read}
 use Rattle.rules.specs.declared.file.Read.the-variants.{Got, End}
 use Rattle.rules.specs.declared.file.Read.the-variants.{Refused as refusedʳ}
 use Rattle.book_memory.specs.Meter.{takesReading, Memory}
 use Rattle.file_read.proofs.Found.{Found, ended, unknown, short, entire, found}
-use Rattle.file_read.proofs.Steps.{got-within}
+use Rattle.file_read.proofs.Steps.{got-within, byte-back}
 use Rattle.file_load.specs.Turn.{Stand, standBy, standAt, stands, Run, wholeReading}
 
 -- what is known where a whole reading stands
@@ -63,23 +59,15 @@ module _ (span : ℕ) (s : List ℕ) (at : ℕ) (meter : Memory) where
   abbrev Left : Command → Type 0
   Left c = takesReading span meter c ≡ false
 
-  others : ((k : Contract) → Left (contractᶜ k)) × ((w : Window) → Left (windowᶜ w)) × ((i : Instruction) → Left (instructionᶜ i)) × ((d : Default) → Left (defaultᶜ d)) × Left closeᶜ
+  -- no reading is taken of a command with another byte
+  other-byte : (c : Command) → eqb (byteOf c) 0x4D ≡ false → Left c
   unfolding takesReading
-  others = (λ k. refl, λ w. refl, λ i. refl, λ d. refl, refl)
-
-  -- a command with another byte is no reading
-  other-byte : (b : ℕ) (v : List ℕ) → eqb b 0x4D ≡ false → Left (commandOf b v)
-  unfolding commandOf
-  other-byte b v e =
-      pick (eqb b 0x43) _ _ (others .0 _) (pick (eqb b 0x57) _ _ (others .1 _) (pick (eqb b 0x49) _ _ (others .2 _) (pick (eqb b 0x44) _ _ (others .3 _) (pass (eqb b 0x4D) _ _ e (others .4)))))
-    where
-      pick : (p : Bool) (c d : Command) → Left c → Left d → Left (cond p c d)
-      pick true c d h k = h
-      pick false c d h k = k
-
-      pass : (p : Bool) (c d : Command) → p ≡ false → Left d → Left (cond p c d)
-      pass true c d e k = absurd (true≢false e)
-      pass false c d e k = k
+  other-byte (contractᶜ k) e = refl
+  other-byte (windowᶜ w) e = refl
+  other-byte (instructionᶜ i) e = refl
+  other-byte (defaultᶜ d) e = refl
+  other-byte (readingᶜ r) e = absurd (true≢false e)
+  other-byte closeᶜ e = refl
 
   -- a command that is there whole and no whole reading has another byte
   not-whole : (ws : List ℕ) → wholeReading s at ≡ false → at < length s → widthsOf (getD s at 0) table ≡ some ws → 1 + total ws ≤ length s - at
@@ -106,14 +94,15 @@ module _ (span : ℕ) (s : List ℕ) (at : ℕ) (meter : Memory) where
       go (ended h) = refl
       go (unknown h e) = refl
       go (short h e k) = refl
-      go (entire {ws} h e k) = left _ _ (other-byte (getD s at 0) (operands ws (drop (at + 1) s)) (not-whole ws w h e k))
+      go (entire {ws} {c} h e k g) = left c _ (other-byte c (rw (byte-back (getD s at 0) (operands ws (drop (at + 1) s)) c g) (not-whole ws w h e k)))
 
   -- where a turn stands still, meter memory is as it was
   unmoved : standAt span s at meter .at ≡ at → standAt span s at meter .meter ≡ meter
   unfolding standAt
   unmoved = go (readAt s at) refl
     where
-      answered : (x : Bool) (y : Stand) → at < y .at → cond x y (record { at = at; meter = meter }) .at ≡ at → cond x y (record { at = at; meter = meter }) .meter ≡ meter
+      answered : (x : Bool) (y : Stand) → at < y .at → cond x y (record { at = at; meter = meter }) .at ≡ at
+          → cond x y (record { at = at; meter = meter }) .meter ≡ meter
       answered true y l h = absurd (omega (arith, l, h))
       answered false y l h = refl
 
@@ -123,7 +112,8 @@ module _ (span : ℕ) (s : List ℕ) (at : ℕ) (meter : Memory) where
       go End e h = refl
 
   -- and another turn stands still too
-  pub still : (after : Memory) → (at ≡ standAt span s at meter .at) × (after ≡ standAt span s at meter .meter) → standAt span s at after ≡ record { at = at; meter = after }
+  pub still : (after : Memory) → (at ≡ standAt span s at meter .at) × (after ≡ standAt span s at meter .meter)
+      → standAt span s at after ≡ record { at = at; meter = after }
   still after e =
       let same : after ≡ meter = e .1 ∙ unmoved (sym (e .0)) in
       rw same (stand-is _ _ _ (sym (e .0)) (unmoved (sym (e .0))))

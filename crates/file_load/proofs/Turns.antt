@@ -20,7 +20,7 @@ use Rattle.book.specs.Readings.{openSpan}
 use Rattle.book.specs.Sound.{sound}
 use Rattle.book.specs.declared.Book.{Book}
 use Rattle.book.proofs.Kept.{Kept, kept}
-use Rattle.book.proofs.Readings.{reading-enters}
+use Rattle.book.proofs.OpenSpan.{reading-enters}
 use Rattle.file_read.proofs.Steps.{got-within}
 use Rattle.file_load.specs.Load.{LoadedFile, carriesOn, loadsOn}
 use Rattle.file_load.specs.Turn.{goesBy, turnBy, turnAt, Stand, standBy, standAt, stands, Run}
@@ -39,7 +39,8 @@ module _ (s : List ℕ) (at : ℕ) (b : Book) (meter : Memory) where
   unfolding turnAt
   turn-rest = from-step s at b meter ∙ go (readAt s at)
     where
-      answered : (next : ℕ) (a : Answer) (e : Entered) → carriesOn (λ b m. from s next b m) at a e ≡ rest s (goesBy at next a (e .entry .book) .going) (goesBy at next a (e .entry .book) .loaded) (e .meter)
+      answered : (next : ℕ) (a : Answer) (e : Entered)
+          → carriesOn (λ b m. from s next b m) at a e ≡ rest s (goesBy at next a (e .entry .book) .going) (goesBy at next a (e .entry .book) .loaded) (e .meter)
       answered next Taken e = refl
       answered next (Refused n) e = refl
 
@@ -58,7 +59,8 @@ module _ (s : List ℕ) (at : ℕ) (b : Book) (meter : Memory) where
       answered next Taken e h g = h
       answered next (Refused n) e h g = absurd (false≢true g)
 
-      go : (r : Read) → readAt s at ≡ r → turnBy at b meter r .turn .going ≡ true → (at < turnBy at b meter r .turn .loaded .at) × (turnBy at b meter r .turn .loaded .at ≤ length s)
+      go : (r : Read) → readAt s at ≡ r → turnBy at b meter r .turn .going ≡ true
+          → (at < turnBy at b meter r .turn .loaded .at) × (turnBy at b meter r .turn .loaded .at ≤ length s)
       go (Got c next) e g = answered next (enterBook b meter c .entry .answer) (enterBook b meter c .entry .book) (got-within s at e) g
       go (refusedʳ n) e g = absurd (false≢true g)
       go End e g = absurd (false≢true g)
@@ -108,7 +110,8 @@ module _ (span : ℕ) (s : List ℕ) (at : ℕ) (meter : Memory) where
           → from s at b meter ≡ from s (chosen x at next meter c .at) b (chosen x at next meter c .meter)
       answered c next true e t =
           from-step s at b meter ∙ ap (loadsOn (λ next b m. from s next b m) at b meter) e
-          ∙ ap (λ (x : Entered). carriesOn (λ b m. from s next b m) at (x .entry .answer) x) (reading-enters b meter c k (ap (λ n. takesReading n meter c) (sym o) ∙ t))
+          ∙ ap (λ (x : Entered). carriesOn (λ b m. from s next b m) at (x .entry .answer) x)
+          (reading-enters b meter c k (ap (λ n. takesReading n meter c) (sym o) ∙ t))
       answered c next false e t = refl
 
       go : (r : Read) → readAt s at ≡ r → from s at b meter ≡ from s (standBy span at meter r .at) b (standBy span at meter r .meter)
@@ -191,4 +194,4 @@ pub run-again : (s : List ℕ) (at : ℕ) (b : Book) (span : ℕ) (meter : Memor
     → span ≡ openSpan b (roomIn meter) → from s at b meter ≡ from s next b after
 run-again s at b span meter next after r k o =
     let x : Stand = record { at = at; meter = meter } in
-    rw (r .reached) at (stands-rest span s x b (k .left) o (r .turns))
+    rw (r .reached) at (stands-rest span s x b (k .sound) o (r .turns))

@@ -11,7 +11,7 @@ ghost use Rattle.file_load.specs.Turn.{stopsAt, goesBy, turnAt};
 use crate::readings::take_readings;
 use book::Book;
 use book::Entry;
-use file_read::decode::read_at;
+use file_read::reader::read_from;
 use rules::answer::Answer;
 use rules::file::Read;
 
@@ -62,17 +62,20 @@ fn entered(e: Entry, at: usize, next: usize) -> Turn
     }
 }
 
-// The command at a position, read and entered.
+// The command at a position, read by the reader and entered.
 fn read_and_enter(b: Book, s: &[u8], at: usize, meter: &mut [i32]) -> Turn
     requires { ⌜ sound b ≡ true ⌝ }
-    ensures { λ r. ⌜ (r ≡ turnAt (now (s .entry)) at b (lent (now (meter .entry))) .turn) × (lent (now (meter .exit)) ≡ turnAt (now (s .entry)) at b (lent (now (meter .entry))) .meter) ⌝ }
+    ensures { λ r. ⌜ r ≡ turnAt (now (s .entry)) at b (lent (now (meter .entry))) .turn ⌝ }
+    ensures { λ r. ⌜ lent (now (meter .exit)) ≡ turnAt (now (s .entry)) at b (lent (now (meter .entry))) .meter ⌝ }
 {
-    match read_at(s, at) {
+    let step = read_from(s, at);
+    let read = step.read;
+    match read {
         Read::End => stopped(Answer::Taken, at, b),
         Read::Refused(n) => stopped(Answer::Refused(n), at, b),
-        Read::Got(c, next) => {
+        Read::Got(c, _) => {
             let e = b.enter_known(c, meter);
-            entered(e, at, next)
+            entered(e, at, step.at)
         }
     }
 }

@@ -7,15 +7,16 @@ use commands::entries::Reading;
 use commands::entries::Window;
 use energy::units::Kw;
 use energy::units::Minutes;
+use file_table::table::CLOSE_BYTE;
 use file_table::table::CONTRACT_BYTE;
 use file_table::table::DEFAULT_BYTE;
 use file_table::table::INSTRUCTION_BYTE;
 use file_table::table::READING_BYTE;
 use file_table::table::WINDOW_BYTE;
+use rules::file::Read;
 ghost use mathlib.Core.Path.{_≡_};
 ghost use Prim.Native.Nat.{_<_, _^_};
-ghost use Rattle.rules.specs.File.{signedOf, commandOf};
-ghost use Rattle.commands.specs.declared.entries.Command.the-variants.{Contract as contractᶜ, Window as windowᶜ, Instruction as instructionᶜ, Default as defaultᶜ, Reading as readingᶜ};
+ghost use Rattle.rules.specs.File.{signedOf, contractFrom, windowFrom, instructionFrom, defaultFrom, readingFrom, commandOf, readAs};
 ghost use Rattle.file_table.specs.Operands.{Sized};
 
 // The signed number of four bytes, two's complement.
@@ -34,7 +35,7 @@ fn signed(number: u64) -> i64
 // Each entry from its operands, in the table's order.
 fn contract_of(v: [u64; 11]) -> Contract
     requires { ⌜ Sized 0x43 v ⌝ }
-    ensures { λ r. ⌜ contractᶜ r ≡ commandOf 0x43 v ⌝ }
+    ensures { λ r. ⌜ r ≡ contractFrom v ⌝ }
 {
     let contracted = Kw(v[3] as i64);
     let response = Minutes(v[6] as u16);
@@ -56,7 +57,7 @@ fn contract_of(v: [u64; 11]) -> Contract
 
 fn window_of(v: [u64; 11]) -> Window
     requires { ⌜ Sized 0x57 v ⌝ }
-    ensures { λ r. ⌜ windowᶜ r ≡ commandOf 0x57 v ⌝ }
+    ensures { λ r. ⌜ r ≡ windowFrom v ⌝ }
 {
     let start = Minutes(v[0] as u16);
     let end = Minutes(v[1] as u16);
@@ -69,7 +70,7 @@ fn window_of(v: [u64; 11]) -> Window
 
 fn instruction_of(v: [u64; 11]) -> Instruction
     requires { ⌜ Sized 0x49 v ⌝ }
-    ensures { λ r. ⌜ instructionᶜ r ≡ commandOf 0x49 v ⌝ }
+    ensures { λ r. ⌜ r ≡ instructionFrom v ⌝ }
 {
     let issue = Minutes(v[0] as u16);
     let cease = Minutes(v[1] as u16);
@@ -81,7 +82,7 @@ fn instruction_of(v: [u64; 11]) -> Instruction
 
 fn default_of(v: [u64; 11]) -> Default
     requires { ⌜ Sized 0x44 v ⌝ }
-    ensures { λ r. ⌜ defaultᶜ r ≡ commandOf 0x44 v ⌝ }
+    ensures { λ r. ⌜ r ≡ defaultFrom v ⌝ }
 {
     let minute = Minutes(v[0] as u16);
     Default {
@@ -93,7 +94,7 @@ fn default_of(v: [u64; 11]) -> Default
 
 fn reading_of(v: [u64; 11]) -> Reading
     requires { ⌜ Sized 0x4D v ⌝ }
-    ensures { λ r. ⌜ readingᶜ r ≡ commandOf 0x4D v ⌝ }
+    ensures { λ r. ⌜ r ≡ readingFrom v ⌝ }
 {
     let minute = Minutes(v[0] as u16);
     let kw = Kw(signed(v[1]));
@@ -103,17 +104,18 @@ fn reading_of(v: [u64; 11]) -> Reading
     }
 }
 
-// The command of a byte of the table. Of the table's bytes only that of a close is left to the range.
-pub fn command_of(byte: u8, v: [u64; 11]) -> Command
+// The command of a byte of the table, with the position after it; an unknown byte is answered as the reader answers it, by 1.
+pub fn command_of(byte: u8, v: [u64; 11], next: usize) -> Read
     requires { ⌜ Sized byte v ⌝ }
-    ensures { λ r. ⌜ r ≡ commandOf byte v ⌝ }
+    ensures { λ r. ⌜ r ≡ readAs (commandOf byte v) next ⌝ }
 {
     match byte {
-        CONTRACT_BYTE => Command::Contract(contract_of(v)),
-        WINDOW_BYTE => Command::Window(window_of(v)),
-        INSTRUCTION_BYTE => Command::Instruction(instruction_of(v)),
-        DEFAULT_BYTE => Command::Default(default_of(v)),
-        READING_BYTE => Command::Reading(reading_of(v)),
-        0x00..=0xFF => Command::Close,
+        CONTRACT_BYTE => Read::Got(Command::Contract(contract_of(v)), next),
+        WINDOW_BYTE => Read::Got(Command::Window(window_of(v)), next),
+        INSTRUCTION_BYTE => Read::Got(Command::Instruction(instruction_of(v)), next),
+        DEFAULT_BYTE => Read::Got(Command::Default(default_of(v)), next),
+        READING_BYTE => Read::Got(Command::Reading(reading_of(v)), next),
+        CLOSE_BYTE => Read::Got(Command::Close, next),
+        0x00..=0xFF => Read::Refused(1),
     }
 }

@@ -1,26 +1,25 @@
 -- Laws of a reader's steps, for those who read a file from its first byte to its last.
-use mathlib.Core.Path.{_≡_, refl, sym, ap, _∙_, subst}
-use mathlib.Core.Bool.{Bool, true, false}
-use mathlib.Core.Option.{some, Option·none-ne-some}
+use mathlib.Core.Path.{_≡_, refl, sym, ap, _∙_}
+use mathlib.Core.Bool.{Bool, true, false, cond}
+use mathlib.Core.Option.{Option, none, some, Option·none-ne-some}
 use mathlib.Core.Logic.{_⊎_, inl, inr}
-use mathlib.Core.List.{List, [], _∷_}
-use Prim.Native.Nat.{ℕ, zero, suc, _+_, _≤_, _<_}
+use mathlib.Core.List.{List}
+use Prim.Native.Nat.{ℕ, _+_, _≤_, _<_}
 use native.Mathlib.Omega.{arith}
 use borrow.Author.Tests.{eqb-true}
 use lib.Dec.{eqb}
 use lib.ListN.{length, getD, drop}
-use Rattle.rules.specs.File.{table, widthsOf, total, operands, commandOf, readAt, byteOf, widthsFor, write, commandsFrom}
+use Rattle.rules.specs.File.{total, operands, commandOf, readAt, byteOf, widthsFor, write}
 use Rattle.commands.specs.declared.entries.Command.{Command}
+use Rattle.commands.specs.declared.entries.Command.the-variants.{Close as closeᶜ}
 use Rattle.rules.proofs.Operands.{write-long}
 use Rattle.file_table.proofs.Rows.{widths-most}
-use Rattle.rules.specs.declared.file.Read.{Read}
-use Rattle.rules.specs.declared.file.Read.the-variants.{Got, Refused, End}
-use Rattle.file_read.specs.Reader.{after, stepAt}
+use Rattle.rules.specs.declared.file.Read.the-variants.{Got, Refused}
 use Rattle.file_read.proofs.Found.{Found, unknown, short, entire, found-at}
 
 -- a command that is read ends after where it begins, and within the bytes
 got-inside : {s : List ℕ} {at next : ℕ} {c : Command} → Found s at (Got c next) → (at < next) × (next ≤ length s)
-got-inside (entire h e k) = omega arith
+got-inside (entire h e k g) = omega arith
 
 pub got-within : (s : List ℕ) (at : ℕ) {c : Command} {next : ℕ} → readAt s at ≡ Got c next → (at < next) × (next ≤ length s)
 got-within s at e = got-inside (found-at e)
@@ -42,64 +41,24 @@ refused-near s at e = refused-left (found-at e)
 
 -- ---- a command is as long as what it is written as
 
--- a command of the table has the byte that it was read by
-byte-back : (b : ℕ) (v ws : List ℕ) → widthsOf b table ≡ some ws → byteOf (commandOf b v) ≡ b
-unfolding table widthsOf commandOf
-byte-back b v ws e =
-    try 0x43 refl
-    (λ k. try 0x57 refl
-    (λ l. try 0x49 refl
-    (λ m. try 0x44 refl
-    (λ n. try 0x4D refl
-    (λ o. try 0x5A refl
-    (λ p. absurd (Option·none-ne-some ws (rw (k, l, m, n, o, p) at e))))))))
+-- a command has the byte that it was read by
+pub byte-back : (b : ℕ) (v : List ℕ) (c : Command) → commandOf b v ≡ some c → byteOf c ≡ b
+unfolding commandOf
+byte-back b v c =
+    try 0x43 _ _ refl (try 0x57 _ _ refl
+    (try 0x49 _ _ refl (try 0x44 _ _ refl (try 0x4D _ _ refl (try 0x5A closeᶜ none refl (λ e. absurd (Option·none-ne-some c e)))))))
   where
-    try : (n : ℕ) → byteOf (commandOf n v) ≡ n → (eqb n b ≡ false → byteOf (commandOf b v) ≡ b) → byteOf (commandOf b v) ≡ b
-    try n h rest = go (eqb n b) refl
+    try : (n : ℕ) (x : Command) (rest : Option Command) → byteOf x ≡ n → (rest ≡ some c → byteOf c ≡ b) → cond (eqb n b) (some x) rest ≡ some c → byteOf c ≡ b
+    try n x rest h next = go (eqb n b) refl
       where
-        go : (t : Bool) → eqb n b ≡ t → byteOf (commandOf b v) ≡ b
-        go true k = subst (λ x. byteOf (commandOf x v) ≡ x) (eqb-true n b k) h
-        go false k = rest k
+        go : (t : Bool) → eqb n b ≡ t → cond t (some x) rest ≡ some c → byteOf c ≡ b
+        go true k e = let same : x ≡ c = cc in ap byteOf (sym same) ∙ h ∙ eqb-true n b k
+        go false k e = next e
 
 got-size : {s : List ℕ} {at next : ℕ} {c : Command} → Found s at (Got c next) → next ≡ at + length (write c)
-got-size {s} {at} (entire {ws} h e k) =
-    let b : ℕ = getD s at 0 in
-    let v : List ℕ = operands ws (drop (at + 1) s) in
-    let widths : widthsFor (commandOf b v) ≡ ws = rw (byte-back b v ws e, e) in
-    ap (λ n. at + n) (sym (write-long (commandOf b v) ∙ ap (λ x. 1 + total x) widths))
+got-size {s} {at} {c = c} (entire {ws} h e k g) =
+    let widths : widthsFor c ≡ ws = rw (byte-back (getD s at 0) (operands ws (drop (at + 1) s)) c g, e) in
+    ap (λ n. at + n) (sym (write-long c ∙ ap (λ x. 1 + total x) widths))
 
 pub got-long : (s : List ℕ) (at : ℕ) {c : Command} {next : ℕ} → readAt s at ≡ Got c next → next ≡ at + length (write c)
 got-long s at e = got-size (found-at e)
-
--- ---- what a step gives, by what is read
-
-pub step-got : (s : List ℕ) (at : ℕ) {c : Command} {next : ℕ} → readAt s at ≡ Got c next → stepAt s at ≡ record { read = Got c next; at = next }
-unfolding stepAt
-step-got s at e = rw e
-
--- an end, 1 or 2: no command, and the reader stays
-abbrev pub Stops : Read → Type 0
-Stops (Got c next) = ⊥
-Stops (Refused n) = Unit {0}
-Stops End = Unit {0}
-
-pub step-stops : (s : List ℕ) (at : ℕ) (r : Read) → readAt s at ≡ r → Stops r → stepAt s at ≡ record { read = r; at = at }
-unfolding stepAt
-step-stops s at (Refused n) e h = rw e
-step-stops s at End e h = rw e
-step-stops s at (Got c next) e h = absurd h
-
--- ---- the commands of a file, from a position on
-
--- a command that is read, and those after it
-pub commands-got : (s : List ℕ) (at f : ℕ) {c : Command} {next : ℕ} → readAt s at ≡ Got c next → commandsFrom (suc f) s at ≡ c ∷ commandsFrom f s next
-unfolding commandsFrom
-commands-got s at f e = rw e
-
--- and none where the reader stops
-pub commands-none : (s : List ℕ) (at f : ℕ) (r : Read) → readAt s at ≡ r → Stops r → commandsFrom f s at ≡ []
-unfolding commandsFrom
-commands-none s at zero r e h = refl
-commands-none s at (suc f) (Refused n) e h = rw e
-commands-none s at (suc f) End e h = rw e
-commands-none s at (suc f) (Got c next) e h = absurd h

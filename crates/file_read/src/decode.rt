@@ -46,6 +46,5 @@ pub fn read_at(s: &[u8], at: usize) -> Read
     }
     let widths = row.widths;
     let v = operands_at(s, at + 1, row.count as usize, widths);
-    let command = command_of(byte, v);
-    Read::Got(command, at + length)
+    command_of(byte, v, at + length)
 }

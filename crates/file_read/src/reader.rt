@@ -44,11 +44,11 @@ fn step_at(src: &[u8], at: usize) -> Step
 }
 
 impl<'a> Reader<'a> {
-    // A reader at the first byte.
-    pub fn new(src: &'a [u8]) -> Reader<'a>
-        ensures { λ r. ⌜ (r .src ≡ src .entry) × (r .at ≡ 0) ⌝ }
+    // A reader of these bytes at a position.
+    pub fn new(src: &'a [u8], at: usize) -> Reader<'a>
+        ensures { λ r. ⌜ (r .src ≡ src .entry) × (r .at ≡ at) ⌝ }
     {
-        Reader { src, at: 0 }
+        Reader { src, at }
     }
 
     // What stands at the reader's position, and the reader after it.
@@ -70,8 +70,7 @@ impl<'a> Reader<'a> {
 pub fn read_from(src: &[u8], at: usize) -> Step
     ensures { λ r. ⌜ r ≡ stepAt (now (src .entry)) at ⌝ }
 {
-    let reader = Reader { src: src, at: at };
-    let next = reader.read();
+    let next = Reader::new(src, at).read();
     Step {
         read: next.read,
         at: next.reader.at,

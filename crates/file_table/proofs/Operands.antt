@@ -108,5 +108,13 @@ module _ (s : List ℕ) (at : ℕ) (widths v : List ℕ) (place k x : ℕ) (insi
       record {
         stands = rw (total-more widths k, p .stands, add-assoc);
         reads =
-            rw (e, add-sub-cancel-left, p .reads, p .stands, operands-more widths (drop at s) k, drop-drop, padded-more (operands (take k widths) (drop at s)) k _ long);
+            rw (
+              e,
+              add-sub-cancel-left,
+              p .reads,
+              p .stands,
+              operands-more widths (drop at s) k,
+              drop-drop,
+              padded-more (operands (take k widths) (drop at s)) k _ long,
+            );
       }

@@ -30,7 +30,8 @@ module _ (b k : ℕ) (searched : widthsOf b table ≡ widthsOf b (drop k table))
   pub row-here : k < 6 → layoutAt k .byte ≡ b → rowOf (layoutAt k) ≡ rowFor b
   unfolding widthsOf layoutAt table rowOf rowIn rowFor
   row-here h e =
-      let there : widthsOf b table ≡ some (layoutAt k .widths) = searched ∙ rw (drop-cons table k (record { byte = 0; widths = [] }) h, eq-eqb (layoutAt k .byte) b) in
+      let there : widthsOf b table ≡ some (layoutAt k .widths) =
+      searched ∙ rw (drop-cons table k (record { byte = 0; widths = [] }) h, eq-eqb (layoutAt k .byte) b) in
       rw (there, e)
 
   -- or it is looked for in the rows after it

@@ -15,7 +15,7 @@ use Rattle.rules.specs.File.{readingAt, written, fileOf}
 use Rattle.commands.specs.declared.contract.Contract.{Contract}
 use Rattle.rules.specs.declared.answer.Answer.the-variants.{Taken, Refused}
 use Rattle.commands.specs.declared.entries.Command.the-variants.{Contract as contractᶜ, Window as windowᶜ, Instruction as instructionᶜ, Default as defaultᶜ}
-use Rattle.book_memory.specs.Meter.{cell, missing, Memory, roomIn, kwAt}
+use Rattle.book_memory.specs.Meter.{cellReading, missing, Memory, roomIn, kwAt}
 use Rattle.book.specs.Book.{bookSpan, bookCells, ledgerIn}
 use Rattle.book.specs.Sound.{sound, Shaped}
 use Rattle.book.specs.declared.Book.{Book}
@@ -67,7 +67,8 @@ contract-part false k = refl
 readings-part : (b : Book) (meter : Memory) → concatMap (λ m. readingAt (ledgerIn b meter .reading m) m) (between 0 (bookSpan b)) ≡ readings meter (bookSpan b)
 unfolding between ledgerIn readings
 readings-part b meter =
-    concatMap-ext _ _ (bookSpan b - 0) 0 (λ m h. ap (λ (inside : Bool). readingAt (cond inside (cell (kwAt meter m)) none) m) (lt-ltb m (bookSpan b) (omega arith)))
+    concatMap-ext _ _ (bookSpan b - 0) 0
+    (λ m h. ap (λ (inside : Bool). readingAt (cond inside (cellReading (kwAt meter m)) none) m) (lt-ltb m (bookSpan b) (omega arith)))
 
 module _ (b : Book) (meter : Memory) (e : sound b ≡ true) where
   readings-written : concatMap (λ m. readingAt (ledgerIn b meter .reading m) m) (between 0 (spanIn (ledgerIn b meter))) ≡ readings meter (bookSpan b)
@@ -79,7 +80,8 @@ module _ (b : Book) (meter : Memory) (e : sound b ≡ true) where
       ap₂ _++_
       (ap₂ _++_
       (ap₂ _++_
-      (ap₂ _++_ (ap₂ _++_ (contract-part (b .agreed) (b .contract)) (sym (take-map windowᶜ (b .nwindows) (b .windows)))) (sym (take-map instructionᶜ (b .ninstructions) (b .instructions))))
+      (ap₂ _++_ (ap₂ _++_ (contract-part (b .agreed) (b .contract)) (sym (take-map windowᶜ (b .nwindows) (b .windows))))
+      (sym (take-map instructionᶜ (b .ninstructions) (b .instructions))))
       (sym (take-map defaultᶜ (b .ndefaults) (b .defaults))))
       readings-written)
       refl

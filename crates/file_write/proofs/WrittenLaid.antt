@@ -35,7 +35,8 @@ module _ (c : Command) (m : List ℕ) (at : ℕ) (r : Room (c ∷ []) m at) wher
   one : writeAt c m at ≡ record { answer = Next (at + length (write c)); bytes = putAt (write c) m at }
   one = write-room c m at (rw (bytes-one c) at (r .fits))
 
-  pub laid-one : {w : Wr} {next : ℕ} {after : List ℕ} → w ≡ writeAt c m at .answer → w ≡ Next next → after ≡ writeAt c m at .bytes → Laid (c ∷ []) m at after next
+  pub laid-one : {w : Wr} {next : ℕ} {after : List ℕ} → w ≡ writeAt c m at .answer → w ≡ Next next → after ≡ writeAt c m at .bytes
+      → Laid (c ∷ []) m at after next
   laid-one {next = next} answer is bytes =
       let there : Next next ≡ Next (at + length (write c)) = sym is ∙ answer ∙ ap (λ x. x .answer) one in
       record { ends = rw (bytes-one c) (cc); holds = bytes ∙ rw (one, bytes-one c) }

@@ -20,7 +20,7 @@ use Rattle.commands.specs.declared.entries.Command.{Command}
 use Rattle.commands.specs.declared.entries.Command.the-variants.{Contract as contractᶜ, Window as windowᶜ, Instruction as instructionᶜ, Default as defaultᶜ, Reading as readingᶜ, Close as closeᶜ}
 use Rattle.rules.proofs.Operands.{write-long}
 use Rattle.rules.proofs.Taken.{concatMap-append}
-use Rattle.book_memory.specs.Meter.{cell, Memory, kwAt}
+use Rattle.book_memory.specs.Meter.{cellReading, Memory, kwAt}
 use Rattle.book.specs.declared.Book.{Book}
 use Rattle.rules.proofs.Lists.{getD-within}
 use Rattle.file_write.specs.Laid.{fileBytes, Room, Laid, placesIn, usedIn, entries, readings, parts, Tabled}
@@ -87,14 +87,14 @@ entries-turns places n few = record { more = λ i h. rw (add-one i, take-suc pla
 
 -- ---- the readings
 
-pub cell-command : (z : ℤ) (m : ℕ) → readingAt (cell z) m ≡ cond (isReading z) (readingᶜ (record { minute = record { 0 = m }; kw = record { 0 = z } }) ∷ []) []
+pub cell-command : (z : ℤ) (m : ℕ) → readingAt (cellReading z) m ≡ cond (isReading z) (readingᶜ (record { minute = record { 0 = m }; kw = record { 0 = z } }) ∷ []) []
 cell-command z m = go (isReading z)
   where
     go : (b : Bool) → readingAt (cond b (some z) none) m ≡ cond b (readingᶜ (record { minute = record { 0 = m }; kw = record { 0 = z } }) ∷ []) []
     go true = refl
     go false = refl
 
-cell-count : (z : ℤ) (m : ℕ) → length (readingAt (cell z) m) ≡ cond (isReading z) 1 0
+cell-count : (z : ℤ) (m : ℕ) → length (readingAt (cellReading z) m) ≡ cond (isReading z) 1 0
 cell-count z m = go (isReading z)
   where
     go : (b : Bool) → length (readingAt (cond b (some z) none) m) ≡ cond b 1 0
@@ -105,17 +105,19 @@ pub once-most : (holds : Bool) → cond holds 1 0 ≤ 1
 once-most true = le-refl 1
 once-most false = omega arith
 
-cell-length : (z : ℤ) (m : ℕ) → length (fileBytes (readingAt (cell z) m)) ≡ length (readingAt (cell z) m) * 7
+cell-length : (z : ℤ) (m : ℕ) → length (fileBytes (readingAt (cellReading z) m)) ≡ length (readingAt (cellReading z) m) * 7
 unfolding concatMap table widthsOf total
 cell-length z m = go (isReading z)
   where
     go : (b : Bool) → length (fileBytes (readingAt (cond b (some z) none) m)) ≡ length (readingAt (cond b (some z) none) m) * 7
-    go true = ap length (bytes-one (readingᶜ (record { minute = record { 0 = m }; kw = record { 0 = z } }))) ∙ write-long (readingᶜ (record { minute = record { 0 = m }; kw = record { 0 = z } }))
+    go true =
+        ap length (bytes-one (readingᶜ (record { minute = record { 0 = m }; kw = record { 0 = z } })))
+        ∙ write-long (readingᶜ (record { minute = record { 0 = m }; kw = record { 0 = z } }))
     go false = refl
 
 module _ (meter : Memory) where
   abbrev turn : ℕ → List Command
-  turn m = readingAt (cell (kwAt meter m)) m
+  turn m = readingAt (cellReading (kwAt meter m)) m
 
   pub readings-turns : (n : ℕ) → Turns (readings meter) turn n
   unfolding readings concatMap
@@ -128,7 +130,8 @@ module _ (meter : Memory) where
 
   pub readings-count : (m : ℕ) → length (readings meter (m + 1)) ≡ length (readings meter m) + cond (isReading (kwAt meter m)) 1 0
   readings-count m =
-      ap length (readings-turns (m + 1) .more m (omega arith)) ∙ length-append (readings meter m) (turn m) ∙ ap (λ n. length (readings meter m) + n) (cell-count (kwAt meter m) m)
+      ap length (readings-turns (m + 1) .more m (omega arith)) ∙ length-append (readings meter m) (turn m)
+      ∙ ap (λ n. length (readings meter m) + n) (cell-count (kwAt meter m) m)
 
   pub readings-few : (n : ℕ) → length (readings meter n) ≤ n
   readings-few zero = rw readings-none (le-refl 0)
@@ -141,13 +144,15 @@ module _ (meter : Memory) where
       rw (← add-one n, readings-turns (n + 1) .more n (omega arith))
       (omega (arith, length-both (readings meter n) (turn n), length-append (readings meter n) (turn n), sevens n, cell-length (kwAt meter n) n))
 
-  pub readings-length : {n span long : ℕ} (r : Reading) (k : ℕ) → span ≡ k → n ≡ length (readings meter span) → long ≡ n * length (write (readingᶜ r)) → long ≡ length (fileBytes (readings meter k))
+  pub readings-length : {n span long : ℕ} (r : Reading) (k : ℕ) → span ≡ k → n ≡ length (readings meter span) → long ≡ n * length (write (readingᶜ r))
+      → long ≡ length (fileBytes (readings meter k))
   unfolding table widthsOf total
   readings-length r k e f g = g ∙ rw (f, e, write-long (readingᶜ r)) (sym (sevens k))
 
 -- ---- all of them
 
-pub once-length : {n long : ℕ} (holds : Bool) (c : Command) → n ≡ cond holds 1 0 → long ≡ n * length (write c) → long ≡ length (fileBytes (cond holds (c ∷ []) []))
+pub once-length : {n long : ℕ} (holds : Bool) (c : Command) → n ≡ cond holds 1 0 → long ≡ n * length (write c)
+    → long ≡ length (fileBytes (cond holds (c ∷ []) []))
 unfolding concatMap
 once-length true c e f = f ∙ rw (e, one-mul) (sym (ap length (bytes-one c)))
 once-length false c e f = f ∙ rw (e, zero-mul)
@@ -160,7 +165,8 @@ once-short false c = omega arith
 module _ (b : Book) (meter : Memory) where
   -- the length of the whole is that of the parts
   pub parts-length :
-      length (fileBytes (cond (b .agreed) (contractᶜ (b .contract) ∷ []) [])) + length (fileBytes (entries b Windows)) + length (fileBytes (entries b Instructions)) + length (fileBytes (entries b Defaults))
+      length (fileBytes (cond (b .agreed) (contractᶜ (b .contract) ∷ []) [])) + length (fileBytes (entries b Windows)) + length
+      (fileBytes (entries b Instructions)) + length (fileBytes (entries b Defaults))
       + length (fileBytes (readings meter (bookSpan b)))
       + length (fileBytes (cond (b .closed) (closeᶜ ∷ []) []))
       ≡ length (fileBytes (parts b meter))

@@ -8,7 +8,7 @@ use Rattle.energy.specs.Lists.{concatMap, between, Laid as LaidBytes}
 use Rattle.rules.specs.File.{write, readingAt}
 use Rattle.commands.specs.declared.entries.Command.{Command}
 use Rattle.commands.specs.declared.entries.Command.the-variants.{Contract as contractᶜ, Window as windowᶜ, Instruction as instructionᶜ, Default as defaultᶜ, Close as closeᶜ}
-use Rattle.book_memory.specs.Meter.{cell, Memory, lent, kwAt}
+use Rattle.book_memory.specs.Meter.{cellReading, Memory, lent, kwAt}
 use Rattle.book.specs.Book.{bookSpan}
 use Rattle.book.specs.declared.Book.{Book}
 use Rattle.file_write.specs.declared.entries.Table.{Table}
@@ -46,7 +46,7 @@ entries b t = take (usedIn b t) (placesIn b t)
 
 -- the readings of the first minutes, by rising minute
 unfoldable pub readings : Memory → ℕ → List Command
-readings meter span = concatMap (λ m. readingAt (cell (kwAt meter m)) m) (between 0 span)
+readings meter span = concatMap (λ m. readingAt (cellReading (kwAt meter m)) m) (between 0 span)
 
 -- what a book that commands leave is written as, table by table
 unfoldable pub parts : Book → Memory → List Command

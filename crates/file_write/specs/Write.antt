@@ -1,24 +1,19 @@
 -- "The writer": a book as a unit file in lent bytes, by one equation over the rules.
-use mathlib.Core.Bool.{Bool, not}
-use mathlib.Core.List.{List, [], _∷_, _++_}
+use mathlib.Core.Bool.{not}
+use mathlib.Core.List.{List, _++_}
 use mathlib.Core.Option.{Option, none, some}
 use Prim.Native.Nat.{ℕ}
-use lib.Dec.{ltb}
 use lib.ListN.{length, drop}
 use Rattle.book_memory.specs.Meter.{Memory, lent, roomIn}
-use Rattle.commands.specs.Input.{Condition, _when_, lowest}
-use Rattle.rules.specs.Ledger.{Ledger, cellsIn}
+use Rattle.commands.specs.Input.{lowest}
+use Rattle.rules.specs.Ledger.{Ledger}
 use Rattle.rules.specs.Refusal.{answerOf}
 use Rattle.rules.specs.File.{fileOf}
+unfoldable pub use Rattle.rules.specs.File.{writeConditions}
 use Rattle.book.specs.Book.{ledgerIn}
 use Rattle.book.specs.Sound.{sound}
 use Rattle.book.specs.declared.Book.{Book}
 use Rattle.file_write.specs.declared.Written.{Written}
-
--- what writing meets. unleft: no list of commands leaves the book; size and room: the lengths of meter memory and of the lent bytes
-unfoldable pub writeConditions : Bool → ℕ → ℕ → Ledger → List Condition
-writeConditions unleft size room g =
-    (11 when unleft) ∷ (15 when ltb size (cellsIn g)) ∷ (26 when ltb room (length (fileOf g))) ∷ []
 
 -- the answer, and the lent bytes after it
 pub record WrittenBytes : Type 0 where

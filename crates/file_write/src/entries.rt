@@ -2,12 +2,9 @@
 ghost use mathlib.Core.Path.{_≡_};
 ghost use Prim.Native.Nat.{_<_};
 ghost use lib.ListN.{length, getD};
-ghost use Rattle.commands.specs.Input.{isReading};
 ghost use Rattle.book_memory.specs.Meter.{missing};
 ghost use Rattle.file_write.specs.Laid.{placesIn, usedIn};
 use book::Book;
-use commands::checks::kw_from_to;
-use commands::contract::Contract;
 use commands::entries::Command;
 use energy::units::Kw;
 
@@ -56,11 +53,4 @@ pub(crate) fn kw_at(meter: &[i32], m: usize) -> Kw
     ensures { λ r. ⌜ r .0 ≡ getD (now (meter .entry)) m missing ⌝ }
 {
     Kw(meter[m] as i64)
-}
-
-// Whether a cell's kW is a reading.
-pub(crate) fn is_reading(kw: Kw) -> bool
-    ensures { λ r. ⌜ r ≡ isReading (kw .0) ⌝ }
-{
-    kw_from_to(Contract::READING_LEAST, Contract::READING_MOST, kw)
 }

@@ -4,14 +4,14 @@ ghost use mathlib.Core.List.{[], _∷_};
 ghost use Prim.Native.Nat.{_≤_};
 ghost use Rattle.commands.specs.Input.{mostMinute};
 ghost use Rattle.rules.specs.File.{readingAt};
-ghost use Rattle.book_memory.specs.Meter.{cell, lent, roomIn};
+ghost use Rattle.book_memory.specs.Meter.{cellReading, lent, roomIn};
 ghost use Rattle.file_write.specs.Laid.{Room, Laid, entries, Tabled, readings, parts, Kept};
 use crate::entries::Table;
 use crate::entries::entry;
-use crate::entries::is_reading;
 use crate::entries::kw_at;
 use crate::entries::used;
 use book::Book;
+use book_memory::is_reading;
 use commands::entries::Command;
 use commands::entries::Reading;
 use energy::units::Kw;
@@ -54,8 +54,8 @@ fn put_table(b: Book, table: Table, out: &mut [u8], at: usize) -> usize
 
 // The reading of a minute, if its cell holds one.
 fn put_cell(minute: Minutes, kw: Kw, out: &mut [u8], at: usize) -> usize
-    requires { ⌜ Room (readingAt (cell (kw .0)) (minute .0)) (now out) at ⌝ }
-    ensures { λ r. ⌜ Laid (readingAt (cell (kw .0)) (minute .0)) (now (out .entry)) at (now (out .exit)) r ⌝ }
+    requires { ⌜ Room (readingAt (cellReading (kw .0)) (minute .0)) (now out) at ⌝ }
+    ensures { λ r. ⌜ Laid (readingAt (cellReading (kw .0)) (minute .0)) (now (out .entry)) at (now (out .exit)) r ⌝ }
 {
     let reading = Reading {
         minute: minute,

@@ -1,2 +1,3 @@
--- What the proofs of several functions use.
+-- What the proofs of several functions use, and the example.
 mod Settled
+pub mod Example

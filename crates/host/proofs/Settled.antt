@@ -1,29 +1,34 @@
--- Settling a book into numbers by its answer, and how many lines it can have.
-use mathlib.Core.Path.{_≡_, refl, sym, _∙_, ap}
-use mathlib.Core.Bool.{Bool, true, false, not}
-use mathlib.Core.List.{List, [], _∷_, _++_}
-use Prim.Native.Nat.{ℕ, _≤_, _/_}
+-- Settling a book into numbers, by its answer and by the room for the sums. Where they have none, no line memory is lent on: then no line is written,
+-- and the number differs from that of settling into all lines only where it would be 26 or none, which are both answered 26.
+use mathlib.Core.Path.{_≡_, refl, sym, _∙_, ap, ap₂}
+use mathlib.Core.Bool.{Bool, true, false, not, cond}
+use mathlib.Core.List.{List, [], _∷_, _++_, append-nil}
+use mathlib.Core.Option.{Option, none, some}
+use Prim.Native.Nat.{ℕ, _*_, _/_, _≤_, _<_}
 use native.Mathlib.Omega.{arith}
 use lib.Dec.{ltb}
 use lib.IntN.{ℤ}
-use lib.ListN.{length, drop}
-use borrow.Author.Tests.{ltb-false}
-use Rattle.book_memory.specs.Meter.{Memory}
+use lib.ListN.{length, take, drop}
+use lib.Seq.{take-length, drop-length}
+use borrow.Author.Tests.{ltb-false, le-ltb, lt-ltb}
+use Rattle.book_memory.specs.Meter.{Memory, roomIn}
+use Rattle.energy.specs.Lists.{concatMap}
 use Rattle.rules.specs.Ledger.{Ledger}
 use Rattle.commands.specs.Input.{_when_, lowest}
 use Rattle.rules.specs.Segment.{segments}
-use Rattle.rules.specs.Statement.{settleConditions, settleRefusal, statementOf}
+use Rattle.rules.specs.Statement.{lines, settleConditions, settleRefusal, statementOf}
+use Rattle.rules.specs.declared.statement.Line.{Line}
 use Rattle.rules.specs.declared.answer.Answer.{Answer}
 use Rattle.rules.specs.declared.answer.Answer.the-variants.{Taken, Refused}
 use Rattle.rules.proofs.LineBound.{lines-segments}
 use Rattle.book.specs.Book.{ledgerIn}
 use Rattle.book.specs.Sound.{sound}
 use Rattle.book.specs.declared.Book.{Book}
-use Rattle.settle_numbers.specs.Numbers.{numberBook, numberedBy}
+use Rattle.settle_numbers.specs.Numbers.{numbersOf, numberBook, numberedBy}
 use Rattle.settle.specs.declared.Settlement.{Settlement}
 use Rattle.host.specs.Answers.{numberOf}
-use Rattle.host.specs.Calls.{settleInto, sumsBy}
-use Rattle.host_sums.specs.Sums.{sumsOf}
+use Rattle.host.specs.Calls.{SettledBook, settledBook, settleInto, shortNumber, sumsBy}
+use Rattle.host_sums.specs.Sums.{sumCount, sumsOf}
 
 -- a statement's lines fit the memory lent for them: else it gets 26
 few-by : (u m c k : Bool) (g : Ledger) (memory : List ℤ) (room : ℕ) (r : Bool) → ltb room (length (segments g)) ≡ r
@@ -40,25 +45,94 @@ pub few-lines : (b : Book) (meter : Memory) (memory : List ℤ) → numberBook b
 unfolding numberBook settleRefusal settleConditions
 few-lines b meter memory = few-by (not (sound b)) _ _ _ (ledgerIn b meter) memory (length memory / 8) _ refl
 
--- settling a book, by the answer of the settlement
-module _ (b : Book) (meter : Memory) (lines sums lines′ : List ℤ) (s : Settlement) (es : s ≡ numberBook b meter lines .settlement) (el : lines′ ≡ numberBook b meter lines .memory) where
-  answered : (a : Answer) → s .answer ≡ a → numberBook b meter lines .settlement .answer ≡ a
-  answered a e = ap (λ (z : Settlement). z .answer) (sym es) ∙ e
+-- ---- no room for a line
 
-  pub settled-taken : (sums′ : List ℤ) → s .answer ≡ Taken → sums′ ≡ sumsOf (s .statement) (b .nwindows) ++ drop 262 sums
-      → (0 ≡ settleInto b meter lines sums .number) × (lines′ ≡ settleInto b meter lines sums .lines) × (sums′ ≡ settleInto b meter lines sums .sums)
-  unfolding settleInto
-  settled-taken sums′ e h =
-      let q = answered Taken e in (
-        sym (ap numberOf q),
-        el,
-        h ∙ ap (λ (z : Settlement). sumsOf (z .statement) (b .nwindows) ++ drop 262 sums) es
-            ∙ sym (ap (λ a. sumsBy a (numberBook b meter lines .settlement .statement) (b .nwindows) sums) q),
-      )
+empty : (ls : List Line) → length ls ≤ 0 → concatMap numbersOf ls ++ drop (8 * length ls) [] ≡ []
+unfolding concatMap
+empty [] h = refl
+empty (l ∷ ls) h = absurd (omega arith)
 
-  pub settled-refused : (n : ℕ) → s .answer ≡ Refused n
-      → (n ≡ settleInto b meter lines sums .number) × (lines′ ≡ settleInto b meter lines sums .lines) × (sums ≡ settleInto b meter lines sums .sums)
+nothing-by : (o : Option ℕ) (g : Ledger) → numberedBy o g [] .settlement .statement .lines ≤ 0 → numberedBy o g [] .memory ≡ []
+unfolding statementOf
+nothing-by none g h = empty (lines g) h
+nothing-by (some n) g h = refl
+
+-- nothing is written where nothing is lent
+nothing-written : (b : Book) (meter : Memory) → numberBook b meter [] .memory ≡ []
+unfolding numberBook
+nothing-written b meter =
+    nothing-by (settleRefusal (not (sound b)) (roomIn meter) 0 (ledgerIn b meter)) (ledgerIn b meter) (few-lines b meter [])
+
+number-by :
+    (u m c k r q : Bool) (g : Ledger) (ys : List ℤ)
+    → shortNumber (numberedBy (lowest ((11 when u) ∷ (15 when m) ∷ (24 when c) ∷ (25 when k) ∷ (26 when r) ∷ [])) g [] .settlement .answer)
+    ≡ shortNumber (numberedBy (lowest ((11 when u) ∷ (15 when m) ∷ (24 when c) ∷ (25 when k) ∷ (26 when q) ∷ [])) g ys .settlement .answer)
+unfolding lowest
+number-by true m c k r q g ys = refl
+number-by false true c k r q g ys = refl
+number-by false false true k r q g ys = refl
+number-by false false false true r q g ys = refl
+number-by false false false false true true g ys = refl
+number-by false false false false true false g ys = refl
+number-by false false false false false true g ys = refl
+number-by false false false false false false g ys = refl
+
+-- without room for the sums the number does not depend on the room for lines
+same-number : (b : Book) (meter : Memory) (memory : List ℤ)
+    → shortNumber (numberBook b meter [] .settlement .answer) ≡ shortNumber (numberBook b meter memory .settlement .answer)
+unfolding numberBook settleRefusal settleConditions
+same-number b meter memory = number-by (not (sound b)) _ _ _ _ _ (ledgerIn b meter) memory
+
+-- ---- a book, settled into the line memory that is lent on
+
+module _
+    (b : Book) (meter : Memory) (lines sums part : List ℤ) (room : ℕ) (s : Settlement)
+    (er : room ≡ cond (ltb (length sums) sumCount) 0 (length lines))
+    (es : s ≡ numberBook b meter (take room lines) .settlement) (ep : part ≡ numberBook b meter (take room lines) .memory) where
+  -- line memory after it
+  abbrev after : List ℤ
+  after = part ++ drop room lines
+
+  abbrev whole : SettledBook
+  whole = settleInto b meter lines sums
+
+  short : ltb (length sums) sumCount ≡ true → settledBook (shortNumber (s .answer)) after sums ≡ whole
   unfolding settleInto
-  settled-refused n e =
-      let q = answered (Refused n) e in
-      (sym (ap numberOf q), el, sym (ap (λ a. sumsBy a (numberBook b meter lines .settlement .statement) (b .nwindows) sums) q))
+  short e =
+      let z : room ≡ 0 = er ∙ ap (λ t. cond t 0 (length lines)) e in
+      let l : part ≡ [] = ep ∙ ap (λ n. numberBook b meter (take n lines) .memory) z ∙ nothing-written b meter in
+      let n : shortNumber (s .answer) ≡ shortNumber (numberBook b meter lines .settlement .answer) =
+      ap (λ (x : Settlement). shortNumber (x .answer)) (es ∙ ap (λ n. numberBook b meter (take n lines) .settlement) z)
+      ∙ same-number b meter lines in
+      rw e (ap₂ (λ x y. settledBook x y sums) n (ap₂ (λ x m. x ++ drop m lines) l z))
+
+  long : ltb (length sums) sumCount ≡ false
+      → settledBook (numberOf (s .answer)) after (sumsBy (s .answer) (s .statement) (b .nwindows) sums) ≡ whole
+  unfolding settleInto
+  long e =
+      let all : room ≡ length lines = er ∙ ap (λ t. cond t 0 (length lines)) e in
+      let same : take room lines ≡ lines = ap (λ n. take n lines) all ∙ take-length lines in
+      let l : after ≡ numberBook b meter lines .memory =
+      ap₂ (λ x m. x ++ drop m lines) (ep ∙ ap (λ m. numberBook b meter m .memory) same) all
+      ∙ ap (λ m. numberBook b meter lines .memory ++ m) (drop-length lines)
+      ∙ append-nil (numberBook b meter lines .memory) in
+      rw e (ap₂ (λ (x : Settlement) y. settledBook (numberOf (x .answer)) y (sumsBy (x .answer) (x .statement) (b .nwindows) sums))
+      (es ∙ ap (λ m. numberBook b meter m .settlement) same) l)
+
+  -- by the answer
+  pub short-taken : length sums < sumCount → s .answer ≡ Taken → settledBook 26 after sums ≡ whole
+  short-taken h e = ap (λ a. settledBook (shortNumber a) after sums) (sym e) ∙ short (lt-ltb (length sums) sumCount h)
+
+  pub long-taken : (sums′ : List ℤ) → sumCount ≤ length sums → s .answer ≡ Taken → sums′ ≡ sumsOf (s .statement) (b .nwindows) ++ drop sumCount sums
+      → settledBook 0 after sums′ ≡ whole
+  long-taken sums′ h e q =
+      ap (settledBook 0 after) q
+      ∙ ap (λ a. settledBook (numberOf a) after (sumsBy a (s .statement) (b .nwindows) sums)) (sym e)
+      ∙ long (le-ltb (length sums) sumCount h)
+
+  refused-by : (n : ℕ) → s .answer ≡ Refused n → (t : Bool) → ltb (length sums) sumCount ≡ t → settledBook n after sums ≡ whole
+  refused-by n e true h = ap (λ a. settledBook (shortNumber a) after sums) (sym e) ∙ short h
+  refused-by n e false h = ap (λ a. settledBook (numberOf a) after (sumsBy a (s .statement) (b .nwindows) sums)) (sym e) ∙ long h
+
+  pub refused : (n : ℕ) → s .answer ≡ Refused n → settledBook n after sums ≡ whole
+  refused n e = refused-by n e (ltb (length sums) sumCount) refl

@@ -15,7 +15,7 @@ use Rattle.settle_numbers.specs.Numbers.{Numbered, numberBook}
 use Rattle.file_load.specs.Load.{LoadedFile, load}
 use Rattle.host.specs.Answers.{numberOf, packed}
 use Rattle.host_sums.specs.Sums.{sumCount, sumsOf}
-use Rattle.host_tables.specs.Tables.{bookOf, entire}
+use Rattle.host_tables.specs.Tables.{Tables, bookOf, entire}
 use Rattle.file_write.specs.Write.{WrittenBytes, writeBook}
 
 -- ---- a file entered
@@ -25,11 +25,15 @@ pub record EnteredFile : Type 0 where
   pub answer : ℕ
   pub meter : Memory
 
+-- what a call answers and leaves, as one
+abbrev pub enteredFile : ℕ → Memory → EnteredFile
+enteredFile answer meter = record { answer = answer; meter = meter }
+
 -- a file's commands, entered into the empty book up to the file's end or the first refusal
 unfoldable pub enterFile : List ℕ → Memory → EnteredFile
 enterFile file meter =
     let l : LoadedFile = load file emptyBook meter in
-    record { answer = packed (numberOf (l .loaded .answer)) (l .loaded .at); meter = l .meter }
+    enteredFile (packed (numberOf (l .loaded .answer)) (l .loaded .at)) (l .meter)
 
 -- ---- a book settled
 
@@ -39,28 +43,31 @@ pub record SettledBook : Type 0 where
   pub lines : List ℤ
   pub sums : List ℤ
 
+-- what a call answers and leaves, as one
+abbrev pub settledBook : ℕ → List ℤ → List ℤ → SettledBook
+settledBook number lines sums = record { number = number; lines = lines; sums = sums }
+
 -- a statement for so many windows goes into the first numbers; a refusal alters none
 abbrev pub sumsBy : Answer → Statement → ℕ → List ℤ → List ℤ
 sumsBy Taken s windows sums = sumsOf s windows ++ drop sumCount sums
 sumsBy (Refused n) s windows sums = sums
 
--- settling a book into numbers
+-- the number where sum memory is shorter than a statement's sums: that of settling into the lines, else 26
+abbrev pub shortNumber : Answer → ℕ
+shortNumber Taken = 26
+shortNumber (Refused n) = n
+
+-- settling a book into numbers. Whether there is room for the sums is asked last
 unfoldable pub settleInto : Book → Memory → List ℤ → List ℤ → SettledBook
 settleInto b meter lines sums =
     let s : Numbered = numberBook b meter lines in
-    record {
-      number = numberOf (s .settlement .answer);
-      lines = s .memory;
-      sums = sumsBy (s .settlement .answer) (s .settlement .statement) (b .nwindows) sums;
-    }
+    let a : Answer = s .settlement .answer in
+    cond (ltb (length sums) sumCount) (settledBook (shortNumber a) lines sums)
+    (settledBook (numberOf a) (s .memory) (sumsBy a (s .settlement .statement) (b .nwindows) sums))
 
--- the book that tables say, settled. Sums too short for a statement get 26 before all else, and tables with an entry cut short say no book: 11
-unfoldable pub settleTables : List ℕ → List ℕ → List ℕ → List ℕ → Memory → List ℤ → List ℤ → SettledBook
-settleTables contract windows instructions defaults meter lines sums =
-    cond (ltb (length sums) sumCount) (record { number = 26; lines = lines; sums = sums })
-    (cond (entire (length contract) (length windows) (length instructions) (length defaults))
-    (settleInto (bookOf contract windows instructions defaults) meter lines sums)
-    (record { number = 11; lines = lines; sums = sums }))
+-- the book that tables say, settled. Tables with a row cut short say no book: 11
+unfoldable pub settleTables : Tables → Memory → List ℤ → List ℤ → SettledBook
+settleTables t meter lines sums = cond (entire t) (settleInto (bookOf t) meter lines sums) (settledBook 11 lines sums)
 
 -- ---- a file entered and settled
 
@@ -71,19 +78,22 @@ pub record SettledFile : Type 0 where
   pub lines : List ℤ
   pub sums : List ℤ
 
+-- what a call answers and leaves, as one
+abbrev pub settledFile : ℕ → Memory → List ℤ → List ℤ → SettledFile
+settledFile answer meter lines sums = record { answer = answer; meter = meter; lines = lines; sums = sums }
+
 -- a file that was entered whole is settled, and its offset is its length; one with a refusal is answered that, and nothing is settled
 abbrev pub settlesBy : Answer → LoadedFile → List ℤ → List ℤ → SettledFile
 settlesBy Taken l lines sums =
     let s : SettledBook = settleInto (l .loaded .book) (l .meter) lines sums in
-    record { answer = packed (s .number) (l .loaded .at); meter = l .meter; lines = s .lines; sums = s .sums }
-settlesBy (Refused n) l lines sums =
-    record { answer = packed n (l .loaded .at); meter = l .meter; lines = lines; sums = sums }
+    settledFile (packed (s .number) (l .loaded .at)) (l .meter) (s .lines) (s .sums)
+settlesBy (Refused n) l lines sums = settledFile (packed n (l .loaded .at)) (l .meter) lines sums
 
--- a whole file, entered and settled. Sums too short for a statement get 26 before the file is read
+-- a whole file, entered and settled
 unfoldable pub settleFile : List ℕ → Memory → List ℤ → List ℤ → SettledFile
 settleFile file meter lines sums =
-    cond (ltb (length sums) sumCount) (record { answer = packed 26 0; meter = meter; lines = lines; sums = sums })
-    (let l : LoadedFile = load file emptyBook meter in settlesBy (l .loaded .answer) l lines sums)
+    let l : LoadedFile = load file emptyBook meter in
+    settlesBy (l .loaded .answer) l lines sums
 
 -- ---- a book written
 
@@ -92,10 +102,38 @@ pub record WrittenFile : Type 0 where
   pub answer : ℕ
   pub file : List ℕ
 
--- the book that tables say, written as a unit file: the offset is its length, 0 on a refusal. Tables with an entry cut short say no book: 11
-unfoldable pub writeTables : List ℕ → List ℕ → List ℕ → List ℕ → Memory → List ℕ → WrittenFile
-writeTables contract windows instructions defaults meter file =
-    cond (entire (length contract) (length windows) (length instructions) (length defaults))
-    (let w : WrittenBytes = writeBook (bookOf contract windows instructions defaults) meter file in
-    record { answer = packed (numberOf (w .written .answer)) (w .written .size); file = w .memory })
-    (record { answer = packed 11 0; file = file })
+-- what a call answers and leaves, as one
+abbrev pub writtenFile : ℕ → List ℕ → WrittenFile
+writtenFile answer file = record { answer = answer; file = file }
+
+-- the book that tables say, written as a unit file: the offset is its length, 0 on a refusal. Tables with a row cut short say no book: 11
+unfoldable pub writeTables : Tables → Memory → List ℕ → WrittenFile
+writeTables t meter file =
+    cond (entire t)
+    (let w : WrittenBytes = writeBook (bookOf t) meter file in
+    writtenFile (packed (numberOf (w .written .answer)) (w .written .size)) (w .memory))
+    (writtenFile (packed 11 0) file)
+
+-- ---- a file entered and written
+
+-- the answer, meter memory after it, and the bytes lent for the file that is written
+pub record RewrittenFile : Type 0 where
+  pub answer : ℕ
+  pub meter : Memory
+  pub written : List ℕ
+
+-- what a call answers and leaves, as one
+abbrev pub rewrittenFile : ℕ → Memory → List ℕ → RewrittenFile
+rewrittenFile answer meter written = record { answer = answer; meter = meter; written = written }
+
+-- the book of a file that was entered whole is written, open, empty or closed, and the offset is the written file's length, 0 where writing is
+-- refused; a file with a refusal is answered that, and nothing is written
+abbrev pub writesBy : Answer → LoadedFile → List ℕ → RewrittenFile
+writesBy Taken l memory =
+    let w : WrittenBytes = writeBook (l .loaded .book) (l .meter) memory in
+    rewrittenFile (packed (numberOf (w .written .answer)) (w .written .size)) (l .meter) (w .memory)
+writesBy (Refused n) l memory = rewrittenFile (packed n (l .loaded .at)) (l .meter) memory
+
+-- a whole file, entered and written
+unfoldable pub writeFile : List ℕ → Memory → List ℕ → RewrittenFile
+writeFile file meter memory = let l : LoadedFile = load file emptyBook meter in writesBy (l .loaded .answer) l memory

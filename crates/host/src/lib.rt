@@ -1,16 +1,18 @@
-// The package for hosts in C or Rust: whole unit files, and tables of numbers, entered and settled into numbers, and tables written as a unit file.
-// Every call is total: it answers for every length and every contents of what is lent.
+// The package for hosts in C or Rust: whole unit files, and tables of numbers, entered and settled into numbers, or written as a unit file.
+// Every call is total: it answers for every length and every contents of what is lent. Each promise is one equation: the answer and all lent memory
+// after the call are what the definition of the call gives for what was lent.
 mod answers;
 mod settling;
 
 ghost use mathlib.Core.Path.{_≡_};
 ghost use Rattle.book_memory.specs.Meter.{lent};
-ghost use Rattle.host.specs.Calls.{enterFile, settleFile, settleTables, writeTables};
+ghost use Rattle.host.specs.Calls.{enterFile, settleFile, settleTables, writeFile, writeTables};
+ghost use Rattle.host.specs.Calls.{enteredFile, rewrittenFile, settledBook, settledFile, writtenFile};
+ghost use Rattle.host_tables.specs.Tables.{tables};
 use answers::number_of;
 use answers::pack;
 use file_load::file::load_file;
 use file_write::write_book;
-use host_sums::SUMS;
 use host_tables::book_of;
 use host_tables::entire_tables;
 use rules::answer::Answer;
@@ -19,7 +21,9 @@ use settling::settle_book;
 // Enters a whole unit file. The answer is the refusal's number, or 0, and 256 times the offset of the refused command, or the file's length.
 #[no_mangle]
 pub extern "C" fn stor_enter_file(file: &[u8], meter: &mut [i32]) -> u64
-    ensures { λ r. ⌜ (r ≡ enterFile (now (file .entry)) (lent (now (meter .entry))) .answer) × (lent (now (meter .exit)) ≡ enterFile (now (file .entry)) (lent (now (meter .entry))) .meter) ⌝ }
+    ensures { λ r.
+        ⌜ enteredFile r (lent (now (meter .exit)))
+        ≡ enterFile (now (file .entry)) (lent (now (meter .entry))) ⌝ }
 {
     let l = load_file(file, meter);
     let answer = l.answer;
@@ -35,11 +39,10 @@ pub extern "C" fn stor_settle_file(
     lines: &mut [i64],
     sums: &mut [i64],
 ) -> u64
-    ensures { λ r. ⌜ (r ≡ settleFile (now (file .entry)) (lent (now (meter .entry))) (now (lines .entry)) (now (sums .entry)) .answer) × (lent (now (meter .exit)) ≡ settleFile (now (file .entry)) (lent (now (meter .entry))) (now (lines .entry)) (now (sums .entry)) .meter) × (now (lines .exit) ≡ settleFile (now (file .entry)) (lent (now (meter .entry))) (now (lines .entry)) (now (sums .entry)) .lines) × (now (sums .exit) ≡ settleFile (now (file .entry)) (lent (now (meter .entry))) (now (lines .entry)) (now (sums .entry)) .sums) ⌝ }
+    ensures { λ r.
+        ⌜ settledFile r (lent (now (meter .exit))) (now (lines .exit)) (now (sums .exit))
+        ≡ settleFile (now (file .entry)) (lent (now (meter .entry))) (now (lines .entry)) (now (sums .entry)) ⌝ }
 {
-    if sums.len() < SUMS {
-        return pack(26, 0);
-    }
     let l = load_file(file, meter);
     let answer = l.answer;
     let book = l.book;
@@ -57,24 +60,20 @@ pub extern "C" fn stor_settle_file(
 #[no_mangle]
 pub extern "C" fn stor_settle_tables(
     contract: &[u32],
-    windows: &[u16],
-    instructions: &[u16],
-    defaults: &[u16],
+    windows: &[u32],
+    instructions: &[u32],
+    defaults: &[u32],
     meter: &[i32],
     lines: &mut [i64],
     sums: &mut [i64],
 ) -> u8
-    ensures { λ r. ⌜ (r ≡ settleTables (now (contract .entry)) (now (windows .entry)) (now (instructions .entry)) (now (defaults .entry)) (lent (now (meter .entry))) (now (lines .entry)) (now (sums .entry)) .number) × (now (lines .exit) ≡ settleTables (now (contract .entry)) (now (windows .entry)) (now (instructions .entry)) (now (defaults .entry)) (lent (now (meter .entry))) (now (lines .entry)) (now (sums .entry)) .lines) × (now (sums .exit) ≡ settleTables (now (contract .entry)) (now (windows .entry)) (now (instructions .entry)) (now (defaults .entry)) (lent (now (meter .entry))) (now (lines .entry)) (now (sums .entry)) .sums) ⌝ }
+    ensures { λ r.
+        ⌜ settledBook r (now (lines .exit)) (now (sums .exit))
+        ≡ settleTables
+        (tables (now (contract .entry)) (now (windows .entry)) (now (instructions .entry)) (now (defaults .entry)))
+        (lent (now (meter .entry))) (now (lines .entry)) (now (sums .entry)) ⌝ }
 {
-    if sums.len() < SUMS {
-        return 26;
-    }
-    let entire = entire_tables(
-        contract.len(),
-        windows.len(),
-        instructions.len(),
-        defaults.len(),
-    );
+    let entire = entire_tables(contract, windows, instructions, defaults);
     if !entire {
         return 11;
     }
@@ -86,20 +85,19 @@ pub extern "C" fn stor_settle_tables(
 #[no_mangle]
 pub extern "C" fn stor_write_tables(
     contract: &[u32],
-    windows: &[u16],
-    instructions: &[u16],
-    defaults: &[u16],
+    windows: &[u32],
+    instructions: &[u32],
+    defaults: &[u32],
     meter: &[i32],
     file: &mut [u8],
 ) -> u64
-    ensures { λ r. ⌜ (r ≡ writeTables (now (contract .entry)) (now (windows .entry)) (now (instructions .entry)) (now (defaults .entry)) (lent (now (meter .entry))) (now (file .entry)) .answer) × (now (file .exit) ≡ writeTables (now (contract .entry)) (now (windows .entry)) (now (instructions .entry)) (now (defaults .entry)) (lent (now (meter .entry))) (now (file .entry)) .file) ⌝ }
+    ensures { λ r.
+        ⌜ writtenFile r (now (file .exit))
+        ≡ writeTables
+        (tables (now (contract .entry)) (now (windows .entry)) (now (instructions .entry)) (now (defaults .entry)))
+        (lent (now (meter .entry))) (now (file .entry)) ⌝ }
 {
-    let entire = entire_tables(
-        contract.len(),
-        windows.len(),
-        instructions.len(),
-        defaults.len(),
-    );
+    let entire = entire_tables(contract, windows, instructions, defaults);
     if !entire {
         return pack(11, 0);
     }
@@ -108,4 +106,28 @@ pub extern "C" fn stor_write_tables(
     let answer = w.answer;
     let number = number_of(answer);
     pack(number, w.size)
+}
+
+// Enters a whole unit file and writes its book, open, empty or closed, as a unit file into other memory. The answer is the refusal's number, or 0, and
+// 256 times the offset of the refused command, or the written file's length; 0 where it has no room.
+#[no_mangle]
+pub extern "C" fn stor_write_file(file: &[u8], meter: &mut [i32], written: &mut [u8]) -> u64
+    ensures { λ r.
+        ⌜ rewrittenFile r (lent (now (meter .exit))) (now (written .exit))
+        ≡ writeFile (now (file .entry)) (lent (now (meter .entry))) (now (written .entry)) ⌝ }
+{
+    let l = load_file(file, meter);
+    let entered = l.answer;
+    let book = l.book;
+    let stopped = l.at;
+    match entered {
+        Answer::Taken => {
+            let w = write_book(book, meter, written);
+            let ended = w.answer;
+            let number = number_of(ended);
+            let size = w.size;
+            pack(number, size)
+        }
+        Answer::Refused(n) => pack(n, stopped),
+    }
 }

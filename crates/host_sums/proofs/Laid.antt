@@ -28,7 +28,8 @@ module _ {A B : Type 0} (f : A → List B) where
   -- the lists of one element more
   pub concat-suc : (l : List A) (i : ℕ) (d : A) → i < length l → concatMap f (take (suc i) l) ≡ concatMap f (take i l) ++ f (getD l i d)
   unfolding concatMap
-  concat-suc l i d h = rw (take-suc l i d h) (concatMap-append f (take i l) (getD l i d ∷ []) ∙ ap (λ z. concatMap f (take i l) ++ z) (append-nil (f (getD l i d))))
+  concat-suc l i d h =
+      rw (take-suc l i d h) (concatMap-append f (take i l) (getD l i d ∷ []) ∙ ap (λ z. concatMap f (take i l) ++ z) (append-nil (f (getD l i d))))
 
   -- lists of two
   pub length-pairs : ((x : A) → length (f x) ≡ 2) → (l : List A) → length (concatMap f l) ≡ 2 * length l

@@ -1,13 +1,16 @@
--- Tables that are filled from the front: f i in place i, and d in the places that are not filled yet.
+-- Tables that are filled from the front: f i in place i, and d in the places that are not filled yet. Each store fills the next place; where f gives d
+-- from some place on, a table filled up to there is the whole table of f. The loops over a host's windows, instructions and defaults cite these laws.
 use mathlib.Core.Path.{_≡_, refl, sym, _∙_, ap}
-use mathlib.Core.List.{List, map}
-use Prim.Native.Nat.{ℕ, zero, suc, _+_, _≤_, _<_}
+use mathlib.Core.List.{List, [], map}
+use Prim.Native.Nat.{ℕ, zero, suc, _+_, _-_, _*_, _≤_, _<_}
 use native.Mathlib.Nat.{zero-add, sub-zero}
 use native.Mathlib.Omega.{arith}
 use native.Mathlib.Decide.{ℕ-discrete, decLe}
-use lib.ListN.{length, getD, set, replicate, length-set, length-map, length-replicate, getD-replicate, List·getD-eq-default}
-use lib.Seq.{getD-set-same, getD-set-other, ext-getD}
+use lib.ListN.{length, getD, take, drop, set, replicate, getD-replicate, List·getD-eq-default, drop-of-length-le}
+use lib.ListN.{length-set, length-map, length-drop, length-replicate}
+use lib.Seq.{getD-set-same, getD-set-other, ext-getD, take-all}
 use Rattle.energy.specs.Lists.{run, between}
+use Rattle.host_tables.specs.Tables.{entryAt, entriesOf}
 
 -- ---- the table of f
 
@@ -37,7 +40,7 @@ module _ {A : Type 0} (f : ℕ → A) (d : A) where
       unfilled j (yes h) = List·getD-eq-default (replicate n d) d (omega (arith, length-replicate n d))
       unfilled j (no h) = getD-replicate n j d d (omega arith)
 
-  pub filled-next : (n i : ℕ) (r : List A) (v : A) → i < n → v ≡ f i → Filled n i r → Filled n (i + 1) (set r i v)
+  filled-next : (n i : ℕ) (r : List A) (v : A) → i < n → v ≡ f i → Filled n i r → Filled n (i + 1) (set r i v)
   filled-next n i r v h e t =
       record {
         size = length-set r i v ∙ t .size;
@@ -50,7 +53,7 @@ module _ {A : Type 0} (f : ℕ → A) (d : A) where
       here j k (no q) = getD-set-other r i j v d q ∙ t .done j (omega arith)
 
   -- all are, where f gives d in the places after the filled ones
-  pub filled-all : (n i : ℕ) (r : List A) → Filled n i r → ((j : ℕ) → i ≤ j → j < n → f j ≡ d) → r ≡ map f (between 0 n)
+  filled-all : (n i : ℕ) (r : List A) → Filled n i r → ((j : ℕ) → i ≤ j → j < n → f j ≡ d) → r ≡ map f (between 0 n)
   unfolding between
   filled-all n i r t past =
       ext-getD d r (map f (run 0 n)) (t .size ∙ sym (length-map (run 0 n) f ∙ length-run 0 n))
@@ -60,3 +63,26 @@ module _ {A : Type 0} (f : ℕ → A) (d : A) where
       here : (j : ℕ) → j < n → Dec (i ≤ j) → getD r j d ≡ f j
       here j k (yes h) = t .rest j h ∙ sym (past j h k)
       here j k (no h) = t .done j (omega arith)
+
+-- ---- the rows of a host's table
+
+module _ {A : Type 0} (entry : List ℕ → A) (numbers : ℕ) (table : List ℕ) where
+  -- the first i places hold the entries of the first i rows, and places after them that of no numbers
+  abbrev pub Rows : ℕ → ℕ → List A → Type 0
+  Rows places i r = Filled (entryAt entry numbers table) (entry []) places i r
+
+  -- one row more: its entry is read from the numbers that are left
+  pub rows-next : (places i : ℕ) (r : List A) (v : A) → i < places → v ≡ entry (take (length table - numbers * i) (drop (numbers * i) table))
+      → Rows places i r
+      → Rows places (i + 1) (set r i v)
+  rows-next places i r v h e t =
+      let left : take (length table - numbers * i) (drop (numbers * i) table) ≡ drop (numbers * i) table =
+      take-all (length table - numbers * i) (drop (numbers * i) table) (omega (arith, length-drop (numbers * i) table)) in
+      filled-next (entryAt entry numbers table) (entry []) places i r v h (e ∙ ap entry left) t
+
+  -- all rows, where the numbers end before every place after them
+  pub rows-all : (places i : ℕ) (r : List A) → Rows places i r → ((j : ℕ) → i ≤ j → j < places → length table ≤ numbers * j)
+      → r ≡ entriesOf entry numbers places table
+  unfolding entriesOf
+  rows-all places i r t past =
+      filled-all (entryAt entry numbers table) (entry []) places i r t (λ j h k. ap entry (drop-of-length-le table (past j h k)))

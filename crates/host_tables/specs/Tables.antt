@@ -1,12 +1,12 @@
--- The book that tables of numbers say: a contract, windows, instructions and defaults, each with its operands in the unit file's order. A number past
--- a table's end is 0, as in every unused place, and one that is too wide for its field stands as the field's largest value, which is in no operand's
--- range.
+-- The book that a host's tables say: a contract, windows, instructions and defaults, each a row of numbers, its operands in the unit file's order. A
+-- number past a table's end is 0, as in every unused place, and one that is too wide for its field stands as the field's largest value, which is in no
+-- operand's range.
 use mathlib.Core.Bool.{Bool, true, _&&_}
 use mathlib.Core.List.{List, map}
-use Prim.Native.Nat.{ℕ, _+_, _*_, _/_, _%_, min}
+use Prim.Native.Nat.{ℕ, _*_, _/_, _%_, min}
 use lib.Dec.{eqb}
 use lib.IntN.{pos}
-use lib.ListN.{length, getD}
+use lib.ListN.{length, getD, drop}
 use Rattle.energy.specs.Lists.{between}
 use Rattle.commands.specs.declared.contract.Contract.{Contract}
 use Rattle.commands.specs.declared.entries.Window.{Window}
@@ -14,64 +14,106 @@ use Rattle.commands.specs.declared.entries.Instruction.{Instruction}
 use Rattle.commands.specs.declared.entries.Default.{Default}
 use Rattle.book.specs.declared.Book.{Book}
 
--- the number at a place of a table
+-- the tables of a host, row after row; the contract's has one row
+pub record Tables : Type 0 where
+  pub contract : List ℕ
+  pub windows : List ℕ
+  pub instructions : List ℕ
+  pub defaults : List ℕ
+
+-- these four
+abbrev pub tables : List ℕ → List ℕ → List ℕ → List ℕ → Tables
+tables contract windows instructions defaults =
+    record { contract = contract; windows = windows; instructions = instructions; defaults = defaults }
+
+-- ---- rows
+
+-- how many numbers the contract's row has
+abbrev pub contractNumbers : ℕ
+contractNumbers = 11
+
+-- how many numbers a window's row has
+abbrev pub windowNumbers : ℕ
+windowNumbers = 3
+
+-- how many numbers an instruction's row has
+abbrev pub instructionNumbers : ℕ
+instructionNumbers = 2
+
+-- how many numbers a default's row has
+abbrev pub defaultNumbers : ℕ
+defaultNumbers = 3
+
+-- the number at a place of a row
 abbrev pub numberAt : List ℕ → ℕ → ℕ
-numberAt s i = getD s i 0
+numberAt r i = getD r i 0
 
 -- the number at a place, in a field of one byte
 abbrev pub byteAt : List ℕ → ℕ → ℕ
-byteAt s i = min (numberAt s i) 255
+byteAt r i = min (numberAt r i) 255
 
 -- the number at a place, in a field of two bytes
 abbrev pub wordAt : List ℕ → ℕ → ℕ
-wordAt s i = min (numberAt s i) 65535
+wordAt r i = min (numberAt r i) 65535
 
--- the contract of eleven numbers
+-- the contract of a row
 unfoldable pub contractIn : List ℕ → Contract
-contractIn s =
+contractIn r =
     record {
-      days = byteAt s 0;
-      kind = byteAt s 1;
-      service = byteAt s 2;
-      contracted = record { 0 = pos (numberAt s 3) };
-      rampup = numberAt s 4;
-      rampdown = numberAt s 5;
-      response = record { 0 = wordAt s 6 };
-      recovery = record { 0 = wordAt s 7 };
-      availability = numberAt s 8;
-      utilisation = numberAt s 9;
-      optional = numberAt s 10;
+      days = byteAt r 0;
+      kind = byteAt r 1;
+      service = byteAt r 2;
+      contracted = record { 0 = pos (numberAt r 3) };
+      rampup = numberAt r 4;
+      rampdown = numberAt r 5;
+      response = record { 0 = wordAt r 6 };
+      recovery = record { 0 = wordAt r 7 };
+      availability = numberAt r 8;
+      utilisation = numberAt r 9;
+      optional = numberAt r 10;
     }
 
--- window i, from 0, of three numbers
-unfoldable pub windowAt : List ℕ → ℕ → Window
-windowAt s i =
-    record { start = record { 0 = numberAt s (3 * i) }; end = record { 0 = numberAt s (3 * i + 1) }; verdict = byteAt s (3 * i + 2) }
+-- the window of a row
+unfoldable pub windowIn : List ℕ → Window
+windowIn r = record { start = record { 0 = wordAt r 0 }; end = record { 0 = wordAt r 1 }; verdict = byteAt r 2 }
 
--- instruction i of two numbers
-unfoldable pub instructionAt : List ℕ → ℕ → Instruction
-instructionAt s i = record { issue = record { 0 = numberAt s (2 * i) }; cease = record { 0 = numberAt s (2 * i + 1) } }
+-- the instruction of a row
+unfoldable pub instructionIn : List ℕ → Instruction
+instructionIn r = record { issue = record { 0 = wordAt r 0 }; cease = record { 0 = wordAt r 1 } }
 
--- default i of three numbers
-unfoldable pub defaultAt : List ℕ → ℕ → Default
-defaultAt s i = record { minute = record { 0 = numberAt s (3 * i) }; kind = byteAt s (3 * i + 1); reach = byteAt s (3 * i + 2) }
+-- the default of a row
+unfoldable pub defaultIn : List ℕ → Default
+defaultIn r = record { minute = record { 0 = wordAt r 0 }; kind = byteAt r 1; reach = byteAt r 2 }
 
--- the closed book of a contract, windows, instructions and defaults; as many of each as its table has whole entries
-unfoldable pub bookOf : List ℕ → List ℕ → List ℕ → List ℕ → Book
-bookOf contract windows instructions defaults =
+-- ---- tables
+
+module _ {A : Type 0} (entry : List ℕ → A) (numbers : ℕ) where
+  -- the entry of row i, from 0, of a table whose rows have so many numbers
+  abbrev pub entryAt : List ℕ → ℕ → A
+  entryAt table i = entry (drop (numbers * i) table)
+
+  -- the entries of the first so many places; in places after the table's end stands the entry of zeros
+  unfoldable pub entriesOf : ℕ → List ℕ → List A
+  entriesOf places table = map (entryAt table) (between 0 places)
+
+-- the closed book of these tables; as many entries of each as its table has whole rows
+unfoldable pub bookOf : Tables → Book
+bookOf t =
     record {
       agreed = true;
       closed = true;
-      contract = contractIn contract;
-      windows = map (windowAt windows) (between 0 128);
-      nwindows = length windows / 3;
-      instructions = map (instructionAt instructions) (between 0 64);
-      ninstructions = length instructions / 2;
-      defaults = map (defaultAt defaults) (between 0 128);
-      ndefaults = length defaults / 3;
+      contract = contractIn (t .contract);
+      windows = entriesOf windowIn windowNumbers 128 (t .windows);
+      nwindows = length (t .windows) / windowNumbers;
+      instructions = entriesOf instructionIn instructionNumbers 64 (t .instructions);
+      ninstructions = length (t .instructions) / instructionNumbers;
+      defaults = entriesOf defaultIn defaultNumbers 128 (t .defaults);
+      ndefaults = length (t .defaults) / defaultNumbers;
     }
 
--- tables of these lengths hold entries alone: one contract, and no window, instruction or default cut short
-unfoldable pub entire : ℕ → ℕ → ℕ → ℕ → Bool
-entire contract windows instructions defaults =
-    eqb contract 11 && eqb (windows % 3) 0 && eqb (instructions % 2) 0 && eqb (defaults % 3) 0
+-- these tables hold whole rows alone: one contract, and no window, instruction or default cut short
+unfoldable pub entire : Tables → Bool
+entire t =
+    eqb (length (t .contract)) contractNumbers && eqb (length (t .windows) % windowNumbers) 0
+    && eqb (length (t .instructions) % instructionNumbers) 0
+    && eqb (length (t .defaults) % defaultNumbers) 0

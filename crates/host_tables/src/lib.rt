@@ -1,10 +1,8 @@
-// The book that tables of numbers say.
+// The book that a host's tables of numbers say.
 ghost use mathlib.Core.Path.{_≡_};
-ghost use mathlib.Core.List.{map};
-ghost use Prim.Native.Nat.{_+_, _<_, min};
-ghost use lib.ListN.{getD};
-ghost use Rattle.energy.specs.Lists.{between};
-ghost use Rattle.host_tables.specs.Tables.{bookOf, contractIn, defaultAt, entire, instructionAt, windowAt};
+ghost use Prim.Native.Nat.{_+_, min};
+ghost use Rattle.host_tables.specs.Tables.{bookOf, contractIn, defaultIn, entire, entriesOf, instructionIn, tables, windowIn};
+ghost use Rattle.host_tables.specs.Tables.{byteAt, defaultNumbers, instructionNumbers, numberAt, windowNumbers, wordAt};
 use book::Book;
 use commands::contract::Contract;
 use commands::entries::Default;
@@ -13,47 +11,107 @@ use commands::entries::Window;
 use energy::units::Kw;
 use energy::units::Minutes;
 
-// The number at a place, 0 past the end.
-fn number_at(s: &[u16], i: usize) -> u16
-    ensures { λ r. ⌜ r ≡ getD (now (s .entry)) i 0 ⌝ }
+// How many numbers a row of each table has.
+const CONTRACT_NUMBERS: usize = 11;
+
+const WINDOW_NUMBERS: usize = 3;
+
+const INSTRUCTION_NUMBERS: usize = 2;
+
+const DEFAULT_NUMBERS: usize = 3;
+
+// The number at a place of a row, 0 past the table's end.
+fn number_at(r: &[u32], i: usize) -> u32
+    ensures { λ n. ⌜ n ≡ numberAt (now (r .entry)) i ⌝ }
 {
-    if i < s.len() {
-        return s[i];
+    if i < r.len() {
+        return r[i];
     }
     0
 }
 
-// The same in the contract's table.
-fn operand_at(s: &[u32], i: usize) -> u32
-    ensures { λ r. ⌜ r ≡ getD (now (s .entry)) i 0 ⌝ }
+// The number at a place, in a field of one byte.
+fn byte_at(r: &[u32], i: usize) -> u8
+    ensures { λ n. ⌜ n ≡ byteAt (now (r .entry)) i ⌝ }
 {
-    if i < s.len() {
-        return s[i];
-    }
-    0
-}
-
-// A number in a field of one byte.
-fn byte_of(n: u32) -> u8
-    ensures { λ r. ⌜ r ≡ min n 255 ⌝ }
-{
-    if n < 255 {
-        return n as u8;
+    let byte = number_at(r, i);
+    if byte < 255 {
+        return byte as u8;
     }
     255
 }
 
-// A number in a field of two bytes.
-fn word_of(n: u32) -> u16
-    ensures { λ r. ⌜ r ≡ min n 65535 ⌝ }
+// The number at a place, in a field of two bytes.
+fn word_at(r: &[u32], i: usize) -> u16
+    ensures { λ n. ⌜ n ≡ wordAt (now (r .entry)) i ⌝ }
 {
-    if n < 65535 {
-        return n as u16;
+    let word = number_at(r, i);
+    if word < 65535 {
+        return word as u16;
     }
     65535
 }
 
-// The places of a table that can hold an entry: the whole entries, and one that the numbers end in. Places after these are unused.
+// The contract of a row.
+fn contract_in(r: &[u32]) -> Contract
+    ensures { λ k. ⌜ k ≡ contractIn (now (r .entry)) ⌝ }
+{
+    let contracted = Kw(number_at(r, 3) as i64);
+    let response = Minutes(word_at(r, 6));
+    let recovery = Minutes(word_at(r, 7));
+    Contract {
+        days: byte_at(r, 0),
+        kind: byte_at(r, 1),
+        service: byte_at(r, 2),
+        contracted: contracted,
+        rampup: number_at(r, 4),
+        rampdown: number_at(r, 5),
+        response: response,
+        recovery: recovery,
+        availability: number_at(r, 8),
+        utilisation: number_at(r, 9),
+        optional: number_at(r, 10),
+    }
+}
+
+// The window of a row.
+fn window_in(r: &[u32]) -> Window
+    ensures { λ w. ⌜ w ≡ windowIn (now (r .entry)) ⌝ }
+{
+    let start = Minutes(word_at(r, 0));
+    let end = Minutes(word_at(r, 1));
+    Window {
+        start: start,
+        end: end,
+        verdict: byte_at(r, 2),
+    }
+}
+
+// The instruction of a row.
+fn instruction_in(r: &[u32]) -> Instruction
+    ensures { λ x. ⌜ x ≡ instructionIn (now (r .entry)) ⌝ }
+{
+    let issue = Minutes(word_at(r, 0));
+    let cease = Minutes(word_at(r, 1));
+    Instruction {
+        issue: issue,
+        cease: cease,
+    }
+}
+
+// The default of a row.
+fn default_in(r: &[u32]) -> Default
+    ensures { λ d. ⌜ d ≡ defaultIn (now (r .entry)) ⌝ }
+{
+    let minute = Minutes(word_at(r, 0));
+    Default {
+        minute: minute,
+        kind: byte_at(r, 1),
+        reach: byte_at(r, 2),
+    }
+}
+
+// The places of a table that can hold an entry: the whole rows, and one that the numbers end in. Places after these are unused.
 fn places(whole: usize, most: usize) -> usize
     ensures { λ r. ⌜ r ≡ min (whole + 1) most ⌝ }
 {
@@ -63,132 +121,90 @@ fn places(whole: usize, most: usize) -> usize
     most
 }
 
-fn contract_of(s: &[u32]) -> Contract
-    ensures { λ r. ⌜ r ≡ contractIn (now (s .entry)) ⌝ }
+// The windows of a table, in the book's 128 places.
+fn windows_of(s: &[u32]) -> [Window; 128]
+    ensures { λ r. ⌜ r ≡ entriesOf windowIn windowNumbers 128 (now (s .entry)) ⌝ }
 {
-    let contracted = Kw(operand_at(s, 3) as i64);
-    let response = Minutes(word_of(operand_at(s, 6)));
-    let recovery = Minutes(word_of(operand_at(s, 7)));
-    Contract {
-        days: byte_of(operand_at(s, 0)),
-        kind: byte_of(operand_at(s, 1)),
-        service: byte_of(operand_at(s, 2)),
-        contracted: contracted,
-        rampup: operand_at(s, 4),
-        rampdown: operand_at(s, 5),
-        response: response,
-        recovery: recovery,
-        availability: operand_at(s, 8),
-        utilisation: operand_at(s, 9),
-        optional: operand_at(s, 10),
-    }
-}
-
-fn window_at(s: &[u16], i: usize) -> Window
-    requires { ⌜ i < 128 ⌝ }
-    ensures { λ r. ⌜ r ≡ windowAt (now (s .entry)) i ⌝ }
-{
-    let start = Minutes(number_at(s, 3 * i));
-    let end = Minutes(number_at(s, 3 * i + 1));
-    Window {
-        start: start,
-        end: end,
-        verdict: byte_of(number_at(s, 3 * i + 2) as u32),
-    }
-}
-
-fn instruction_at(s: &[u16], i: usize) -> Instruction
-    requires { ⌜ i < 64 ⌝ }
-    ensures { λ r. ⌜ r ≡ instructionAt (now (s .entry)) i ⌝ }
-{
-    let issue = Minutes(number_at(s, 2 * i));
-    let cease = Minutes(number_at(s, 2 * i + 1));
-    Instruction {
-        issue: issue,
-        cease: cease,
-    }
-}
-
-fn default_at(s: &[u16], i: usize) -> Default
-    requires { ⌜ i < 128 ⌝ }
-    ensures { λ r. ⌜ r ≡ defaultAt (now (s .entry)) i ⌝ }
-{
-    let minute = Minutes(number_at(s, 3 * i));
-    Default {
-        minute: minute,
-        kind: byte_of(number_at(s, 3 * i + 1) as u32),
-        reach: byte_of(number_at(s, 3 * i + 2) as u32),
-    }
-}
-
-fn windows_of(s: &[u16]) -> [Window; 128]
-    ensures { λ r. ⌜ r ≡ map (windowAt (now (s .entry))) (between 0 128) ⌝ }
-{
-    let n = places(s.len() / 3, Contract::WINDOWS_MOST);
+    let n = places(s.len() / WINDOW_NUMBERS, Contract::WINDOWS_MOST);
     let none = Window {
         start: Minutes(0),
         end: Minutes(0),
         verdict: 0,
     };
-    let mut windows = [none; 128];
+    let mut entries = [none; 128];
     let mut i = 0;
     while i < n {
-        let w = window_at(s, i);
-        windows[i] = w;
+        let at = WINDOW_NUMBERS * i;
+        let w = window_in(&s[at..]);
+        entries[i] = w;
         i += 1;
     }
-    windows
+    entries
 }
 
-fn instructions_of(s: &[u16]) -> [Instruction; 64]
-    ensures { λ r. ⌜ r ≡ map (instructionAt (now (s .entry))) (between 0 64) ⌝ }
+// The instructions of a table, in the book's 64 places.
+fn instructions_of(s: &[u32]) -> [Instruction; 64]
+    ensures { λ r. ⌜ r ≡ entriesOf instructionIn instructionNumbers 64 (now (s .entry)) ⌝ }
 {
-    let n = places(s.len() / 2, Contract::INSTRUCTIONS_MOST);
+    let n = places(s.len() / INSTRUCTION_NUMBERS, Contract::INSTRUCTIONS_MOST);
     let none = Instruction {
         issue: Minutes(0),
         cease: Minutes(0),
     };
-    let mut instructions = [none; 64];
+    let mut entries = [none; 64];
     let mut i = 0;
     while i < n {
-        let x = instruction_at(s, i);
-        instructions[i] = x;
+        let at = INSTRUCTION_NUMBERS * i;
+        let x = instruction_in(&s[at..]);
+        entries[i] = x;
         i += 1;
     }
-    instructions
+    entries
 }
 
-fn defaults_of(s: &[u16]) -> [Default; 128]
-    ensures { λ r. ⌜ r ≡ map (defaultAt (now (s .entry))) (between 0 128) ⌝ }
+// The defaults of a table, in the book's 128 places.
+fn defaults_of(s: &[u32]) -> [Default; 128]
+    ensures { λ r. ⌜ r ≡ entriesOf defaultIn defaultNumbers 128 (now (s .entry)) ⌝ }
 {
-    let n = places(s.len() / 3, Contract::DEFAULTS_MOST);
+    let n = places(s.len() / DEFAULT_NUMBERS, Contract::DEFAULTS_MOST);
     let none = Default {
         minute: Minutes(0),
         kind: 0,
         reach: 0,
     };
-    let mut defaults = [none; 128];
+    let mut entries = [none; 128];
     let mut i = 0;
     while i < n {
-        let d = default_at(s, i);
-        defaults[i] = d;
+        let at = DEFAULT_NUMBERS * i;
+        let d = default_in(&s[at..]);
+        entries[i] = d;
         i += 1;
     }
-    defaults
+    entries
 }
 
-// Whether tables of these lengths hold entries alone.
-pub fn entire_tables(contract: usize, windows: usize, instructions: usize, defaults: usize) -> bool
-    ensures { λ r. ⌜ r ≡ entire contract windows instructions defaults ⌝ }
+// Whether these tables hold whole rows alone.
+pub fn entire_tables(
+    contract: &[u32],
+    windows: &[u32],
+    instructions: &[u32],
+    defaults: &[u32],
+) -> bool
+    ensures { λ r.
+        ⌜ r ≡ entire (tables (now (contract .entry)) (now (windows .entry)) (now (instructions .entry)) (now (defaults .entry))) ⌝ }
 {
-    (contract == 11) & (windows % 3 == 0) & (instructions % 2 == 0) & (defaults % 3 == 0)
+    (contract.len() == CONTRACT_NUMBERS)
+        & (windows.len() % WINDOW_NUMBERS == 0)
+        & (instructions.len() % INSTRUCTION_NUMBERS == 0)
+        & (defaults.len() % DEFAULT_NUMBERS == 0)
 }
 
 // The closed book of these tables.
-pub fn book_of(contract: &[u32], windows: &[u16], instructions: &[u16], defaults: &[u16]) -> Book
-    ensures { λ r. ⌜ r ≡ bookOf (now (contract .entry)) (now (windows .entry)) (now (instructions .entry)) (now (defaults .entry)) ⌝ }
+pub fn book_of(contract: &[u32], windows: &[u32], instructions: &[u32], defaults: &[u32]) -> Book
+    ensures { λ r.
+        ⌜ r ≡ bookOf (tables (now (contract .entry)) (now (windows .entry)) (now (instructions .entry)) (now (defaults .entry))) ⌝ }
 {
-    let k = contract_of(contract);
+    let k = contract_in(contract);
     let ws = windows_of(windows);
     let is = instructions_of(instructions);
     let ds = defaults_of(defaults);
@@ -197,10 +213,10 @@ pub fn book_of(contract: &[u32], windows: &[u16], instructions: &[u16], defaults
         closed: true,
         contract: k,
         windows: ws,
-        nwindows: windows.len() / 3,
+        nwindows: windows.len() / WINDOW_NUMBERS,
         instructions: is,
-        ninstructions: instructions.len() / 2,
+        ninstructions: instructions.len() / INSTRUCTION_NUMBERS,
         defaults: ds,
-        ndefaults: defaults.len() / 3,
+        ndefaults: defaults.len() / DEFAULT_NUMBERS,
     }
 }

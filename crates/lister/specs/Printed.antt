@@ -8,7 +8,7 @@ use Rattle.rules.specs.declared.answer.Answer.the-variants.{Taken, Refused}
 use Rattle.settle_records.specs.Listed.{listBook}
 use Rattle.settle_records.specs.declared.Listing.{Listing}
 use Rattle.lister_rows.specs.Rows.{listing, refusalRow}
-use Rattle.lister.specs.declared.input.Ended.{Ended}
+use Rattle.lister.specs.declared.piece.Ended.{Ended}
 
 -- a settlement's listing, where so many windows were entered; a refusal prints only R, its number and the file's length
 abbrev pub settlementRows : Answer → Listing → ℕ → ℕ → List ℕ

@@ -1,6 +1,8 @@
 // The lister: a unit file on standard input, its listing on standard output. Meter memory holds 11 days.
 mod input;
 mod output;
+mod piece;
+mod turn;
 
 use commands::contract::Contract;
 use libc::STDOUT_FILENO;
@@ -10,7 +12,6 @@ fn main() {
     let mut meter = [Contract::NO_READING; 15840];
     let mut buffer = [0u8; 61440];
     let mut rows = [0u8; BYTES];
-    let ended = input::enter_input(&mut buffer, &mut meter);
-    let n = output::put_answer(ended, &meter, &mut rows);
+    let n = input::list_input(&mut buffer, &mut meter, &mut rows);
     io::write_all(STDOUT_FILENO, &rows[..n]);
 }

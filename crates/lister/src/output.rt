@@ -2,7 +2,7 @@
 ghost use Rattle.book_memory.specs.Meter.{lent};
 ghost use Rattle.energy.specs.Lists.{Laid};
 ghost use Rattle.lister.specs.Printed.{printed, settlementRows};
-use crate::input::Ended;
+use crate::piece::Ended;
 use lister_page::BYTES;
 use lister_page::put_listing;
 use lister_page::put_refusal;

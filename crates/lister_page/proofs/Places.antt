@@ -88,7 +88,8 @@ module _ {n : ℕ} {so m : List ℕ} {at : ℕ} {out : List ℕ} {place i : ℕ}
     pub row-room : place + r .len ≤ length out
     row-room = omega (arith, rows-long)
 
-    pub row-more : (bs : List ℕ) {after : List ℕ} {next : ℕ} → r ≡ rowOf bs → Laid (take (r .len) (r .bytes)) out place after next → Rows n (so ++ bs) m at after next (i + 1)
+    pub row-more : (bs : List ℕ) {after : List ℕ} {next : ℕ} → r ≡ rowOf bs → Laid (take (r .len) (r .bytes)) out place after next
+        → Rows n (so ++ bs) m at after next (i + 1)
     row-more bs e l =
         record {
           few = omega arith;

@@ -1,4 +1,6 @@
 pub mod Rows
 pub mod Row
 pub mod Digits
+pub mod Text
+pub mod Examples
 pub mod Appendix2

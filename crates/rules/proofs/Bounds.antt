@@ -15,7 +15,7 @@ use Rattle.energy.proofs.Rounding.{nearest-error, lesser-nearest}
 use Rattle.rules.specs.Ledger.{Ledger, contractOf}
 use Rattle.rules.specs.Segment.{price, Segment, segments}
 use Rattle.rules.specs.Statement.{expectedOf, deliveredOf, lineOf, lines, statementOf, paidPeriods, periodExact, periodPence, availableOf, windowsPaid, exactOf, rateOf, exactEnergy, paidCount, exactAmount, allowance, Differ}
-use Rattle.rules.specs.Bounds.{Bounds}
+use Rattle.rules.specs.Bounds.{WithinHalves·theorem}
 use Rattle.commands.specs.declared.entries.Window.{Window}
 use Rattle.rules.specs.declared.statement.Line.{Line}
 use Rattle.rules.specs.declared.statement.Available.{Available}
@@ -98,10 +98,12 @@ module _ (g : Ledger) where
       (sum-near 240 (λ (l : Line). l .capped .0) (exactOf g) (λ l. 120) (lineOf g) line-near (segments g))
 
   -- the payments of all lines
-  lines-near : Apart (pos 1200000 *ℤ sum (λ (l : Line). l .pence .0) (lines g)) (sum (λ s. pos 5 *ℤ (exactOf g s *ℤ pos (rateOf g s))) (segments g)) (sumℕ (λ (l : Line). 600000 + 600 * price (contractOf g) (l .rate)) (lines g))
+  lines-near : Apart (pos 1200000 *ℤ sum (λ (l : Line). l .pence .0) (lines g)) (sum (λ s. pos 5 *ℤ (exactOf g s *ℤ pos (rateOf g s))) (segments g))
+      (sumℕ (λ (l : Line). 600000 + 600 * price (contractOf g) (l .rate)) (lines g))
   unfolding lines lineOf
   lines-near =
-      sum-near 1200000 (λ (l : Line). l .pence .0) (λ s. pos 5 *ℤ (exactOf g s *ℤ pos (rateOf g s))) (λ (l : Line). 600000 + 600 * price (contractOf g) (l .rate)) (lineOf g)
+      sum-near 1200000 (λ (l : Line). l .pence .0) (λ s. pos 5 *ℤ (exactOf g s *ℤ pos (rateOf g s)))
+      (λ (l : Line). 600000 + 600 * price (contractOf g) (l .rate)) (lineOf g)
       (λ s. pence-near (lineOf g s .capped .0) (exactOf g s) (rateOf g s) (line-near s)) (segments g)
 
   -- the windows' pence are those of all paid periods
@@ -131,6 +133,6 @@ module _ (g : Ledger) where
       rw (windows-pence (g .windows))
       (record { sides = omega (arithℤ, add-parts (pos 1200000 *ℤ u) (pos 1200000 *ℤ a), add-parts x (pos (6 * (n * periodExact g)))) })
 
-pub bounds : (g : Ledger) → Bounds g
+pub bounds : WithinHalves·theorem
 unfolding statementOf
 bounds g = record { energy = differ (energy-near g); money = differ (money-near g) }

@@ -13,11 +13,8 @@ use Rattle.rules.specs.Ledger.{expiry, rise, endOf}
 use Rattle.rules.specs.Segment.{segmentsOf}
 use Rattle.commands.specs.declared.contract.Contract.{Contract}
 use Rattle.commands.specs.declared.entries.Instruction.{Instruction}
-use Rattle.rules.proofs.Cuts.{cutOf, split, rises, cut, cutsFrom, segmentAt, segments-cuts, Timed}
-
--- the periods that the minutes from a to b - 1 touch
-unfoldable pub touched : ℕ → ℕ → ℕ
-touched a b = cond (ltb a b) ((b - 1) / 30 - a / 30 + 1) 0
+use Rattle.rules.proofs.Cuts.{split, rises, cut, cutsFrom, segmentAt, segments-cuts, Timed}
+use Rattle.rules.specs.Cuts.{cutOf, touched}
 
 touched-yes : (a b : ℕ) → a < b → touched a b ≡ (b - 1) / 30 - a / 30 + 1
 unfolding touched
@@ -64,7 +61,8 @@ module _ (e c f : ℕ) (o : e ≤ c) (o′ : c ≤ f) where
     where
       go : Dec (s ≤ 30 * (m / 30) + 30) → touched m s ≡ suc (touched (min s (30 * (m / 30) + 30)) s)
       go (yes l) = omega (arith, touched-yes m s h, touched-no (min s (30 * (m / 30) + 30)) s (omega arith))
-      go (no d) = let p : 30 * (m / 30) + 30 < s = omega (arith, d) in omega (arith, touched-yes m s h, touched-yes (min s (30 * (m / 30) + 30)) s (omega arith))
+      go (no d) =
+          let p : 30 * (m / 30) + 30 < s = omega (arith, d) in omega (arith, touched-yes m s h, touched-yes (min s (30 * (m / 30) + 30)) s (omega arith))
 
   -- at the end of a stage the rest is what comes after it
   from-expiry : left e ≡ touched e c + touched c f
@@ -72,7 +70,8 @@ module _ (e c f : ℕ) (o : e ≤ c) (o′ : c ≤ f) where
     where
       go : Dec (e < c) → left e ≡ touched e c + touched c f
       go (yes l) = steady-left e (le-refl e) l
-      go (no d) = let q : c ≡ e = omega (arith, d) in down-left e (le-refl e) (omega arith) ∙ omega (arith, touched-no e c (omega arith), ap (λ z. touched z f) q)
+      go (no d) =
+          let q : c ≡ e = omega (arith, d) in down-left e (le-refl e) (omega arith) ∙ omega (arith, touched-no e c (omega arith), ap (λ z. touched z f) q)
 
   step-left : (m : ℕ) → m < f → left m ≡ suc (left (cutOf e c f m))
   unfolding cutOf
@@ -104,13 +103,18 @@ module _ (k : Contract) (n : ℕ) (i : Instruction) (t : Timed k i) where
   count-go zero m h = sym (left-none (expiry k i) (i .cease .0) (endOf k i) (t .steady) o′ m (omega arith))
   count-go (suc u) m h = go (ltb m (endOf k i)) refl (count-go u (cut k i m))
     where
-      go : (b : Bool) → ltb m (endOf k i) ≡ b → (endOf k i ≤ cut k i m + u → length (cutsFrom k n i u (cut k i m)) ≡ left (expiry k i) (i .cease .0) (endOf k i) (t .steady) o′ (cut k i m))
+      go : (b : Bool) → ltb m (endOf k i) ≡ b
+          → (endOf k i ≤ cut k i m + u → length (cutsFrom k n i u (cut k i m)) ≡ left (expiry k i) (i .cease .0) (endOf k i) (t .steady) o′ (cut k i m))
           → length (cond b (segmentAt k n i m ∷ cutsFrom k n i u (cut k i m)) []) ≡ left (expiry k i) (i .cease .0) (endOf k i) (t .steady) o′ m
       go true e rest =
           let a : m < endOf k i = ltb-true m (endOf k i) e in
-          ap suc (rest (omega (arith, rises (expiry k i) (i .cease .0) (endOf k i) (t .steady) o′ .above m a))) ∙ sym (step-left (expiry k i) (i .cease .0) (endOf k i) (t .steady) o′ m a)
+          ap suc (rest (omega (arith, rises (expiry k i) (i .cease .0) (endOf k i) (t .steady) o′ .above m a)))
+          ∙ sym (step-left (expiry k i) (i .cease .0) (endOf k i) (t .steady) o′ m a)
       go false e rest = sym (left-none (expiry k i) (i .cease .0) (endOf k i) (t .steady) o′ m (ltb-false m (endOf k i) e))
 
   -- the number of segments
-  pub count-segments : 0 < expiry k i - rise k i → length (segmentsOf k n i) ≡ touched (rise k i) (expiry k i) + touched (expiry k i) (i .cease .0) + touched (i .cease .0) (endOf k i)
-  count-segments h = ap length (segments-cuts k n i t) ∙ count-go (endOf k i - rise k i) (rise k i) (omega arith) ∙ up-left (expiry k i) (i .cease .0) (endOf k i) (t .steady) o′ (rise k i) (omega arith)
+  pub count-segments : 0 < expiry k i - rise k i
+      → length (segmentsOf k n i) ≡ touched (rise k i) (expiry k i) + touched (expiry k i) (i .cease .0) + touched (i .cease .0) (endOf k i)
+  count-segments h =
+      ap length (segments-cuts k n i t) ∙ count-go (endOf k i - rise k i) (rise k i) (omega arith)
+      ∙ up-left (expiry k i) (i .cease .0) (endOf k i) (t .steady) o′ (rise k i) (omega arith)

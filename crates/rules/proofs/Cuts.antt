@@ -1,4 +1,5 @@
--- A segment's minutes are an interval: from its first minute up to the end of its stage or of its period, whichever is first. So the segments of an instruction are the cuts of its active minutes, one after the other.
+-- A segment's minutes are an interval: from its first minute up to the end of its stage or of its period, whichever is first. So the segments
+-- of an instruction are the cuts of its active minutes, one after the other.
 use mathlib.Core.Path.{_≡_, refl, sym, ap, ap₂, _∙_, subst}
 use mathlib.Core.Logic.{_⊎_, inl, inr, ⊎-elim, _≢_}
 use mathlib.Core.Bool.{Bool, true, false, cond, not, _&&_, _||_, and-false, or-true}
@@ -12,6 +13,7 @@ use borrow.Author.Tests.{ltb-true, ltb-false, eq-eqb, ne-eqb}
 use Rattle.energy.specs.Lists.{filter, between}
 use Rattle.energy.proofs.Sums.{between-split, between-cons}
 use Rattle.rules.specs.Ledger.{expiry, rise, endOf}
+use Rattle.rules.specs.Cuts.{stageAt, stageEnd, cutOf}
 use Rattle.rules.specs.Segment.{periodOf, stageOf, sameStage, alike, heads, active, Segment, segmentsOf}
 use Rattle.commands.specs.declared.contract.Contract.{Contract}
 use Rattle.commands.specs.declared.entries.Instruction.{Instruction}
@@ -66,23 +68,14 @@ module _ (r cut : ℕ → ℕ) (A B : ℕ) (R : Rises r cut B) where
       yes-head (inr j) = rw (ne-eqb (r (m - 1)) (r m) (λ e. omega arith)) (or-true (eqb m A))
 
       no-head : (x : ℕ) → suc m ≤ x → x < cut m → headTest r A x ≡ false
-      no-head x i k = rw (ne-eqb x A (λ e. omega arith), eq-eqb (r (x - 1)) (r x) (R .flat m (x - 1) (omega arith) (omega arith) ∙ sym (R .flat m x (omega arith) k))) refl
+      no-head x i k =
+          rw (ne-eqb x A (λ e. omega arith), eq-eqb (r (x - 1)) (r x) (R .flat m (x - 1) (omega arith) (omega arith) ∙ sym (R .flat m x (omega arith) k))) refl
 
   head-next : (m : ℕ) → m < B → cut m < B → Head (cut m)
   head-next m l k = inr (omega (arith, R .jump m k, R .flat m (cut m - 1) (omega (arith, R .above m l)) (omega (arith, R .above m l))))
 
 -- ---- stage and period as one number that never falls
 -- e the expiry, c the cease, f the end
-abbrev pub stageAt : ℕ → ℕ → ℕ → Stage
-stageAt e c m = cond (ltb m e) Up (cond (ltb m c) Steady Down)
-
-abbrev pub stageEnd : ℕ → ℕ → ℕ → ℕ → ℕ
-stageEnd e c f m = cond (ltb m e) e (cond (ltb m c) c f)
-
--- the end of the segment that begins at m
-unfoldable pub cutOf : ℕ → ℕ → ℕ → ℕ → ℕ
-cutOf e c f m = min (stageEnd e c f m) (30 * (m / 30) + 30)
-
 abbrev pub stageIx : Stage → ℕ
 stageIx Up = 0
 stageIx Steady = 1
@@ -92,7 +85,8 @@ abbrev pub rank : ℕ → ℕ → ℕ → ℕ
 rank e c m = periodOf m + stageIx (stageAt e c m)
 
 -- the three stages of a minute
-pub split : (e c m : ℕ) (P : Bool → Bool → Type 0) → (m < e → (q : Bool) → P true q) → (e ≤ m → m < c → P false true) → (e ≤ m → c ≤ m → P false false) → P (ltb m e) (ltb m c)
+pub split : (e c m : ℕ) (P : Bool → Bool → Type 0) → (m < e → (q : Bool) → P true q) → (e ≤ m → m < c → P false true) → (e ≤ m → c ≤ m → P false false)
+    → P (ltb m e) (ltb m c)
 split e c m P up steady down = go (ltb m e) (ltb m c) refl refl
   where
     go : (p q : Bool) → ltb m e ≡ p → ltb m c ≡ q → P p q
@@ -138,7 +132,9 @@ rises e c f o o′ =
         → rank e c m < rank e c (min (stageEnd e c f m) (30 * (m / 30) + 30))
     go m h (yes l) =
         let a : min (stageEnd e c f m) (30 * (m / 30) + 30) ≡ stageEnd e c f m = omega arith in
-        let b : m ≤ stageEnd e c f m = split e c m (λ p q. cond p e (cond q c f) < f → m ≤ cond p e (cond q c f)) (λ l q z. omega arith) (λ k l z. omega arith) (λ k l z. absurd (omega arith)) (omega arith) in
+        let b : m ≤ stageEnd e c f m =
+        split e c m (λ p q. cond p e (cond q c f) < f → m ≤ cond p e (cond q c f)) (λ l q z. omega arith) (λ k l z. omega arith)
+        (λ k l z. absurd (omega arith)) (omega arith) in
         rw a (omega (arith, ix-jump e c f m o (omega arith)))
     go m h (no d) =
         let a : min (stageEnd e c f m) (30 * (m / 30) + 30) ≡ 30 * (m / 30) + 30 = omega (arith, d) in
@@ -247,7 +243,8 @@ module _ (k : Contract) (n : ℕ) (i : Instruction) (t : Timed k i) where
   seg-at : (m : ℕ) → rise k i ≤ m → m < endOf k i → Hd m → seg m ≡ segmentAt k n i m
   unfolding active
   seg-at m h l q = ap (λ (z : List ℕ). record { number = n; instruction = i; head = m; minutes = z })
-      (filter-ext (alike k i m) (λ x. eqb (r m) (r x)) (λ x. alike-rank k i m x) (between (rise k i) (endOf k i)) ∙ run-between r (cut k i) (rise k i) (endOf k i) R m h l q)
+      (filter-ext (alike k i m) (λ x. eqb (r m) (r x)) (λ x. alike-rank k i m x) (between (rise k i) (endOf k i))
+      ∙ run-between r (cut k i) (rise k i) (endOf k i) R m h l q)
 
   abbrev test : ℕ → Bool
   test = headTest r (rise k i)
@@ -258,7 +255,8 @@ module _ (k : Contract) (n : ℕ) (i : Instruction) (t : Timed k i) where
   cuts-go (suc u) m h l q = go (ltb m (endOf k i)) refl (cuts-go u (cut k i m))
     where
       go : (b : Bool) → ltb m (endOf k i) ≡ b
-          → (endOf k i ≤ cut k i m + u → rise k i ≤ cut k i m → (cut k i m < endOf k i → Hd (cut k i m)) → map seg (filter test (between (cut k i m) (endOf k i))) ≡ cutsFrom k n i u (cut k i m))
+          → (endOf k i ≤ cut k i m + u → rise k i ≤ cut k i m → (cut k i m < endOf k i → Hd (cut k i m))
+          → map seg (filter test (between (cut k i m) (endOf k i))) ≡ cutsFrom k n i u (cut k i m))
           → map seg (filter test (between m (endOf k i))) ≡ cond b (segmentAt k n i m ∷ cutsFrom k n i u (cut k i m)) []
       go true e rest =
           let a : m < endOf k i = ltb-true m (endOf k i) e in

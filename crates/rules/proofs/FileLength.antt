@@ -16,7 +16,7 @@ use Rattle.rules.specs.Ledger.{Ledger, ledgerOf, spanIn, cellsIn, readin
 use Rattle.rules.specs.Refusal.{refusal, joined, takenAfter, taken}
 use Rattle.rules.specs.File.{total, table, widthsOf, write}
 use Rattle.rules.specs.Reached.{Reached, untouched, agreed}
-use Rattle.rules.specs.FileLength.{FileLength·theorem, mostBytes}
+use Rattle.rules.specs.FileLength.{FileLength·theorem, mostTaken}
 use Rattle.commands.specs.declared.entries.Reading.{Reading}
 use Rattle.commands.specs.declared.entries.Command.{Command}
 use Rattle.commands.specs.declared.entries.Command.the-variants.{Contract as contractᶜ, Window as windowᶜ, Instruction as instructionᶜ, Default as defaultᶜ, Reading as readingᶜ, Close as closeᶜ}
@@ -121,24 +121,24 @@ step : (size : ℕ) (g : Ledger) (c : Command) → spanIn g ≤ size → Allowed
 unfolding room later table widthsOf total
 step size g (contractᶜ k) s a =
     let cost : length (write (contractᶜ k)) ≡ 32 = write-long (contractᶜ k) in
-    simp (append-nil, length-append, or-false) (omega (arith, none-yet (g .contracts) (a .only)))
+    simp (append-nil, length-append, or-false) (omega (arith, none-yet (g .contracts) (a .book .only)))
 step size g (windowᶜ w) s a =
     let cost : length (write (windowᶜ w)) ≡ 6 = write-long (windowᶜ w) in
-    simp (append-nil, length-append, or-false) (omega (arith, leb-false 128 (length (g .windows)) (a .room)))
+    simp (append-nil, length-append, or-false) (omega (arith, leb-false 128 (length (g .windows)) (a .kind .room)))
 step size g (instructionᶜ i) s a =
     let cost : length (write (instructionᶜ i)) ≡ 5 = write-long (instructionᶜ i) in
-    simp (append-nil, length-append, or-false) (omega (arith, leb-false 64 (length (g .instructions)) (a .room)))
+    simp (append-nil, length-append, or-false) (omega (arith, leb-false 64 (length (g .instructions)) (a .kind .room)))
 step size g (defaultᶜ d) s a =
     let cost : length (write (defaultᶜ d)) ≡ 5 = write-long (defaultᶜ d) in
-    simp (append-nil, length-append, or-false) (omega (arith, leb-false 128 (length (g .defaults)) (a .room)))
+    simp (append-nil, length-append, or-false) (omega (arith, leb-false 128 (length (g .defaults)) (a .kind .room)))
 step size g (readingᶜ r) s a =
     let cost : length (write (readingᶜ r)) ≡ 7 = write-long (readingᶜ r) in
-    let inside : r .minute .0 < size = omega (arith, leb-false (spanIn g) (r .minute .0) (a .inside)) in
-    let less : suc (count (bare (grown g (readingᶜ r))) (between 0 size)) ≤ count (bare g) (between 0 size) = fewer-bare g r (a .unread) size inside in
+    let inside : r .minute .0 < size = omega (arith, leb-false (spanIn g) (r .minute .0) (a .kind .inside)) in
+    let less : suc (count (bare (grown g (readingᶜ r))) (between 0 size)) ≤ count (bare g) (between 0 size) = fewer-bare g r (a .kind .unread) size inside in
     simp (append-nil, or-false) (omega arith)
 step size g closeᶜ s a =
     let cost : length (write closeᶜ) ≡ 1 = write-long closeᶜ in
-    simp append-nil (rw (a .notClosed) (omega arith))
+    simp append-nil (rw (a .book .notClosed) (omega arith))
 
 -- ---- a list
 
@@ -162,8 +162,8 @@ count-most f (suc n) a = go (f a) (count-most f n (suc a))
     go false h = omega arith
 
 -- the room before the first command
-all-room : (size : ℕ) → room size (ledgerOf []) ≤ mostBytes size
-unfolding room ledgerOf concatMap any readingOf between
+all-room : (size : ℕ) → room size (ledgerOf []) ≤ mostTaken size
+unfolding mostTaken room ledgerOf concatMap any readingOf between
 all-room size = omega (arith, count-most (bare (ledgerOf [])) (size - 0) 0)
 
 one-command : (c : Command) → concatMap write (c ∷ []) ≡ write c
@@ -179,13 +179,21 @@ spends size t (c ∷ cs) r = go (refusal false size (ledgerOf t) c) refl (λ t�
     Less : List Command → List Command → Type 0
     Less t′ t = length (concatMap write t′) + room size (ledgerOf t′) ≤ length (concatMap write t) + room size (ledgerOf t)
 
-    go : (o : Option ℕ) → refusal false size (ledgerOf t) c ≡ o → ((t′ : List Command) → Reached size (ledgerOf t′) → Less (takenAfter size t′ cs) t′) → Less (takenAfter size (joined o t c) cs) t
+    go : (o : Option ℕ) → refusal false size (ledgerOf t) c ≡ o → ((t′ : List Command) → Reached size (ledgerOf t′) → Less (takenAfter size t′ cs) t′)
+        → Less (takenAfter size (joined o t c) cs) t
     go none e rest =
-        let more : length (concatMap write (t ++ (c ∷ []))) ≡ length (concatMap write t) + length (write c) = ap length (concatMap-append write t (c ∷ [])) ∙ length-append (concatMap write t) (concatMap write (c ∷ [])) ∙ ap (λ l. length (concatMap write t) + length l) (one-command c) in
+        let more : length (concatMap write (t ++ (c ∷ []))) ≡ length (concatMap write t) + length (write c) =
+        ap length (concatMap-append write t (c ∷ [])) ∙ length-append (concatMap write t) (concatMap write (c ∷ []))
+        ∙ ap (λ l. length (concatMap write t) + length l) (one-command c) in
         let g : room size (ledgerOf (t ++ (c ∷ []))) ≡ room size (grown (ledgerOf t) c) = ap (room size) (ledgerOf-snoc t c) in
-        omega (arith, rest (t ++ (c ∷ [])) (subst (Reached size) (sym (ledgerOf-snoc t c)) (keeps size (ledgerOf t) c r e)), step size (ledgerOf t) c (span-fits r) (allowed size (ledgerOf t) c e))
+        let kept = subst (Reached size) (sym (ledgerOf-snoc t c)) (keeps size (ledgerOf t) c r e) in
+        omega (arith, rest (t ++ (c ∷ [])) kept, step size (ledgerOf t) c (span-fits r) (allowed size (ledgerOf t) c e))
     go (some n) e rest = rest t r
 
-pub file-length : FileLength·theorem
+within : (size : ℕ) (cs : List Command) → length (concatMap write (taken size cs)) ≤ mostTaken size
 unfolding taken concatMap
-file-length size cs = omega (arith, spends size [] cs (start size), all-room size)
+within size cs = omega (arith, spends size [] cs (start size), all-room size)
+
+pub file-length : FileLength·theorem
+unfolding mostTaken
+file-length = record { most = within; counted = λ size h. omega arith }

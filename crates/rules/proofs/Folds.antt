@@ -25,14 +25,16 @@ module _ {A : Type 0} where
       assoc true b c = refl
       assoc false b c = refl
 
-  any-to : (f : A → Bool) (d : A) (xs : List A) (r : ℕ → Bool) → r 0 ≡ false → ((n : ℕ) → n < length xs → r (suc n) ≡ (r n || f (getD xs n d))) → (n : ℕ) → n ≤ length xs → r n ≡ any f (take n xs)
+  any-to : (f : A → Bool) (d : A) (xs : List A) (r : ℕ → Bool) → r 0 ≡ false → ((n : ℕ) → n < length xs → r (suc n) ≡ (r n || f (getD xs n d))) → (n : ℕ)
+      → n ≤ length xs → r n ≡ any f (take n xs)
   unfolding any
   any-to f d xs r z e zero h = z
   any-to f d xs r z e (suc n) h =
       e n h ∙ ap (λ b. b || f (getD xs n d)) (any-to f d xs r z e n (omega arith)) ∙ sym (ap (any f) (take-suc xs n d h) ∙ any-snoc f (take n xs) (getD xs n d))
 
   -- a test that holds of none at first, and then of one more
-  pub any-all : (f : A → Bool) (d : A) (xs : List A) (r : ℕ → Bool) → r 0 ≡ false → ((n : ℕ) → n < length xs → r (suc n) ≡ (r n || f (getD xs n d))) → r (length xs) ≡ any f xs
+  pub any-all : (f : A → Bool) (d : A) (xs : List A) (r : ℕ → Bool) → r 0 ≡ false → ((n : ℕ) → n < length xs → r (suc n) ≡ (r n || f (getD xs n d)))
+      → r (length xs) ≡ any f xs
   any-all f d xs r z e = any-to f d xs r z e (length xs) (le-refl (length xs)) ∙ ap (any f) (take-length xs)
 
   pub any-and : (a : Bool) (p q : A → Bool) (xs : List A) → any (λ x. (a && p x) && q x) xs ≡ (a && any (λ x. p x && q x) xs)
@@ -51,7 +53,8 @@ module _ {A : Type 0} where
   count-snoc f (y ∷ xs) x = go (f y) (count-snoc f xs x)
     where
       go : (b : Bool) → count f (xs ++ (x ∷ [])) ≡ count f xs + cond (f x) 1 0
-          → _≡_ {A = ℕ} (elim b [ true ↦ suc (count f (xs ++ (x ∷ []))) | false ↦ count f (xs ++ (x ∷ [])) ]) ((elim b [ true ↦ suc (count f xs) | false ↦ count f xs ]) + cond (f x) 1 0)
+          → _≡_ {A = ℕ} (elim b [ true ↦ suc (count f (xs ++ (x ∷ []))) | false ↦ count f (xs ++ (x ∷ [])) ])
+          ((elim b [ true ↦ suc (count f xs) | false ↦ count f xs ]) + cond (f x) 1 0)
       go true e = omega (arith, e)
       go false e = e
 
@@ -65,7 +68,8 @@ module _ {A : Type 0} where
   count-filter f [] = refl
   count-filter f (x ∷ xs) = go (f x) (count-filter f xs)
     where
-      go : (b : Bool) → length (filter f xs) ≡ count f xs → length {A = A} (elim b [ true ↦ x ∷ filter f xs | false ↦ filter f xs ]) ≡ elim b [ true ↦ suc (count f xs) | false ↦ count f xs ]
+      go : (b : Bool) → length (filter f xs) ≡ count f xs
+          → length {A = A} (elim b [ true ↦ x ∷ filter f xs | false ↦ filter f xs ]) ≡ elim b [ true ↦ suc (count f xs) | false ↦ count f xs ]
       go true e = ap suc e
       go false e = e
 

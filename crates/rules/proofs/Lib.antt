@@ -12,8 +12,14 @@ pub mod Steady
 pub mod LineBound
 pub mod Busiest
 pub mod Opened
+pub mod Conditions
 pub mod Figures
-pub mod Corners
+pub mod Minutes
+pub mod Rates
+pub mod Delivered
+pub mod Availability
+pub mod Amounts
+pub mod WrittenOrder
 pub mod Bounds
 pub mod Operands
 pub mod Reread

@@ -17,7 +17,8 @@ use Rattle.rules.specs.Lines.{LineBound, LineBound·theorem}
 use Rattle.commands.specs.declared.contract.Contract.{Contract}
 use Rattle.commands.specs.declared.entries.Instruction.{Instruction}
 use Rattle.rules.proofs.Cuts.{Timed}
-use Rattle.rules.proofs.Count.{touched, stages-most, count-segments}
+use Rattle.rules.proofs.Count.{stages-most, count-segments}
+use Rattle.rules.specs.Cuts.{touched}
 use Rattle.commands.proofs.Terms.{Terms}
 use Rattle.rules.proofs.Tables.{InstructionFits, instructions-cons}
 use Rattle.rules.proofs.Reached.{parts-of, terms-of, reached}

@@ -55,7 +55,8 @@ module _ {A : Type 0} (f : A → Bool) where
   kept-was [] h = absurd (List·Memᴰ·not-nil h)
   kept-was (x ∷ xs) {a} h =
       filter-cases (λ l. List·Memᴰ a l → List·Memᴰ a (x ∷ xs) × T (f a)) x xs
-      (λ e m. ⊎-elim (λ q. (List·Memᴰ·head q, subst (λ y. T (f y)) (sym q) (to-T e))) (λ q. let r = kept-was xs q in (List·Memᴰ·tail (r .0), r .1)) (List·Memᴰ·cases-cons m))
+      (λ e m. ⊎-elim (λ q. (List·Memᴰ·head q, subst (λ y. T (f y)) (sym q) (to-T e))) (λ q. let r = kept-was xs q in (List·Memᴰ·tail (r .0), r .1))
+      (List·Memᴰ·cases-cons m))
       (λ e m. let r = kept-was xs m in (List·Memᴰ·tail (r .0), r .1))
       h
 

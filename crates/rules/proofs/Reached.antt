@@ -38,13 +38,15 @@ pub record Parts (k : Contract) (span : ℕ) (ws : List Window) (is : List Instr
   pub instructions : T (instructionsSound k span 0 is)
   pub defaults : T (all (defaultSound k span ws) ds)
 
-pub parts : (k : Contract) (span : ℕ) (ws : List Window) (is : List Instruction) (ds : List Default) → T (pass (agreedTests k span ws is ds)) → Parts k span ws is ds
+pub parts : (k : Contract) (span : ℕ) (ws : List Window) (is : List Instruction) (ds : List Default) → T (pass (agreedTests k span ws is ds))
+    → Parts k span ws is ds
 unfolding agreedTests
 parts k span ws is ds t =
     let p = passes (agreedTests k span ws is ds) t in
     record { operands = p .0; ramps = p .1 .0; windows = p .1 .1 .0; instructions = p .1 .1 .1 .0; defaults = p .1 .1 .1 .1 .0 }
 
-pub tested : {k : Contract} {span : ℕ} {ws : List Window} {is : List Instruction} {ds : List Default} → Parts k span ws is ds → T (pass (agreedTests k span ws is ds))
+pub tested : {k : Contract} {span : ℕ} {ws : List Window} {is : List Instruction} {ds : List Default} → Parts k span ws is ds
+    → T (pass (agreedTests k span ws is ds))
 unfolding agreedTests
 tested {k} {span} {ws} {is} {ds} p =
     passed (agreedTests k span ws is ds) (p .operands, (p .ramps, (p .windows, (p .instructions, (p .defaults, tt)))))
@@ -89,13 +91,13 @@ needs-contract : {size : ℕ} {g : Ledger} (c : Command) → isContract c ≡ fa
 unfolding isEmpty
 needs-contract c n (agreed a) h = a
 needs-contract c n (untouched u) h =
-    absurd (true≢false (sym (ap (λ l. isEmpty l && not (isContract c)) (u .contracts) ∙ ap not n) ∙ h .agreed))
+    absurd (true≢false (sym (ap (λ l. isEmpty l && not (isContract c)) (u .contracts) ∙ ap not n) ∙ h .book .agreed))
 
 -- a contract is the only one
 first-contract : {size : ℕ} {g : Ledger} (k : Contract) → Reached size g → Allowed size g (contractᶜ k) → Untouched g
 unfolding isEmpty
 first-contract k (untouched u) h = u
-first-contract k (agreed a) h = absurd (true≢false (sym (ap (λ l. not (isEmpty l) && true) (a .contract)) ∙ h .only))
+first-contract k (agreed a) h = absurd (true≢false (sym (ap (λ l. not (isEmpty l) && true) (a .contract)) ∙ h .book .only))
 
 -- ---- an entry under a contract
 
@@ -139,7 +141,9 @@ module _ {size : ℕ} {g : Ledger} (a : Agreed size g) where
         ramps = p .ramps;
         windows = kept (λ l. T (windowsSound k span 0 l)) (g .windows) (p .windows);
         instructions = kept (λ l. T (instructionsSound k span 0 l)) (g .instructions) (p .instructions);
-        defaults = kept (λ ds. T (all (defaultSound k span (g .windows ++ [])) ds)) (g .defaults) (kept (λ ws. T (all (defaultSound k span ws) (g .defaults))) (g .windows) (p .defaults));
+        defaults =
+            kept (λ ds. T (all (defaultSound k span (g .windows ++ [])) ds)) (g .defaults)
+            (kept (λ ws. T (all (defaultSound k span ws) (g .defaults))) (g .windows) (p .defaults));
       }
 
   few : Fits (g .windows ++ []) (g .instructions ++ []) (g .defaults ++ [])
@@ -153,24 +157,27 @@ module _ {size : ℕ} {g : Ledger} (a : Agreed size g) where
   with-window : (w : Window) → Allowed size g (windowᶜ w) → Agreed size (grown g (windowᶜ w))
   with-window w h =
       let one : T (windowsSound k span (lastEnd 0 (g .windows)) (w ∷ [])) =
-      one-window k span (lastEnd 0 (g .windows)) w (h .operands) (h .shape) (h .inside) (h .verdict)
-      (subst (λ x. ltb (w .start .0) x ≡ false) (last-end (record { start = record { 0 = 0 }; end = record { 0 = 0 }; verdict = 0 }) (g .windows)) (h .after)) in
+      one-window k span (lastEnd 0 (g .windows)) w (h .input .operands) (h .input .shape) (h .kind .inside) (h .kind .verdict)
+      (subst (λ x. ltb (w .start .0) x ≡ false) (last-end (record { start = record { 0 = 0 }; end = record { 0 = 0 }; verdict = 0 }) (g .windows))
+      (h .kind .after)) in
       keep (windowᶜ w) refl
       (record {
         operands = still .operands;
         ramps = still .ramps;
         windows = windows-snoc k span 0 (g .windows) w (p .windows) one;
         instructions = still .instructions;
-        defaults = kept (λ l. T (all (defaultSound k span (g .windows ++ (w ∷ []))) l)) (g .defaults) (defaults-more k span (g .windows) w (g .defaults) (p .defaults));
+        defaults =
+            kept (λ l. T (all (defaultSound k span (g .windows ++ (w ∷ []))) l)) (g .defaults)
+            (defaults-more k span (g .windows) w (g .defaults) (p .defaults));
       })
-      (record { windows = fits 128 (g .windows) w (h .room); instructions = few .instructions; defaults = few .defaults })
+      (record { windows = fits 128 (g .windows) w (h .kind .room); instructions = few .instructions; defaults = few .defaults })
       (read (windowᶜ w) (λ m. refl))
 
   with-instruction : (i : Instruction) → Allowed size g (instructionᶜ i) → Agreed size (grown g (instructionᶜ i))
   with-instruction i h =
       let one : T (instructionsSound k span (ready k 0 (g .instructions)) (i ∷ [])) =
-      one-instruction k span (ready k 0 (g .instructions)) i (h .operands) (h .inside) (h .ceased)
-      (subst (λ x. ltb (i .issue .0) x ≡ false) (sym (ready-recovered k (g .instructions))) (h .recovered)) in
+      one-instruction k span (ready k 0 (g .instructions)) i (h .input .operands) (h .kind .inside) (h .kind .ceased)
+      (subst (λ x. ltb (i .issue .0) x ≡ false) (sym (ready-recovered k (g .instructions))) (h .kind .recovered)) in
       keep (instructionᶜ i) refl
       (record {
         operands = still .operands;
@@ -179,7 +186,7 @@ module _ {size : ℕ} {g : Ledger} (a : Agreed size g) where
         instructions = instructions-snoc k span 0 (g .instructions) i (p .instructions) one;
         defaults = still .defaults;
       })
-      (record { windows = few .windows; instructions = fits 64 (g .instructions) i (h .room); defaults = few .defaults })
+      (record { windows = few .windows; instructions = fits 64 (g .instructions) i (h .kind .room); defaults = few .defaults })
       (read (instructionᶜ i) (λ m. refl))
 
   with-default : (d : Default) → Allowed size g (defaultᶜ d) → Agreed size (grown g (defaultᶜ d))
@@ -189,8 +196,8 @@ module _ {size : ℕ} {g : Ledger} (a : Agreed size g) where
       let windowed : Bool = any (λ w. within w (d .minute .0)) (g .windows) in
       let one : T (defaultSound k span (g .windows) d) =
       and-T (ok && below) windowed
-      (and-T ok below (h .operands) (lt→ltb (d .minute .0) span (leb-false span (d .minute .0) (h .inside))))
-      (off-not windowed (h .windowed)) in
+      (and-T ok below (h .input .operands) (lt→ltb (d .minute .0) span (leb-false span (d .minute .0) (h .kind .inside))))
+      (off-not windowed (h .kind .windowed)) in
       keep (defaultᶜ d) refl
       (record {
         operands = still .operands;
@@ -201,7 +208,7 @@ module _ {size : ℕ} {g : Ledger} (a : Agreed size g) where
             kept (λ ws. T (all (defaultSound k span ws) (g .defaults ++ (d ∷ [])))) (g .windows)
             (all-snoc (defaultSound k span (g .windows)) (g .defaults) d (p .defaults) one);
       })
-      (record { windows = few .windows; instructions = few .instructions; defaults = fits 128 (g .defaults) d (h .room) })
+      (record { windows = few .windows; instructions = few .instructions; defaults = fits 128 (g .defaults) d (h .kind .room) })
       (read (defaultᶜ d) (λ m. refl))
 
   with-reading : (r : Reading) → Allowed size g (readingᶜ r) → Agreed size (grown g (readingᶜ r))
@@ -214,8 +221,8 @@ module _ {size : ℕ} {g : Ledger} (a : Agreed size g) where
           → (m < span) × T (isReading kw)
       go {m} true e kw q =
           let same : r .minute .0 ≡ m = eqb→eq (r .minute .0) m (to-T e) in
-          let range = T-and (from-to 0 mostMinute (r .minute .0)) (isReading (r .kw .0)) (h .operands) in (
-            subst (λ x. x < span) same (leb-false span (r .minute .0) (h .inside)),
+          let range = T-and (from-to 0 mostMinute (r .minute .0)) (isReading (r .kw .0)) (h .input .operands) in (
+            subst (λ x. x < span) same (leb-false span (r .minute .0) (h .kind .inside)),
             subst (λ x. T (isReading x)) (Option·some-injective (r .kw .0) kw q) (range .1),
           )
       go {m} false e kw q = a .readings m kw q
@@ -233,9 +240,16 @@ with-contract {size} {g} k u h =
     let is : g .instructions ++ [] ≡ [] = append-nil (g .instructions) ∙ u .instructions in
     let ds : g .defaults ++ [] ≡ [] = append-nil (g .defaults) ∙ u .defaults in
     under size k (grown g (contractᶜ k)) (ap (λ l. l ++ (k ∷ [])) (u .contracts))
-    (rw (ws, is, ds) (record { operands = h .operands; ramps = off-T (rampTooLong (contractᶜ k)) (h .ramps); windows = tt; instructions = tt; defaults = tt }))
+    (rw (ws, is, ds)
+    (record {
+      operands = h .input .operands;
+      ramps = off-T (rampTooLong (contractᶜ k)) (h .input .ramps);
+      windows = tt;
+      instructions = tt;
+      defaults = tt;
+    }))
     (record { windows = omega (arith, ap length ws); instructions = omega (arith, ap length is); defaults = omega (arith, ap length ds) })
-    (omega (arith, cells-new g k (u .contracts), ltb-false size (spanOf k) (h .memory)))
+    (omega (arith, cells-new g k (u .contracts), ltb-false size (spanOf k) (h .book .memory)))
     (λ m kw q. absurd (Option·none-ne-some kw (sym (u .readings m) ∙ q)))
 
 -- ---- any command

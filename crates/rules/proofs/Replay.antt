@@ -24,6 +24,7 @@ use Rattle.commands.specs.declared.entries.Command.{Command}
 use Rattle.commands.specs.declared.entries.Command.the-variants.{Contract as contractᶜ, Window as windowᶜ, Instruction as instructionᶜ, Default as defaultᶜ}
 use Rattle.commands.proofs.Chain.{apart, not-on}
 use Rattle.rules.proofs.Taken.{grown, ledgerOf-snoc}
+use Rattle.rules.proofs.Span.{span-same, cells-same, cells-new}
 use Rattle.rules.proofs.Tables.{lastEnd, last-end, ready, ready-recovered}
 
 -- ---- commands that are all taken
@@ -110,10 +111,30 @@ unfolding ready
 ready-added k e [] i = refl
 ready-added k e (x ∷ is) i = ready-added k (endOf k x + k .recovery .0) is i
 
-module _ (size : ℕ) (k : Contract) (fit : spanOf k ≤ size) where
+-- a contract alone
+abbrev pub agreedOn : Contract → Ledger
+agreedOn k = held k [] [] [] false unread
+
+-- a contract whose span it is, and for which lent memory has the cells
+module _ (size : ℕ) (k : Contract) (span : ℕ) (spans : spanIn (agreedOn k) ≡ span) (fit : cellsIn (agreedOn k) ≤ size) where
+  -- so with entries under it
+  span-held : (ws : List Window) (is : List Instruction) (ds : List Default) → spanIn (held k ws is ds false unread) ≡ span
+  span-held ws is ds = span-same (held k ws is ds false unread) (agreedOn k) refl ∙ spans
+
+  cells-held : (ws : List Window) (is : List Instruction) (ds : List Default) → ltb size (cellsIn (held k ws is ds false unread)) ≡ false
+  cells-held ws is ds = le-ltb size (cellsIn (held k ws is ds false unread)) (omega (arith, cells-same (held k ws is ds false unread) (agreedOn k) refl))
+
+  none-yet : ledgerOf [] .contracts ≡ []
+  unfolding ledgerOf concatMap
+  none-yet = refl
+
+  own-cells : spanOf k ≤ size
+  unfolding ledgerOf concatMap any readingOf later
+  own-cells = omega (arith, cells-new (ledgerOf []) k none-yet)
+
   contract-taken : T (inRange (contractᶜ k)) → T (not (rampTooLong (contractᶜ k))) → refusal false size (ledgerOf []) (contractᶜ k) ≡ none
   unfolding refusal conditions lowest isEmpty ledgerOf concatMap any
-  contract-taken t s = rw (of-T (inRange (contractᶜ k)) t, not-on (rampTooLong (contractᶜ k)) s, le-ltb size (spanOf k) fit)
+  contract-taken t s = rw (of-T (inRange (contractᶜ k)) t, not-on (rampTooLong (contractᶜ k)) s, le-ltb size (spanOf k) own-cells)
 
   -- the contract of an untouched ledger
   pub contract-replay : T (inRange (contractᶜ k)) → T (not (rampTooLong (contractᶜ k)))
@@ -122,87 +143,90 @@ module _ (size : ℕ) (k : Contract) (fit : spanOf k ≤ size) where
   contract-replay t s = replay-cons (contract-taken t s) refl (replay-none refl)
 
   -- a window that could be taken next is taken, and leaves the rest so
-  window-taken : (ws : List Window) (w : Window) (rest : List Window) → T (windowsSound k (spanOf k) (lastEnd 0 ws) (w ∷ rest)) → length ws < 128
-      → (refusal false size (held k ws [] [] false unread) (windowᶜ w) ≡ none) × T (windowsSound k (spanOf k) (lastEnd 0 (ws ++ (w ∷ []))) rest)
-  unfolding refusal conditions lowest spanIn cellsIn contractOf first isEmpty windowsSound
+  window-taken : (ws : List Window) (w : Window) (rest : List Window) → T (windowsSound k span (lastEnd 0 ws) (w ∷ rest)) → length ws < 128
+      → (refusal false size (held k ws [] [] false unread) (windowᶜ w) ≡ none) × T (windowsSound k span (lastEnd 0 (ws ++ (w ∷ []))) rest)
+  unfolding refusal conditions lowest contractOf first isEmpty windowsSound
   window-taken ws w rest t l =
       let rejected : Bool = eqb (k .service) 0 && eqb (w .verdict) 1 in
       let p = apart (inRange (windowᶜ w))
       (not (badWindow (windowᶜ w))
-      ∷ leb (w .end .0) (spanOf k)
+      ∷ leb (w .end .0) span
       ∷ not rejected
       ∷ leb (lastEnd 0 ws) (w .start .0)
-      ∷ windowsSound k (spanOf k) (w .end .0) rest
+      ∷ windowsSound k span (w .end .0) rest
       ∷ [])
       t in (
         rw (
           of-T (inRange (windowᶜ w)) (p .0),
           not-on (badWindow (windowᶜ w)) (p .1 .0),
-          le-ltb size (spanOf k) fit,
-          le-ltb (spanOf k) (w .end .0) (leb→le (w .end .0) (spanOf k) (p .1 .1 .0)),
+          cells-held ws [] [],
+          span-held ws [] [],
+          le-ltb span (w .end .0) (leb→le (w .end .0) span (p .1 .1 .0)),
           not-on rejected (p .1 .1 .1 .0),
           last-end (record { start = record { 0 = 0 }; end = record { 0 = 0 }; verdict = 0 }) ws,
           le-ltb (w .start .0) (lastEnd 0 ws) (leb→le (lastEnd 0 ws) (w .start .0) (p .1 .1 .1 .1 .0)),
           lt-leb 128 (length ws) l,
         ),
-        subst (λ e. T (windowsSound k (spanOf k) e rest)) (sym (last-added 0 ws w)) (p .1 .1 .1 .1 .1 .0),
+        subst (λ e. T (windowsSound k span e rest)) (sym (last-added 0 ws w)) (p .1 .1 .1 .1 .1 .0),
       )
 
   -- all windows
-  pub windows-replay : (ws : List Window) → T (windowsSound k (spanOf k) 0 ws) → length ws ≤ 128
+  pub windows-replay : (ws : List Window) → T (windowsSound k span 0 ws) → length ws ≤ 128
       → Replays size (held k [] [] [] false unread) (map windowᶜ ws) (held k ws [] [] false unread)
   unfolding lastEnd later
   windows-replay ws t l =
-      table-replay size 128 windowᶜ (λ ws. held k ws [] [] false unread) (λ ws rest. T (windowsSound k (spanOf k) (lastEnd 0 ws) rest)) (λ ws w. refl) window-taken
+      table-replay size 128 windowᶜ (λ ws. held k ws [] [] false unread) (λ ws rest. T (windowsSound k span (lastEnd 0 ws) rest)) (λ ws w. refl) window-taken
       [] ws t (omega arith)
 
   -- an instruction
   instruction-taken : (ws : List Window) (is : List Instruction) (i : Instruction) (rest : List Instruction)
-      → T (instructionsSound k (spanOf k) (ready k 0 is) (i ∷ rest)) → length is < 64
-      → (refusal false size (held k ws is [] false unread) (instructionᶜ i) ≡ none) × T (instructionsSound k (spanOf k) (ready k 0 (is ++ (i ∷ []))) rest)
-  unfolding refusal conditions lowest spanIn cellsIn contractOf first isEmpty instructionsSound
+      → T (instructionsSound k span (ready k 0 is) (i ∷ rest)) → length is < 64
+      → (refusal false size (held k ws is [] false unread) (instructionᶜ i) ≡ none) × T (instructionsSound k span (ready k 0 (is ++ (i ∷ []))) rest)
+  unfolding refusal conditions lowest contractOf first isEmpty instructionsSound
   instruction-taken ws is i rest t l =
       let p = apart (inRange (instructionᶜ i))
-      (leb (endOf k i) (spanOf k)
+      (leb (endOf k i) span
       ∷ leb (expiry k i) (i .cease .0)
       ∷ leb (ready k 0 is) (i .issue .0)
-      ∷ instructionsSound k (spanOf k) (endOf k i + k .recovery .0) rest
+      ∷ instructionsSound k span (endOf k i + k .recovery .0) rest
       ∷ [])
       t in (
         rw (
           of-T (inRange (instructionᶜ i)) (p .0),
-          le-ltb size (spanOf k) fit,
-          le-ltb (spanOf k) (endOf k i) (leb→le (endOf k i) (spanOf k) (p .1 .0)),
+          cells-held ws is [],
+          span-held ws is [],
+          le-ltb span (endOf k i) (leb→le (endOf k i) span (p .1 .0)),
           le-ltb (i .cease .0) (expiry k i) (leb→le (expiry k i) (i .cease .0) (p .1 .1 .0)),
           sym (ready-recovered k is),
           le-ltb (i .issue .0) (ready k 0 is) (leb→le (ready k 0 is) (i .issue .0) (p .1 .1 .1 .0)),
           lt-leb 64 (length is) l,
         ),
-        subst (λ e. T (instructionsSound k (spanOf k) e rest)) (sym (ready-added k 0 is i)) (p .1 .1 .1 .1 .0),
+        subst (λ e. T (instructionsSound k span e rest)) (sym (ready-added k 0 is i)) (p .1 .1 .1 .1 .0),
       )
 
   -- all instructions
-  pub instructions-replay : (ws : List Window) (is : List Instruction) → T (instructionsSound k (spanOf k) 0 is) → length is ≤ 64
+  pub instructions-replay : (ws : List Window) (is : List Instruction) → T (instructionsSound k span 0 is) → length is ≤ 64
       → Replays size (held k ws [] [] false unread) (map instructionᶜ is) (held k ws is [] false unread)
   unfolding ready later
   instructions-replay ws is t l =
-      table-replay size 64 instructionᶜ (λ is. held k ws is [] false unread) (λ is rest. T (instructionsSound k (spanOf k) (ready k 0 is) rest))
+      table-replay size 64 instructionᶜ (λ is. held k ws is [] false unread) (λ is rest. T (instructionsSound k span (ready k 0 is) rest))
       (λ is i j. held k (append-nil ws j) (is ++ (i ∷ [])) [] false unread) (instruction-taken ws)
       [] is t (omega arith)
 
   -- a default
   default-taken : (ws : List Window) (is : List Instruction) (ds : List Default) (d : Default) (rest : List Default)
-      → T (all (defaultSound k (spanOf k) ws) (d ∷ rest)) → length ds < 128
-      → (refusal false size (held k ws is ds false unread) (defaultᶜ d) ≡ none) × T (all (defaultSound k (spanOf k) ws) rest)
-  unfolding refusal conditions lowest spanIn cellsIn contractOf first isEmpty all
+      → T (all (defaultSound k span ws) (d ∷ rest)) → length ds < 128
+      → (refusal false size (held k ws is ds false unread) (defaultᶜ d) ≡ none) × T (all (defaultSound k span ws) rest)
+  unfolding refusal conditions lowest contractOf first isEmpty all
   default-taken ws is ds d rest t l =
-      let q = T-and (defaultSound k (spanOf k) ws d) (all (defaultSound k (spanOf k) ws) rest) t in
+      let q = T-and (defaultSound k span ws d) (all (defaultSound k span ws) rest) t in
       let windowed : Bool = any (λ w. within w (d .minute .0)) ws in
-      let p = apart (inRange (defaultᶜ d)) (ltb (d .minute .0) (spanOf k) ∷ windowed ∷ []) (q .0) in (
+      let p = apart (inRange (defaultᶜ d)) (ltb (d .minute .0) span ∷ windowed ∷ []) (q .0) in (
         rw (
           of-T (inRange (defaultᶜ d)) (p .0),
-          le-ltb size (spanOf k) fit,
-          lt-leb (spanOf k) (d .minute .0) (ltb→lt (d .minute .0) (spanOf k) (p .1 .0)),
+          cells-held ws is ds,
+          span-held ws is ds,
+          lt-leb span (d .minute .0) (ltb→lt (d .minute .0) span (p .1 .0)),
           of-T windowed (p .1 .1 .0),
           lt-leb 128 (length ds) l,
         ),
@@ -210,10 +234,10 @@ module _ (size : ℕ) (k : Contract) (fit : spanOf k ≤ size) where
       )
 
   -- all defaults
-  pub defaults-replay : (ws : List Window) (is : List Instruction) (ds : List Default) → T (all (defaultSound k (spanOf k) ws) ds) → length ds ≤ 128
+  pub defaults-replay : (ws : List Window) (is : List Instruction) (ds : List Default) → T (all (defaultSound k span ws) ds) → length ds ≤ 128
       → Replays size (held k ws is [] false unread) (map defaultᶜ ds) (held k ws is ds false unread)
   unfolding later
   defaults-replay ws is ds t l =
-      table-replay size 128 defaultᶜ (λ ds. held k ws is ds false unread) (λ ds rest. T (all (defaultSound k (spanOf k) ws) rest))
+      table-replay size 128 defaultᶜ (λ ds. held k ws is ds false unread) (λ ds rest. T (all (defaultSound k span ws) rest))
       (λ ds d j. held k (append-nil ws j) (append-nil is j) (ds ++ (d ∷ [])) false unread) (default-taken ws is)
       [] ds t (omega arith)

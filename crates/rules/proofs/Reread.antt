@@ -7,15 +7,15 @@ use Prim.Native.Nat.{ℕ, zero, suc, _+_, _-_, _^_, _≤_, _<_}
 use native.Mathlib.Nat.{le-refl}
 use native.Mathlib.Omega.{arith}
 use lib.IntN.{ℤ, pos, negsuc, natAbs}
-use lib.Dec.{T, leb, ltb, leb→le, le→leb}
+use lib.Dec.{T, eqb, leb, ltb, leb→le, le→leb}
 use lib.ListN.{length, drop, getD, length-append}
 use lib.Seq.{getD-append-seam, drop-append-add}
 use lib.Signed.{leZ}
 use borrow.Author.Tests.{lt-ltb, le-ltb, le-leb, lt-leb}
-use Rattle.energy.specs.Lists.{all, concatMap}
+use Rattle.energy.specs.Lists.{all, concatMap, isSome}
 use Rattle.energy.proofs.Tests.{T-and, and-T}
 use Rattle.commands.specs.Input.{inRange, isReading, from-to, from-toℤ, mostMinute}
-use Rattle.rules.specs.File.{table, widthsOf, total, signedOf, unsignedOf, operands, commandOf, readBody, readAt, byteOf, operandsOf, writeOperands, widthsFor, write, readOn, commandsFrom, commandsIn}
+use Rattle.rules.specs.File.{table, widthsOf, total, signedOf, unsignedOf, operands, commandOf, readAs, readBody, readAt, byteOf, operandsOf, writeOperands, widthsFor, write, readOn, commandsFrom, commandsIn}
 use Rattle.rules.specs.Reread.{fit, signFits, sayable, Reread}
 use Rattle.commands.specs.declared.entries.Command.{Command}
 use Rattle.commands.specs.declared.entries.Command.the-variants.{Contract as contractᶜ, Window as windowᶜ, Instruction as instructionᶜ, Default as defaultᶜ, Reading as readingᶜ, Close as closeᶜ}
@@ -41,7 +41,7 @@ kw-back : (z : ℤ) → T (leZ (pos 0) z) → pos (natAbs z) ≡ z
 kw-back (pos n) t = refl
 kw-back (negsuc n) t = absurd t
 
-command-back : (c : Command) → T (signFits c) → commandOf (byteOf c) (operandsOf c) ≡ c
+command-back : (c : Command) → T (signFits c) → commandOf (byteOf c) (operandsOf c) ≡ some c
 unfolding commandOf
 command-back (contractᶜ k) t = rw (kw-back (k .contracted .0) t)
 command-back (windowᶜ w) t = refl
@@ -109,16 +109,17 @@ in-table closeᶜ = refl
 
 -- a byte of the table with operands that fit, after `pre` and before `rest`
 read-layout : (pre rest : List ℕ) (b : ℕ) (ws v : List ℕ) → widthsOf b table ≡ some ws → T (fit ws v)
-    → readAt (pre ++ b ∷ (writeOperands ws v ++ rest)) (length pre) ≡ Got (commandOf b v) (length pre + (1 + total ws))
+    → readAt (pre ++ b ∷ (writeOperands ws v ++ rest)) (length pre) ≡ readAs (commandOf b v) (length pre + (1 + total ws))
 unfolding readAt
 read-layout pre rest b ws v e h =
     let s : List ℕ = pre ++ b ∷ (writeOperands ws v ++ rest) in
     let n : length s ≡ length pre + (1 + (total ws + length rest)) =
     simp length-append (omega (arith, length-operands ws v h)) in
     let byte : getD s (length pre) 0 ≡ b = getD-append-seam pre b (writeOperands ws v ++ rest) 0 in
-    let ops : operands ws (drop (length pre + 1) s) ≡ v = ap (operands ws) (drop-append-add pre (b ∷ (writeOperands ws v ++ rest)) 1) ∙ operands-back ws v rest h in
+    let ops : operands ws (drop (length pre + 1) s) ≡ v =
+    ap (operands ws) (drop-append-add pre (b ∷ (writeOperands ws v ++ rest)) 1) ∙ operands-back ws v rest h in
     rw (lt-leb (length s) (length pre) (omega arith), byte, e, le-ltb (length s - length pre) (1 + total ws) (omega arith), ops)
-    (ap (λ x. Got (commandOf x v) (length pre + (1 + total ws))) byte)
+    (ap (λ x. readAs (commandOf x v) (length pre + (1 + total ws))) byte)
 
 module _ (c : Command) (t : T (sayable c)) where
   says : T (signFits c) × T (fit (widthsFor c) (operandsOf c))
@@ -128,7 +129,8 @@ module _ (c : Command) (t : T (sayable c)) where
   read-one : (before after : List ℕ) → readAt (before ++ write c ++ after) (length before) ≡ Got c (length before + length (write c))
   unfolding write
   read-one before after =
-      rw (append-assoc before (write c) after, read-layout before after (byteOf c) (widthsFor c) (operandsOf c) (in-table c) (says .1), command-back c (says .0), write-long c)
+      let laid = read-layout before after (byteOf c) (widthsFor c) (operandsOf c) (in-table c) (says .1) in
+      rw (append-assoc before (write c) after, laid, command-back c (says .0), write-long c)
 
 -- ---- a whole file
 
@@ -166,9 +168,10 @@ forward : (s : List ℕ) (at : ℕ) → at < after at (readAt s at)
 unfolding readAt
 forward s at = go (leb (length s) at) (widthsOf (getD s at 0) table)
   where
-    some-read : (ws : List ℕ) (c : Command) (b : Bool) → at < after at (cond b (Refused 2) (Got c (at + (1 + total ws))))
-    some-read ws c true = omega arith
-    some-read ws c false = omega arith
+    some-read : (ws : List ℕ) (o : Option Command) (b : Bool) → at < after at (cond b (Refused 2) (readAs o (at + (1 + total ws))))
+    some-read ws o true = omega arith
+    some-read ws none false = omega arith
+    some-read ws (some c) false = omega arith
 
     go : (b : Bool) (o : Option (List ℕ)) → at < after at (cond b End (readBody o s at))
     go true o = omega arith
@@ -188,10 +191,24 @@ same-fuel (suc f) (suc h) s at p q = go (readAt s at) (forward s at) (λ next a 
     go (Refused n) lt rec = refl
     go End lt rec = refl
 
+-- ---- the table's bytes
+
+known : (b : ℕ) (v : List ℕ) → isSome (commandOf b v) ≡ isSome (widthsOf b table)
+unfolding isSome commandOf widthsOf table
+known b v =
+    both (eqb 0x43 b) _ _ _ _ (both (eqb 0x57 b) _ _ _ _ (both (eqb 0x49 b) _ _ _ _ (both (eqb 0x44 b) _ _ _ _ (both (eqb 0x4D b) _ _ _ _ (both (eqb 0x5A b) _ _ none none refl)))))
+  where
+    -- one byte more
+    both : (t : Bool) (c : Command) (ws : List ℕ) (o : Option Command) (p : Option (List ℕ)) → isSome o ≡ isSome p
+        → isSome (cond t (some c) o) ≡ isSome (cond t (some ws) p)
+    both true c ws o p e = refl
+    both false c ws o p e = e
+
 pub reread : Reread
 unfolding commandsIn
 reread =
     record {
+      known = known;
       size = write-long;
       command = λ before after c t. read-one c t before after;
       file = λ cs t. read-all (length (concatMap write cs)) [] cs t (le-refl (length (concatMap write cs)));

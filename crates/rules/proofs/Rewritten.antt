@@ -26,9 +26,9 @@ use Rattle.commands.specs.declared.entries.Command.the-variants.{Close as close
 use Rattle.commands.proofs.Terms.{Terms}
 use Rattle.rules.proofs.Taken.{later-none, grown, allowed}
 use Rattle.rules.proofs.Reached.{Parts, parts-of, terms-of}
-use Rattle.rules.proofs.Span.{span-cells, cells-most}
+use Rattle.rules.proofs.Span.{span-cells, cells-most, span-same, cells-same}
 use Rattle.rules.proofs.Reread.{reread}
-use Rattle.rules.proofs.Replay.{Accepted, all-taken, ledger-grown, Replays, replay-none, replay-cons, replay-append, held, unread, contract-replay, windows-replay, instructions-replay, defaults-replay}
+use Rattle.rules.proofs.Replay.{Accepted, all-taken, ledger-grown, Replays, replay-none, replay-cons, replay-append, held, unread, agreedOn, contract-replay, windows-replay, instructions-replay, defaults-replay}
 
 -- ---- readings before a minute
 
@@ -96,7 +96,8 @@ module _ {size : ℕ} {g : Ledger} (a : Agreed size g) where
           (replay-none refl)
 
   run-replay : (n m b : ℕ) → m + n ≡ b
-      → Replays size (tablesOf g false (before (g .reading) m)) (concatMap (λ m. readingAt (g .reading m) m) (run m n)) (tablesOf g false (before (g .reading) b))
+      → Replays size (tablesOf g false (before (g .reading) m)) (concatMap (λ m. readingAt (g .reading m) m) (run m n))
+      (tablesOf g false (before (g .reading) b))
   unfolding concatMap run
   run-replay zero m b e = let q : m ≡ b = omega arith in replay-none (ap (λ x. tablesOf g false (before (g .reading) x)) q)
   run-replay (suc n) m b e = replay-append (minute-replay m) (run-replay n (suc m) b (omega arith))
@@ -139,16 +140,19 @@ module _ {size : ℕ} {g : Ledger} (a : Agreed size g) where
 
   -- all that it is written as
   agreed-replay : Replays size (ledgerOf []) (written g) g
-  unfolding written spanIn cellsIn contractOf first
+  unfolding written spanIn contractOf first
   agreed-replay =
       let k : Contract = contractOf g in
       let p : Parts k (spanIn g) (g .windows) (g .instructions) (g .defaults) = parts-of a in
-      let contract = contract-replay size k (a .cells) (p .operands) (p .ramps) in
-      let windows = windows-replay size k (a .cells) (g .windows) (p .windows) (a .windows) in
-      let instructions = instructions-replay size k (a .cells) (g .windows) (g .instructions) (p .instructions) (a .instructions) in
-      let defaults = defaults-replay size k (a .cells) (g .windows) (g .instructions) (g .defaults) (p .defaults) (a .defaults) in
+      let spans : spanIn (agreedOn k) ≡ spanIn g = span-same (agreedOn k) g (sym (a .contract)) in
+      let cells : cellsIn (agreedOn k) ≤ size = omega (arith, cells-same (agreedOn k) g (sym (a .contract)), a .cells) in
+      let contract = contract-replay size k (spanIn g) spans cells (p .operands) (p .ramps) in
+      let windows = windows-replay size k (spanIn g) spans cells (g .windows) (p .windows) (a .windows) in
+      let instructions = instructions-replay size k (spanIn g) spans cells (g .windows) (g .instructions) (p .instructions) (a .instructions) in
+      let defaults = defaults-replay size k (spanIn g) spans cells (g .windows) (g .instructions) (g .defaults) (p .defaults) (a .defaults) in
       subst (λ h. Replays size (ledgerOf []) (written h) h) whole
-      (replay-append (replay-append (replay-append (replay-append (replay-append contract windows) instructions) defaults) readings-replay) (close-replay (g .closed)))
+      (replay-append (replay-append (replay-append (replay-append (replay-append contract windows) instructions) defaults) readings-replay)
+      (close-replay (g .closed)))
 
 -- ---- an untouched ledger
 
@@ -187,7 +191,7 @@ pub accepted-sayable : (size : ℕ) (g : Ledger) (cs : List Command) → Accepte
 unfolding Accepted all
 accepted-sayable size g [] h = tt
 accepted-sayable size g (c ∷ cs) h =
-    and-T (sayable c) (all sayable cs) (reread .ranged c (allowed size g c (h .0) .operands)) (accepted-sayable size (grown g c) cs (h .1))
+    and-T (sayable c) (all sayable cs) (reread .ranged c (allowed size g c (h .0) .input .operands)) (accepted-sayable size (grown g c) cs (h .1))
 
 -- the file that a ledger is written as has its commands
 pub file-commands : (size : ℕ) (g : Ledger) → Reached size g → commandsIn (fileOf g) ≡ written g

@@ -31,6 +31,15 @@ pub cells-none : (g : Ledger) → g .contracts ≡ [] → cellsIn g ≡ 0
 unfolding cellsIn contractOf first
 cells-none g e = ap (λ ks. spanOf (first noContract ks)) e
 
+-- the contract alone decides
+pub span-same : (g h : Ledger) → g .contracts ≡ h .contracts → spanIn g ≡ spanIn h
+unfolding spanIn contractOf
+span-same g h e = ap (λ ks. spanOf (first noContract ks)) e
+
+pub cells-same : (g h : Ledger) → g .contracts ≡ h .contracts → cellsIn g ≡ cellsIn h
+unfolding cellsIn contractOf
+cells-same g h e = ap (λ ks. spanOf (first noContract ks)) e
+
 -- ---- one command more
 
 module _ (g : Ledger) (c : Command) (e : contractIn c ≡ []) where
@@ -39,12 +48,10 @@ module _ (g : Ledger) (c : Command) (e : contractIn c ≡ []) where
 
   -- one that is no contract leaves them
   pub span-kept : spanIn (grown g c) ≡ spanIn g
-  unfolding spanIn contractOf
-  span-kept = ap (λ ks. spanOf (first noContract ks)) same
+  span-kept = span-same (grown g c) g same
 
   pub cells-kept : cellsIn (grown g c) ≡ cellsIn g
-  unfolding cellsIn contractOf
-  cells-kept = ap (λ ks. spanOf (first noContract ks)) same
+  cells-kept = cells-same (grown g c) g same
 
 -- the first contract brings its own
 pub cells-new : (g : Ledger) (k : Contract) → g .contracts ≡ [] → cellsIn (grown g (contractᶜ k)) ≡ spanOf k

@@ -56,7 +56,8 @@ module _ (m n : ℕ) (e : periodOf m ≡ periodOf n) where
 
 -- ---- minutes alike have the same rate
 
-anchored : (g : Ledger) (i : Instruction) (s : Stage) (m n : ℕ) → inLive g m ≡ inLive g n → inLive g (anchor (contractOf g) i s m) ≡ inLive g (anchor (contractOf g) i s n)
+anchored : (g : Ledger) (i : Instruction) (s : Stage) (m n : ℕ) → inLive g m ≡ inLive g n
+    → inLive g (anchor (contractOf g) i s m) ≡ inLive g (anchor (contractOf g) i s n)
 anchored g i Up m n e = refl
 anchored g i Steady m n e = e
 anchored g i Down m n e = refl

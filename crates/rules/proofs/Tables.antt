@@ -47,7 +47,8 @@ windows-cons k span e w ws t =
     let q = T-and (chain (inRange (windowᶜ w)) (windowTests k span e w)) (windowsSound k span (w .end .0) ws) t in
     let p = apart (inRange (windowᶜ w)) (windowTests k span e w) (q .0) in
     let r = apart (from-to 0 mostMinute (w .start .0)) (from-to 0 mostMinute (w .end .0) ∷ from-to 0 1 (w .verdict) ∷ []) (p .0) in
-    let wrong = off-or (leb (w .end .0) (w .start .0) || not (eqb (w .start .0 % 30) 0)) (not (eqb (w .end .0 % 30) 0)) (not-on (badWindow (windowᶜ w)) (p .1 .0)) in
+    let wrong =
+    off-or (leb (w .end .0) (w .start .0) || not (eqb (w .start .0 % 30) 0)) (not (eqb (w .end .0 % 30) 0)) (not-on (badWindow (windowᶜ w)) (p .1 .0)) in
     let wrong′ = off-or (leb (w .end .0) (w .start .0)) (not (eqb (w .start .0 % 30) 0)) (wrong .0) in (
       record {
         start = eqb→eq (w .start .0 % 30) 0 (off-not (eqb (w .start .0 % 30) 0) (wrong′ .1));

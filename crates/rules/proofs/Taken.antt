@@ -7,9 +7,9 @@ use Prim.Native.Nat.{ℕ}
 use lib.Dec.{T, ltb}
 use Rattle.energy.specs.Lists.{any, concatMap, isEmpty, later}
 use Rattle.energy.proofs.Tests.{off-not}
-use Rattle.commands.specs.Input.{Condition, lowest, inRange, rampTooLong, badWindow}
+use Rattle.commands.specs.Input.{Condition, lowest, inRange, rampTooLong, badWindow, inputConditions}
 use Rattle.rules.specs.Ledger.{Ledger, ledgerOf, contractIn, windowIn, instructionIn, defaultIn, isClose, isContract, readingIn, readingOf}
-use Rattle.rules.specs.Refusal.{conditions, refusal, cellsFor, beyondSpan, rejectedCommitted, windowOverlaps, ceaseEarly, issueEarly, outsideWindows, hasReading, tableFull}
+use Rattle.rules.specs.Refusal.{bookConditions, kindConditions, conditions, refusal, cellsFor, beyondSpan, rejectedCommitted, windowOverlaps, ceaseEarly, issueEarly, outsideWindows, hasReading, tableFull}
 use Rattle.commands.specs.declared.entries.Command.{Command}
 
 -- ---- the ledger of one command more
@@ -82,15 +82,28 @@ clear (c ∷ cs) e = go (λ h. clear cs h) (c .holds) refl
     go rest true h = absurd (Option·none-ne-some (c .number) (sym e ∙ ap (λ b. elim b as (λ x. Option ℕ) [ true ↦ some (c .number) | false ↦ lowest cs ]) h))
     go rest false h = (h, rest (ap (λ b. elim b as (λ x. Option ℕ) [ true ↦ some (c .number) | false ↦ lowest cs ]) (sym h) ∙ e))
 
--- each condition, by name, of a command that is taken
-pub record Allowed (size : ℕ) (g : Ledger) (c : Command) : Type 0 where
+-- of two lists none holds: of each none does
+pub clear-apart : (xs ys : List Condition) → Clear (xs ++ ys) → Clear xs × Clear ys
+clear-apart [] ys h = (tt, h)
+clear-apart (x ∷ xs) ys h = let r = clear-apart xs ys (h .1) in ((h .0, r .0), r .1)
+
+-- ---- each condition, by name, of a command that is taken
+
+-- from its input
+pub record InputAllowed (c : Command) : Type 0 where
   pub operands : T (inRange c)
   pub ramps : rampTooLong c ≡ false
   pub shape : badWindow c ≡ false
+
+-- from the book
+pub record BookAllowed (size : ℕ) (g : Ledger) (c : Command) : Type 0 where
   pub notClosed : g .closed ≡ false
   pub agreed : (isEmpty (g .contracts) && not (isContract c)) ≡ false
   pub only : (not (isEmpty (g .contracts)) && isContract c) ≡ false
   pub memory : ltb size (cellsFor g c) ≡ false
+
+-- from its kind
+pub record KindAllowed (g : Ledger) (c : Command) : Type 0 where
   pub inside : beyondSpan g c ≡ false
   pub verdict : rejectedCommitted g c ≡ false
   pub after : windowOverlaps g c ≡ false
@@ -100,24 +113,37 @@ pub record Allowed (size : ℕ) (g : Ledger) (c : Command) : Type 0 where
   pub unread : hasReading g c ≡ false
   pub room : tableFull g c ≡ false
 
+pub record Allowed (size : ℕ) (g : Ledger) (c : Command) : Type 0 where
+  pub input : InputAllowed c
+  pub book : BookAllowed size g c
+  pub kind : KindAllowed g c
+
+input-allowed : (c : Command) → Clear (inputConditions c) → InputAllowed c
+input-allowed c h = record { operands = off-not (inRange c) (h .0); ramps = h .1 .0; shape = h .1 .1 .0 }
+
+book-allowed : (unsound : Bool) (size : ℕ) (g : Ledger) (c : Command) → Clear (bookConditions unsound size g c) → BookAllowed size g c
+book-allowed unsound size g c h =
+    let (sound, (notClosed, (agreed, (only, (memory, end))))) = h in
+    record { notClosed = notClosed; agreed = agreed; only = only; memory = memory }
+
+kind-allowed : (g : Ledger) (c : Command) → Clear (kindConditions g c) → KindAllowed g c
+kind-allowed g c h =
+    let (inside, (verdict, (after, (ceased, (recovered, (windowed, (unread, (room, end)))))))) = h in
+    record {
+      inside = inside;
+      verdict = verdict;
+      after = after;
+      ceased = ceased;
+      recovered = recovered;
+      windowed = windowed;
+      unread = unread;
+      room = room;
+    }
+
 pub allowed : (size : ℕ) (g : Ledger) (c : Command) → refusal false size g c ≡ none → Allowed size g c
 unfolding refusal conditions
 allowed size g c e =
-    let h = clear (conditions false size g c) e in
-    record {
-      operands = off-not (inRange c) (h .0);
-      ramps = h .1 .0;
-      shape = h .1 .1 .0;
-      notClosed = h .1 .1 .1 .1 .0;
-      agreed = h .1 .1 .1 .1 .1 .0;
-      only = h .1 .1 .1 .1 .1 .1 .0;
-      memory = h .1 .1 .1 .1 .1 .1 .1 .0;
-      inside = h .1 .1 .1 .1 .1 .1 .1 .1 .0;
-      verdict = h .1 .1 .1 .1 .1 .1 .1 .1 .1 .0;
-      after = h .1 .1 .1 .1 .1 .1 .1 .1 .1 .1 .0;
-      ceased = h .1 .1 .1 .1 .1 .1 .1 .1 .1 .1 .1 .0;
-      recovered = h .1 .1 .1 .1 .1 .1 .1 .1 .1 .1 .1 .1 .0;
-      windowed = h .1 .1 .1 .1 .1 .1 .1 .1 .1 .1 .1 .1 .1 .0;
-      unread = h .1 .1 .1 .1 .1 .1 .1 .1 .1 .1 .1 .1 .1 .1 .0;
-      room = h .1 .1 .1 .1 .1 .1 .1 .1 .1 .1 .1 .1 .1 .1 .1 .0;
-    }
+    let book : List Condition = bookConditions false size g c in
+    let first = clear-apart (inputConditions c) (book ++ kindConditions g c) (clear (conditions false size g c) e) in
+    let rest = clear-apart book (kindConditions g c) (first .1) in
+    record { input = input-allowed c (first .0); book = book-allowed false size g c (rest .0); kind = kind-allowed g c (rest .1) }

@@ -1,13 +1,19 @@
--- What the examples are made of: commands by their operands, the guide's Appendices 2 and 3, and a unit file with one command of each kind.
+-- What the examples are made of: commands by their operands, the guide's Appendices 2 and 3, a unit file with one command of each kind, and what is
+-- asked of a ledger.
 use mathlib.Core.List.{List, [], _∷_, _++_, map}
 use Prim.Native.Nat.{ℕ, zero, suc, _+_, _*_}
 use lib.IntN.{ℤ, pos, negℤ}
 use lib.ListN.{set}
 use Rattle.rules.specs.Ledger.{Ledger, ledgerOf}
 use Rattle.rules.specs.Refusal.{taken}
-use Rattle.rules.specs.File.{commandOf}
+use Rattle.rules.specs.Statement.{lines, windowsPaid}
+use Rattle.rules.specs.File.{contractFrom}
 use Rattle.commands.specs.declared.entries.Command.{Command}
-use Rattle.commands.specs.declared.entries.Command.the-variants.{Window as windowᶜ, Instruction as instructionᶜ, Default as defaultᶜ, Reading as readingᶜ, Close as closeᶜ}
+use Rattle.commands.specs.declared.entries.Command.the-variants.{Contract as contractᶜ, Window as windowᶜ, Instruction as instructionᶜ, Default as defaultᶜ, Reading as readingᶜ, Close as closeᶜ}
+use Rattle.rules.specs.declared.statement.Stage.{Stage}
+use Rattle.rules.specs.declared.statement.Rate.{Rate}
+use Rattle.rules.specs.declared.statement.Line.{Line}
+use Rattle.rules.specs.declared.statement.Available.{Available}
 
 -- −n
 abbrev pub minus : ℕ → ℤ
@@ -17,7 +23,7 @@ minus n = negℤ (pos n)
 
 -- a contract, by its operands in the file's order
 abbrev pub agree : List ℕ → Command
-agree v = commandOf 0x43 v
+agree v = contractᶜ (contractFrom v)
 
 -- the operands of Appendix 2's contract. `set guide recovery 60` are the same but for a recovery of 60
 abbrev pub guide : List ℕ
@@ -173,3 +179,39 @@ sampleBytes =
     ++ (0x44 ∷ 0x00 ∷ 0x1F ∷ 0x04 ∷ 0x01 ∷ [])
     ++ (0x4D ∷ 0x00 ∷ 0x07 ∷ 0xFF ∷ 0xFF ∷ 0xFF ∷ 0xFF ∷ [])
     ++ (0x5A ∷ [])
+
+-- ---- what is asked of a ledger
+
+-- what is taken of a contract with these operands, but over two days, and of commands after it, with meter memory of two days
+abbrev pub twoDays : List ℕ → List Command → Ledger
+twoDays v cs = ledgerOf (taken 2880 (agree (set v days 2) ∷ cs))
+
+-- a line: instruction, period, stage, rate; kWh expected, delivered and capped; pence
+abbrev pub row : ℕ → ℕ → Stage → Rate → ℤ → ℤ → ℤ → ℤ → Line
+row i p s r x d c w =
+    record {
+      instruction = i;
+      period = p;
+      stage = s;
+      rate = r;
+      expected = record { 0 = x };
+      delivered = record { 0 = d };
+      capped = record { 0 = c };
+      pence = record { 0 = w };
+    }
+
+-- a window's paid periods and pence
+abbrev pub pays : ℕ → ℕ → Available
+pays n p = record { periods = n; pence = record { 0 = pos p } }
+
+-- what is paid for the windows of a list of commands
+abbrev pub paying : List Command → List Available
+paying cs = windowsPaid (ledger cs)
+
+-- period, stage and rate of each line
+abbrev pub rated : List Command → List (ℕ × Stage × Rate)
+rated cs = map (λ (l : Line). (l .period, l .stage, l .rate)) (lines (ledger cs))
+
+-- the kWh that each line delivers
+abbrev pub delivering : Ledger → List ℤ
+delivering g = map (λ (l : Line). l .delivered .0) (lines g)

@@ -14,32 +14,11 @@ use Rattle.rules.specs.Refusal.{refusal, taken}
 use Rattle.rules.specs.Segment.{live}
 use Rattle.rules.specs.Statement.{lines, statementOf, windowsPaid, penalty, periodPence, nothing, settleRefusal}
 use Rattle.rules.specs.File.{table, whole, bytesOf, wordFrom}
-use Rattle.rules.specs.Examples.{minus, agree, guide, service, recovery, rampup, rampdown, flexible, accepted, rejected, offer, call, fault, periods, faults, generated, opening, month, appendix2, appendix3, ledger}
+use Rattle.rules.specs.Examples.{minus, agree, guide, service, recovery, rampup, rampdown, flexible, accepted, rejected, offer, call, fault, periods, faults, generated, opening, month, appendix2, appendix3, ledger, row, pays}
 use Rattle.commands.specs.declared.entries.Command.{Command}
-use Rattle.rules.specs.declared.statement.Stage.{Stage}
 use Rattle.rules.specs.declared.statement.Stage.the-variants.{Up, Steady, Down}
-use Rattle.rules.specs.declared.statement.Rate.{Rate}
 use Rattle.rules.specs.declared.statement.Rate.the-variants.{Utilisation, Optional}
 use Rattle.rules.specs.declared.statement.Line.{Line}
-use Rattle.rules.specs.declared.statement.Available.{Available}
-
--- a line: instruction, period, stage, rate; kWh expected, delivered and capped; pence
-abbrev pub row : ℕ → ℕ → Stage → Rate → ℤ → ℤ → ℤ → ℤ → Line
-row i p s r x d c w =
-    record {
-      instruction = i;
-      period = p;
-      stage = s;
-      rate = r;
-      expected = record { 0 = x };
-      delivered = record { 0 = d };
-      capped = record { 0 = c };
-      pence = record { 0 = w };
-    }
-
--- a window's paid periods and pence
-abbrev pub pays : ℕ → ℕ → Available
-pays n p = record { periods = n; pence = record { 0 = pos p } }
 
 -- Appendix 2's contract with another recovery, two windows after its instruction, and the instruction
 abbrev pub afterwards : ℕ → List Command

@@ -1,6 +1,6 @@
 -- "The unit file": the table of command bytes, operand widths and whole lengths, what reading at a position gives, what a command and a book are
--- written as, and the commands that a file's bytes fix.
-use mathlib.Core.Bool.{cond}
+-- written as, what writing meets, and the commands that a file's bytes fix.
+use mathlib.Core.Bool.{Bool, cond}
 use mathlib.Core.List.{List, [], _∷_, _++_, map}
 use mathlib.Core.Option.{Option, none, some}
 use Prim.Native.Nat.{ℕ, zero, suc, _+_, _-_, _*_, _/_, _%_, _^_}
@@ -8,7 +8,13 @@ use lib.IntN.{ℤ, pos, negsuc, natAbs}
 use lib.Dec.{eqb, leb, ltb}
 use lib.ListN.{length, getD, take, drop}
 use Rattle.energy.specs.Lists.{concatMap, between}
-use Rattle.rules.specs.Ledger.{Ledger, spanIn}
+use Rattle.rules.specs.Ledger.{Ledger, spanIn, cellsIn}
+use Rattle.commands.specs.Input.{Condition, _when_}
+use Rattle.commands.specs.declared.contract.Contract.{Contract}
+use Rattle.commands.specs.declared.entries.Window.{Window}
+use Rattle.commands.specs.declared.entries.Instruction.{Instruction}
+use Rattle.commands.specs.declared.entries.Default.{Default}
+use Rattle.commands.specs.declared.entries.Reading.{Reading}
 use Rattle.commands.specs.declared.entries.Command.{Command}
 use Rattle.commands.specs.declared.entries.Command.the-variants.{Contract as contractᶜ, Window as windowᶜ, Instruction as instructionᶜ, Default as defaultᶜ, Reading as readingᶜ, Close as closeᶜ}
 use Rattle.rules.specs.declared.file.Read.{Read}
@@ -72,12 +78,12 @@ unfoldable pub operands : List ℕ → List ℕ → List ℕ
 operands [] s = []
 operands (w ∷ ws) s = wordFrom 0 (take w s) ∷ operands ws (drop w s)
 
--- the command of a byte of the table, from its operands
-unfoldable pub commandOf : ℕ → List ℕ → Command
-commandOf b v =
-    cond (eqb b 0x43)
-    (contractᶜ
-    (record {
+-- ---- each entry from its operands, in the table's order
+
+-- a contract
+abbrev pub contractFrom : List ℕ → Contract
+contractFrom v =
+    record {
       days = getD v 0 0;
       kind = getD v 1 0;
       service = getD v 2 0;
@@ -89,16 +95,40 @@ commandOf b v =
       availability = getD v 8 0;
       utilisation = getD v 9 0;
       optional = getD v 10 0;
-    }))
-    (cond (eqb b 0x57)
-    (windowᶜ (record { start = record { 0 = getD v 0 0 }; end = record { 0 = getD v 1 0 }; verdict = getD v 2 0 }))
-    (cond (eqb b 0x49)
-    (instructionᶜ (record { issue = record { 0 = getD v 0 0 }; cease = record { 0 = getD v 1 0 } }))
-    (cond (eqb b 0x44)
-    (defaultᶜ (record { minute = record { 0 = getD v 0 0 }; kind = getD v 1 0; reach = getD v 2 0 }))
-    (cond (eqb b 0x4D)
-    (readingᶜ (record { minute = record { 0 = getD v 0 0 }; kw = record { 0 = signedOf (getD v 1 0) } }))
-    closeᶜ))))
+    }
+
+-- a window
+abbrev pub windowFrom : List ℕ → Window
+windowFrom v = record { start = record { 0 = getD v 0 0 }; end = record { 0 = getD v 1 0 }; verdict = getD v 2 0 }
+
+-- an instruction
+abbrev pub instructionFrom : List ℕ → Instruction
+instructionFrom v = record { issue = record { 0 = getD v 0 0 }; cease = record { 0 = getD v 1 0 } }
+
+-- a default
+abbrev pub defaultFrom : List ℕ → Default
+defaultFrom v = record { minute = record { 0 = getD v 0 0 }; kind = getD v 1 0; reach = getD v 2 0 }
+
+-- a reading
+abbrev pub readingFrom : List ℕ → Reading
+readingFrom v = record { minute = record { 0 = getD v 0 0 }; kw = record { 0 = signedOf (getD v 1 0) } }
+
+-- the command of a byte of the table, from its operands; none for a byte that the table lacks
+unfoldable pub commandOf : ℕ → List ℕ → Option Command
+commandOf b v =
+    cond (eqb 0x43 b) (some (contractᶜ (contractFrom v)))
+    (cond (eqb 0x57 b) (some (windowᶜ (windowFrom v)))
+    (cond (eqb 0x49 b) (some (instructionᶜ (instructionFrom v)))
+    (cond (eqb 0x44 b) (some (defaultᶜ (defaultFrom v)))
+    (cond (eqb 0x4D b) (some (readingᶜ (readingFrom v)))
+    (cond (eqb 0x5A b) (some closeᶜ) none)))))
+
+-- ---- reading
+
+-- a command with the position after it; 1 where there is none
+abbrev pub readAs : Option Command → ℕ → Read
+readAs none next = Refused 1
+readAs (some c) next = Got c next
 
 -- what stands at a position before the end, by the operand widths of its command byte: 1 where it has none, 2 where bytes are missing
 abbrev pub readBody : Option (List ℕ) → List ℕ → ℕ → Read
@@ -106,7 +136,7 @@ readBody none s at = Refused 1
 readBody (some ws) s at =
     let r : Layout = row (getD s at 0) ws in
     cond (ltb (length s - at) (whole r)) (Refused 2)
-    (Got (commandOf (r .byte) (operands (r .widths) (drop (at + 1) s))) (at + whole r))
+    (readAs (commandOf (r .byte) (operands (r .widths) (drop (at + 1) s))) (at + whole r))
 
 -- what a reader finds at a position: a command and the position after it, 1, 2, or the end
 unfoldable pub readAt : List ℕ → ℕ → Read
@@ -170,6 +200,11 @@ written g =
 -- the bytes that a book is written as
 unfoldable pub fileOf : Ledger → List ℕ
 fileOf g = concatMap write (written g)
+
+-- what writing meets. unsound: no list of commands leaves the book; size and room: the lengths of meter memory and of the lent bytes
+unfoldable pub writeConditions : Bool → ℕ → ℕ → Ledger → List Condition
+writeConditions unsound size room g =
+    (11 when unsound) ∷ (15 when ltb size (cellsIn g)) ∷ (26 when ltb room (length (fileOf g))) ∷ []
 
 -- ---- the commands of a file
 

@@ -81,11 +81,19 @@ Rising·theorem = (size : ℕ) (cs : List Command) → Rising (ledgerOf (taken s
 
 -- ---- how many
 
+-- the most lines of a statement
+abbrev pub mostLines : ℕ
+mostLines = 1679
+
+-- the most lines of a statement over 11 days, which the lister lists
+abbrev pub mostListed : ℕ
+mostListed = 719
+
 -- a line starts with a stage or, inside one, with a period, and minute 0 is never active. In all there is one line less than the 1,680 allowed for
 pub record LineBound (g : Ledger) : Type 0 where
   pub most : length (lines g) ≤ 48 * contractOf g .days - 1 + 3 * length (g .instructions)
-  pub elevenDays : contractOf g .days ≤ 11 → length (lines g) ≤ 719
-  pub inAll : length (lines g) ≤ 1679
+  pub elevenDays : contractOf g .days ≤ 11 → length (lines g) ≤ mostListed
+  pub inAll : length (lines g) ≤ mostLines
 
 -- so it is of what commands leave
 abbrev pub LineBound·theorem : Type 0
@@ -100,4 +108,4 @@ pub record Busy (days most : ℕ) : Type 0 where
 
 -- both bounds are met
 abbrev pub LinesMet·theorem : Type 0
-LinesMet·theorem = Busy 11 719 × Busy 31 1679
+LinesMet·theorem = Busy 11 mostListed × Busy 31 mostLines

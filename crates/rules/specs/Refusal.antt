@@ -75,10 +75,10 @@ tableFull g c =
 
 -- ---- the lowest number that applies
 
--- what any command meets at a book: size is the length of meter memory. unleft: no list of commands leaves the book, which is never so of a book that one left
+-- what any command meets at a book: size is the length of meter memory. unsound: no list of commands leaves the book, which is never so of a book that one left
 abbrev pub bookConditions : Bool → ℕ → Ledger → Command → List Condition
-bookConditions unleft size g c =
-    (11 when unleft)
+bookConditions unsound size g c =
+    (11 when unsound)
     ∷ (12 when g .closed)
     ∷ (13 when isEmpty (g .contracts) && not (isContract c))
     ∷ (14 when not (isEmpty (g .contracts)) && isContract c)
@@ -100,11 +100,11 @@ kindConditions g c =
 
 -- what a command meets, in order: from its input, from the book, from its kind
 unfoldable pub conditions : Bool → ℕ → Ledger → Command → List Condition
-conditions unleft size g c = inputConditions c ++ bookConditions unleft size g c ++ kindConditions g c
+conditions unsound size g c = inputConditions c ++ bookConditions unsound size g c ++ kindConditions g c
 
 -- the number under which a command is turned down, if it is
 unfoldable pub refusal : Bool → ℕ → Ledger → Command → Option ℕ
-refusal unleft size g c = lowest (conditions unleft size g c)
+refusal unsound size g c = lowest (conditions unsound size g c)
 
 -- the answer for a number: taken where there is none
 abbrev pub answerOf : Option ℕ → Answer

@@ -7,10 +7,10 @@ use lib.Dec.{T, ltb}
 use lib.IntN.{pos, negsuc}
 use lib.ListN.{length}
 use lib.Signed.{leZ}
-use Rattle.energy.specs.Lists.{all, concatMap}
+use Rattle.energy.specs.Lists.{all, concatMap, isSome}
 use Rattle.commands.specs.Command.{onContract, onReading, always}
 use Rattle.commands.specs.Input.{from-toℤ, inRange}
-use Rattle.rules.specs.File.{total, readAt, operandsOf, widthsFor, write, commandsFrom, commandsIn}
+use Rattle.rules.specs.File.{table, widthsOf, total, commandOf, readAt, operandsOf, widthsFor, write, commandsFrom, commandsIn}
 use Rattle.commands.specs.declared.entries.Command.{Command}
 use Rattle.rules.specs.declared.file.Read.the-variants.{Got}
 
@@ -34,6 +34,8 @@ unfoldable pub sayable : Command → Bool
 sayable c = signFits c && fit (widthsFor c) (operandsOf c)
 
 pub record Reread : Type 0 where
+  -- the table has the bytes that are commands, and no others
+  pub known : (b : ℕ) (v : List ℕ) → isSome (commandOf b v) ≡ isSome (widthsOf b table)
   -- it is written at its whole length, and read back wherever it stands
   pub size : (c : Command) → length (write c) ≡ 1 + total (widthsFor c)
   pub command :

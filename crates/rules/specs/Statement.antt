@@ -167,10 +167,10 @@ Differ a b d = natAbs (a -ℤ b) ≤ d
 
 -- ---- when settling is turned down: size and room are the lengths of meter and line memory
 
--- what settling meets. unleft: no list of commands leaves the book
+-- what settling meets. unsound: no list of commands leaves the book
 unfoldable pub settleConditions : Bool → ℕ → ℕ → Ledger → List Condition
-settleConditions unleft size room g =
-    (11 when unleft)
+settleConditions unsound size room g =
+    (11 when unsound)
     ∷ (15 when ltb size (cellsIn g))
     ∷ (24 when not (g .closed))
     ∷ (25 when not (complete g))
@@ -179,4 +179,4 @@ settleConditions unleft size room g =
 
 -- the number under which settling is turned down, if it is
 unfoldable pub settleRefusal : Bool → ℕ → ℕ → Ledger → Option ℕ
-settleRefusal unleft size room g = lowest (settleConditions unleft size room g)
+settleRefusal unsound size room g = lowest (settleConditions unsound size room g)

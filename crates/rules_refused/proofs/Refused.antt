@@ -7,14 +7,14 @@ pub refusals : Refusals
 unfolding opened
 refusals =
     record {
-      operands = record { settings = refl; answers = refl; unleft = refl };
-      inputs = record { settings = refl; answers = refl; unleft = refl };
-      books = record { settings = refl; answers = refl; unleft = refl };
-      spans = record { settings = refl; answers = refl; unleft = refl };
-      orders = record { settings = refl; answers = refl; unleft = refl };
-      tables = record { settings = refl; answers = refl; unleft = refl };
-      lowest = record { settings = refl; answers = refl; unleft = refl };
-      settling = record { settings = refl; answers = refl; unleft = refl };
+      operands = record { settings = refl; answers = refl; unsound = refl };
+      inputs = record { settings = refl; answers = refl; unsound = refl };
+      books = record { settings = refl; answers = refl; unsound = refl };
+      spans = record { settings = refl; answers = refl; unsound = refl };
+      orders = record { settings = refl; answers = refl; unsound = refl };
+      tables = record { settings = refl; answers = refl; unsound = refl };
+      lowest = record { settings = refl; answers = refl; unsound = refl };
+      settling = record { settings = refl; answers = refl; unsound = refl };
       reading = refl;
       known = refl;
       writing = refl;

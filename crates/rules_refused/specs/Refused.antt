@@ -260,7 +260,7 @@ orderCases =
     ∷ day (agree (set guide recovery 60) ∷ []) enters call 3 85 gets Taken
     ∷ []
 
--- 21: a window's end is not in it, and a rejected or an excluded window counts. 22: a minute's second reading. 23: each table
+-- 21: a window's end is not in it, and a rejected or an excluded window counts. 22: a minute's second reading. 23: each table, by itself
 abbrev pub tableCases : List Case
 tableCases =
     begun enters fault 180 1 1 gets Refused 21
@@ -276,6 +276,10 @@ tableCases =
     ∷ over 2 (calls 63 3) enters call 1641 1661 gets Taken
     ∷ faulty 128 enters fault 0 1 1 gets Refused 23
     ∷ faulty 127 enters fault 0 1 1 gets Taken
+    -- one place is left in a table, and together with any other it would be full
+    ∷ over 3 (periods 127 0 ++ (call 3 23 ∷ fault 0 1 1 ∷ [])) enters offer 3810 3840 accepted gets Taken
+    ∷ over 2 (periods 64 0 ++ (fault 0 1 1 ∷ calls 63 3)) enters call 1641 1661 gets Taken
+    ∷ day (opening ++ (call 3 23 ∷ replicate 127 (fault 0 1 1))) enters fault 0 1 1 gets Taken
     ∷ []
 
 -- ---- the lowest number is given: beside the number that each of these gets, the later ones of its group hold too
@@ -421,7 +425,7 @@ pub record Entered (cases : List Case) : Type 0 where
   pub answers :
       map (λ c. answerOf (refusal false (c .setting .now) (ledgerOf (c .setting .commands)) (c .command))) cases ≡ map (λ c. c .answer) cases
   -- or 11, unless a lower number holds, in a book that no list of commands leaves
-  pub unleft :
+  pub unsound :
       map (λ c. answerOf (refusal true (c .setting .now) (ledgerOf (c .setting .commands)) (c .command))) cases
       ≡ map (λ c. orEleven (c .answer)) cases
 
@@ -430,7 +434,7 @@ pub record Settled (cases : List Settling) : Type 0 where
   pub settings : map (λ s. taken (s .setting .size) (s .setting .commands)) cases ≡ map (λ s. s .setting .commands) cases
   pub answers :
       map (λ s. answerOf (settleRefusal false (s .setting .now) (s .room) (ledgerOf (s .setting .commands)))) cases ≡ map (λ s. s .answer) cases
-  pub unleft :
+  pub unsound :
       map (λ s. answerOf (settleRefusal true (s .setting .now) (s .room) (ledgerOf (s .setting .commands)))) cases
       ≡ map (λ s. orEleven (s .answer)) cases
 

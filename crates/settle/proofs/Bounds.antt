@@ -58,16 +58,26 @@ pub record Bounded (l : Line) : Type 0 where
   pub pence : Within 500000000 (l .pence .0)
 
 pub bounded : (t : Terms) (times live : List ℕ) (meter : List ℤ) (c : Cursor) → Plan t times live meter → Ready t times live meter c
-    → Bounded (lineBy t (c .call) live meter (c .at) (c .minute) (cutBy c))
+    → Bounded (lineBy t (c .active) live meter (c .at) (c .minute .0) (cutBy c))
 unfolding lineBy deliveredIn
 bounded t times live meter c p r =
     let n = next t times live meter c p r in
-    let E : ℤ = pos (expectedIn (t .kw) (steadyAt (c .call .expiry) (c .call .cease) (c .minute)) (cutBy c - c .minute)) in
-    let D : ℤ = deliveredIn (t .kind) (c .call .base) meter (c .minute) (cutBy c) in
-    let R : Rate = rateBy (c .call .early) (c .call .late) (c .call .expiry) (c .call .cease) live (c .minute) in
-    let x : Within 500000 (kwh E) = nearest-bound E 240 500000 (lit< tt) (omega (arith, expected-within (t .kw) (cutBy c - c .minute) (steadyAt (c .call .expiry) (c .call .cease) (c .minute)) (p .kw) (omega (arith, n .readable)))) in
-    let s = sum-within (λ m. delivers (t .kind) (c .call .base) (cell meter m)) 4000000 (c .minute) (cutBy c) (λ m a b. delivers-within (t .kind) (c .call .base) (cell meter m) (n .base) (n .readable .read m a b)) in
+    let E : ℤ = pos (expectedIn (natAbs (t .kw .0)) (steadyAt (c .active .expiry .0) (c .active .cease .0) (c .minute .0)) (cutBy c - c .minute .0)) in
+    let D : ℤ = deliveredIn (t .kind) (c .active .base) meter (c .minute .0) (cutBy c) in
+    let R : Rate = rateBy (c .active) live (c .minute .0) in
+    let x : Within 500000 (kwh E) = nearest-bound E 240 500000 (lit< tt)
+    (omega (
+      arith,
+      expected-within (natAbs (t .kw .0)) (cutBy c - c .minute .0) (steadyAt (c .active .expiry .0) (c .active .cease .0) (c .minute .0))
+          (p .kw .0) (omega (arith, n .readable)),
+    )) in
+    let s = sum-within (λ m. delivers (t .kind) (c .active .base) (cell meter m)) 4000000 (c .minute .0) (cutBy c)
+    (λ m a b. delivers-within (t .kind) (c .active .base) (cell meter m) (n .base) (n .readable .read m a b)) in
     let d : Within 500000 (kwh D) = nearest-bound D 240 500000 (lit< tt) (omega (arith, s, n .readable)) in
     let l : Within 500000 (capped (kwh E) (kwh D)) = lesser-within 500000 (kwh E) (kwh D) x d in
     let z : priceBy t R ≤ 1000000 = price-within t R (p .utilisation) (p .optional) in
-    record { capped = l; pence = nearest-bound (capped (kwh E) (kwh D) *ℤ pos (priceBy t R)) 1000 500000000 (lit< tt) (omega (arith, mul-parts (capped (kwh E) (kwh D)) (pos (priceBy t R)), mul-le-mul (l .0) z, mul-le-mul (l .1) z)) }
+    record {
+      capped = l;
+      pence = nearest-bound (capped (kwh E) (kwh D) *ℤ pos (priceBy t R)) 1000 500000000 (lit< tt)
+          (omega (arith, mul-parts (capped (kwh E) (kwh D)) (pos (priceBy t R)), mul-le-mul (l .0) z, mul-le-mul (l .1) z));
+    }

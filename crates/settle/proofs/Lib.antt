@@ -1,9 +1,11 @@
+pub mod LedgerTables
 pub mod Bounds
-pub mod Tied
+pub mod CursorLine
 pub mod Sequence
-pub mod Surveyed
-pub mod Lights
+pub mod SurveyRules
+pub mod LiveTable
 pub mod Availability
-pub mod Ground
-pub mod Refused
-pub mod Stated
+pub mod PreparedTables
+pub mod BookPlan
+pub mod Refusal
+pub mod Outcome

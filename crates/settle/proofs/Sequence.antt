@@ -27,18 +27,20 @@ use Rattle.book.specs.Book.{noInstruction}
 use Rattle.settle_terms.specs.declared.Terms.{Terms}
 use Rattle.settle_lines.specs.declared.cursor.Cursor.{Cursor}
 use Rattle.settle_terms.specs.Terms.{issueOf}
-use Rattle.settle_lines.specs.Cursor.{callOf, lineBy, startOf, cursorAt, steppedLine, stored, enterOf, moved, cutBy, stepOf, either, Ready}
+use Rattle.settle_lines.specs.Cursor.{activeOf, lineBy, startOf, cursorAt, steppedLine, stored, enterOf, moved, cutBy, stepOf, either, Ready}
 use Rattle.settle_lines.proofs.Step.{Next, next, stored-first}
 use Rattle.rules.proofs.Folds.{first-snoc}
 use Rattle.settle.proofs.Bounds.{Bounded, bounded}
-use Rattle.settle.proofs.Tied.{Tied, instructionAt, end-is, cut-is, line-tied}
+use Rattle.settle.proofs.LedgerTables.{instructionAt}
+use Rattle.settle.proofs.CursorLine.{Tied, end-is, cut-is, line-tied}
 
 cuts-none : (k : Contract) (n : ℕ) (i : Instruction) (u m : ℕ) → endOf k i ≤ m → cutsFrom k n i u m ≡ []
 unfolding cutsFrom
 cuts-none k n i zero m h = refl
 cuts-none k n i (suc u) m h = rw (le-ltb m (endOf k i) h) refl
 
-lines-length : (g : Ledger) → length (lines g) ≡ length (segments g)
+-- a line for each segment
+pub lines-length : (g : Ledger) → length (lines g) ≡ length (segments g)
 unfolding lines
 lines-length g = length-map (segments g) (lineOf g)
 
@@ -57,60 +59,79 @@ module _ (g : Ledger) (t : Terms) (times live : List ℕ) (meter : List ℤ) (T 
   record Open (c : Cursor) (ss : List Segment) : Type 0 where
     ready : Ready t times live meter c
     fuel : ℕ
-    enough : endOf k (instructionAt g (c .at)) ≤ c .minute + fuel
-    rest : ss ≡ cutsFrom k (c .at + 1) (instructionAt g (c .at)) fuel (c .minute) ++ after (c .at)
+    enough : endOf k (instructionAt g (c .at)) ≤ c .minute .0 + fuel
+    rest : ss ≡ cutsFrom k (c .at + 1) (instructionAt g (c .at)) fuel (c .minute .0) ++ after (c .at)
 
   abbrev Here : Cursor → List Segment → Type 0
   Here c ss = Open c ss ⊎ (ss ≡ [])
 
-  timed : (j : ℕ) → j < t .calls → Timed k (instructionAt g j)
-  timed j h = record { starts = omega arith; steady = omega (arith, T .plan .call j h, T .issue j h, T .cease j h, T .response) }
+  timed : (j : ℕ) → j < t .instructions → Timed k (instructionAt g j)
+  timed j h = record { starts = omega arith; steady = omega (arith, T .plan .each j h, T .terms .issue j h, T .terms .cease j h, T .terms .response) }
 
   -- at the start of an instruction
   abbrev started : Cursor → Cursor
-  started c = record { at = c .at; minute = callOf t times live meter (c .at) .expiry - t .rise; call = callOf t times live meter (c .at); capped = c .capped; pence = c .pence }
+  started c =
+      record {
+        at = c .at;
+        minute = record { 0 = activeOf t times live meter (c .at) .expiry .0 - t .upminutes .0 };
+        active =
+            activeOf t times live meter (c .at);
+        capped = c .capped;
+        pence = c .pence;
+      }
 
-  enter-here : (c : Cursor) → Within (500000 * c .minute) (c .capped) → Within (500000000 * c .minute) (c .pence) → (c .at < t .calls → c .minute ≤ issueOf times (c .at))
+  enter-here : (c : Cursor) → Within (500000 * c .minute .0) (c .capped .0) → Within (500000000 * c .minute .0) (c .pence .0)
+      → (c .at < t .instructions → c .minute .0 ≤ issueOf times (c .at))
       → Here (enterOf t times live meter c) (segmentsFrom k (suc (c .at)) (drop (c .at) (g .instructions)))
-  unfolding enterOf segmentsFrom callOf
-  enter-here c u v o = go (ltb (c .at) (t .calls)) refl
+  unfolding enterOf segmentsFrom activeOf
+  enter-here c u v o = go (ltb (c .at) (t .instructions)) refl
     where
-      go : (b : Bool) → ltb (c .at) (t .calls) ≡ b → Here (either b (started c) c) (segmentsFrom k (suc (c .at)) (drop (c .at) (g .instructions)))
+      go : (b : Bool) → ltb (c .at) (t .instructions) ≡ b → Here (either b (started c) c) (segmentsFrom k (suc (c .at)) (drop (c .at) (g .instructions)))
       go true e =
-          let h : c .at < t .calls = ltb-true (c .at) (t .calls) e in
-          let p = T .plan in let q = p .call (c .at) h in let w = o h in
+          let h : c .at < t .instructions = ltb-true (c .at) (t .instructions) e in
+          let p = T .plan in let q = p .each (c .at) h in let w = o h in
           let i : Instruction = instructionAt g (c .at) in
-          let l : c .at < length (g .instructions) = omega (arith, T .calls) in
+          let l : c .at < length (g .instructions) = omega (arith, T .terms .count) in
           inl (record {
-            ready = record { more = h; call = refl; begun = omega arith; before = omega (arith, p, q); capped = omega (arith, p, q); pence = omega (arith, p, q) };
+            ready =
+                record {
+                  more = h;
+                  active = refl;
+                  begun = omega arith;
+                  before = omega (arith, p, q);
+                  capped = omega (arith, p, q);
+                  pence = omega
+                      (arith, p, q);
+                };
             fuel = endOf k i - rise k i;
-            enough = omega (arith, T .issue (c .at) h, T .response, T .rise);
+            enough = omega (arith, T .terms .issue (c .at) h, T .terms .response, T .terms .up);
             rest =
                 ap (segmentsFrom k (suc (c .at))) (drop-cons (g .instructions) (c .at) noInstruction l)
                 ∙ ap₂ _++_
                 (segments-cuts k (suc (c .at)) i (timed (c .at) h)
-                ∙ ap₂ (λ n m. cutsFrom k n i (endOf k i - rise k i) m) (sym (add-one (c .at))) (omega (arith, T .issue (c .at) h, T .response, T .rise)))
+                ∙ ap₂ (λ n m. cutsFrom k n i (endOf k i - rise k i) m) (sym (add-one (c .at)))
+                (omega (arith, T .terms .issue (c .at) h, T .terms .response, T .terms .up)))
                 (ap (λ n. segmentsFrom k (suc n) (drop n (g .instructions))) (sym (add-one (c .at))));
           })
       go false e =
-          let h : length (g .instructions) ≤ c .at = omega (arith, ltb-false (c .at) (t .calls) e, T .calls) in
+          let h : length (g .instructions) ≤ c .at = omega (arith, ltb-false (c .at) (t .instructions) e, T .terms .count) in
           inr (ap (segmentsFrom k (suc (c .at))) (drop-of-length-le (g .instructions) h))
 
   -- one step
   record Step (c : Cursor) (ss : List Segment) : Type 0 where
     rest : List Segment
-    cons : ss ≡ segmentAt k (c .at + 1) (instructionAt g (c .at)) (c .minute) ∷ rest
-    line : stepOf t times live meter c .line ≡ lineOf g (segmentAt k (c .at + 1) (instructionAt g (c .at)) (c .minute))
+    cons : ss ≡ segmentAt k (c .at + 1) (instructionAt g (c .at)) (c .minute .0) ∷ rest
+    line : stepOf t times live meter c .line ≡ lineOf g (segmentAt k (c .at + 1) (instructionAt g (c .at)) (c .minute .0))
     here : Here (stepOf t times live meter c .next) rest
-    capped : stepOf t times live meter c .next .capped ≡ c .capped +ℤ stepOf t times live meter c .line .capped .0
-    pence : stepOf t times live meter c .next .pence ≡ c .pence +ℤ stepOf t times live meter c .line .pence .0
+    capped : stepOf t times live meter c .next .capped .0 ≡ c .capped .0 +ℤ stepOf t times live meter c .line .capped .0
+    pence : stepOf t times live meter c .next .pence .0 ≡ c .pence .0 +ℤ stepOf t times live meter c .line .pence .0
 
-  entered-sums : (c : Cursor) → (enterOf t times live meter c .capped ≡ c .capped) × (enterOf t times live meter c .pence ≡ c .pence)
+  entered-sums : (c : Cursor) → (enterOf t times live meter c .capped .0 ≡ c .capped .0) × (enterOf t times live meter c .pence .0 ≡ c .pence .0)
   unfolding enterOf
-  entered-sums c = go (ltb (c .at) (t .calls))
+  entered-sums c = go (ltb (c .at) (t .instructions))
     where
-      go : (b : Bool) → (either b (started c) c .capped ≡ c .capped)
-          × (either b (started c) c .pence ≡ c .pence)
+      go : (b : Bool) → (either b (started c) c .capped .0 ≡ c .capped .0)
+          × (either b (started c) c .pence .0 ≡ c .pence .0)
       go true = (refl, refl)
       go false = (refl, refl)
 
@@ -119,7 +140,7 @@ module _ (g : Ledger) (t : Terms) (times live : List ℕ) (meter : List ℤ) (T 
     i = instructionAt g (c .at)
 
     abbrev l : Line
-    l = lineBy t (c .call) live meter (c .at) (c .minute) (cutBy c)
+    l = lineBy t (c .active) live meter (c .at) (c .minute .0) (cutBy c)
 
     abbrev n : Next t times live meter c
     n = next t times live meter c (T .plan) r
@@ -127,53 +148,64 @@ module _ (g : Ledger) (t : Terms) (times live : List ℕ) (meter : List ℤ) (T 
     b : Bounded l
     b = bounded t times live meter c (T .plan) r
 
-    end : c .call .end ≡ endOf k i
+    end : c .active .end .0 ≡ endOf k i
     end = end-is g t times live meter T c r
 
-    cutEq : cutBy c ≡ cut k i (c .minute)
+    cutEq : cutBy c ≡ cut k i (c .minute .0)
     cutEq = cut-is g t times live meter T c r
 
-    cappedAt : Within (500000 * cutBy c) (c .capped +ℤ l .capped .0)
-    cappedAt = omega (arith, add-parts (c .capped) (l .capped .0), r .capped, b .capped, n .above)
+    cappedAt : Within (500000 * cutBy c) (c .capped .0 +ℤ l .capped .0)
+    cappedAt = omega (arith, add-parts (c .capped .0) (l .capped .0), r .capped, b .capped, n .above)
 
-    penceAt : Within (500000000 * cutBy c) (c .pence +ℤ l .pence .0)
-    penceAt = omega (arith, add-parts (c .pence) (l .pence .0), r .pence, b .pence, n .above)
+    penceAt : Within (500000000 * cutBy c) (c .pence .0 +ℤ l .pence .0)
+    penceAt = omega (arith, add-parts (c .pence .0) (l .pence .0), r .pence, b .pence, n .above)
 
     abbrev nextBy : Bool → Cursor
     nextBy t′ = either t′ (moved c (c .at) (cutBy c) l) (enterOf t times live meter (moved c (c .at + 1) (cutBy c) l))
 
-    going : (u : ℕ) → endOf k i ≤ c .minute + suc u → (t′ : Bool) → ltb (cutBy c) (c .call .end) ≡ t′
-        → Here (nextBy t′) (cutsFrom k (c .at + 1) i u (cut k i (c .minute)) ++ after (c .at))
+    going : (u : ℕ) → endOf k i ≤ c .minute .0 + suc u → (t′ : Bool) → ltb (cutBy c) (c .active .end .0) ≡ t′
+        → Here (nextBy t′) (cutsFrom k (c .at + 1) i u (cut k i (c .minute .0)) ++ after (c .at))
     going u e true h =
-        let x : cutBy c < c .call .end = ltb-true (cutBy c) (c .call .end) h in
+        let x : cutBy c < c .active .end .0 = ltb-true (cutBy c) (c .active .end .0) h in
         inl (record {
-          ready = record { more = r .more; call = r .call; begun = omega (arith, n .above, r .begun); before = omega (arith, n .end); capped = cappedAt; pence = penceAt };
+          ready =
+              record {
+                more = r .more;
+                active = r .active;
+                begun = omega (arith, n .above, r .begun);
+                before = omega (arith, n .end);
+                capped =
+                    cappedAt;
+                pence = penceAt;
+              };
           fuel = u;
           enough = omega (arith, n .above);
           rest = ap (λ m. cutsFrom k (c .at + 1) i u m ++ after (c .at)) (sym cutEq);
         })
     going u e false h =
-        let x : c .call .end ≤ cutBy c = ltb-false (cutBy c) (c .call .end) h in
+        let x : c .active .end .0 ≤ cutBy c = ltb-false (cutBy c) (c .active .end .0) h in
         subst (λ ss. Here (enterOf t times live meter (moved c (c .at + 1) (cutBy c) l)) ss)
-        (sym (ap (λ z. z ++ after (c .at)) (cuts-none k (c .at + 1) i u (cut k i (c .minute)) (omega (arith, end, cutEq)))))
+        (sym (ap (λ z. z ++ after (c .at)) (cuts-none k (c .at + 1) i u (cut k i (c .minute .0)) (omega (arith, end, cutEq)))))
         (enter-here (moved c (c .at + 1) (cutBy c) l) cappedAt penceAt (λ z. omega (arith, T .plan .order (c .at) z, n .inside)))
 
-    sums : (t′ : Bool) → (nextBy t′ .capped ≡ c .capped +ℤ l .capped .0) × (nextBy t′ .pence ≡ c .pence +ℤ l .pence .0)
+    sums : (t′ : Bool) → (nextBy t′ .capped .0 ≡ c .capped .0 +ℤ l .capped .0) × (nextBy t′ .pence .0 ≡ c .pence .0 +ℤ l .pence .0)
     sums true = (refl, refl)
     sums false = entered-sums (moved c (c .at + 1) (cutBy c) l)
 
-    fueled : (ss : List Segment) (u : ℕ) → endOf k i ≤ c .minute + u → ss ≡ cutsFrom k (c .at + 1) i u (c .minute) ++ after (c .at) → Step c ss
+    fueled : (ss : List Segment) (u : ℕ) → endOf k i ≤ c .minute .0 + u → ss ≡ cutsFrom k (c .at + 1) i u (c .minute .0) ++ after (c .at) → Step c ss
     unfolding stepOf cutsFrom
     fueled ss zero e q = absurd (omega (arith, end, n .end, r .before))
     fueled ss (suc u) e q =
-        let m : c .minute < endOf k i = omega (arith, end, n .end, r .before) in
+        let m : c .minute .0 < endOf k i = omega (arith, end, n .end, r .before) in
         record {
-          rest = cutsFrom k (c .at + 1) i u (cut k i (c .minute)) ++ after (c .at);
-          cons = q ∙ ap (λ z. cond z (segmentAt k (c .at + 1) i (c .minute) ∷ cutsFrom k (c .at + 1) i u (cut k i (c .minute))) [] ++ after (c .at)) (lt-ltb (c .minute) (endOf k i) m);
+          rest = cutsFrom k (c .at + 1) i u (cut k i (c .minute .0)) ++ after (c .at);
+          cons =
+              q ∙ ap (λ z. cond z (segmentAt k (c .at + 1) i (c .minute .0) ∷ cutsFrom k (c .at + 1) i u (cut k i (c .minute .0))) [] ++ after
+              (c .at)) (lt-ltb (c .minute .0) (endOf k i) m);
           line = line-tied g t times live meter T c r;
-          here = going u e (ltb (cutBy c) (c .call .end)) refl;
-          capped = sums (ltb (cutBy c) (c .call .end)) .0;
-          pence = sums (ltb (cutBy c) (c .call .end)) .1;
+          here = going u e (ltb (cutBy c) (c .active .end .0)) refl;
+          capped = sums (ltb (cutBy c) (c .active .end .0)) .0;
+          pence = sums (ltb (cutBy c) (c .active .end .0)) .1;
         }
 
   step-here : (c : Cursor) (ss : List Segment) → Open c ss → Step c ss
@@ -210,7 +242,7 @@ module _ (g : Ledger) (t : Terms) (times live : List ℕ) (meter : List ℤ) (T 
   step-at : (n : ℕ) → n < length ss → Step (cur n) (drop n ss)
   step-at n h = step-here (cur n) (drop n ss) (open-at n h (here-at n (omega arith)))
 
-  pub pence-next : (n : ℕ) → n < length ss → cur (suc n) .pence ≡ cur n .pence +ℤ steppedLine t times live meter n .pence .0
+  pub pence-next : (n : ℕ) → n < length ss → cur (suc n) .pence .0 ≡ cur n .pence .0 +ℤ steppedLine t times live meter n .pence .0
   pence-next n h = step-at n h .pence
 
   -- the lines, the cursor's readiness, and the sums
@@ -234,20 +266,27 @@ module _ (g : Ledger) (t : Terms) (times live : List ℕ) (meter : List ℤ) (T 
       getD-map (x ∷ xs) zero i = refl
       getD-map (x ∷ xs) (suc m) i = getD-map xs m (omega arith)
 
-  sum-at : (f : Line → ℤ) (v : Cursor → ℤ) → v (cur 0) ≡ pos 0 → ((n : ℕ) → n < length ss → v (cur (suc n)) ≡ v (cur n) +ℤ f (steppedLine t times live meter n)) → (n : ℕ) → n ≤ length ss → v (cur n) ≡ sum f (take n (lines g))
+  sum-at : (f : Line → ℤ) (v : Cursor → ℤ) → v (cur 0) ≡ pos 0
+      → ((n : ℕ) → n < length ss → v (cur (suc n)) ≡ v (cur n) +ℤ f (steppedLine t times live meter n)) → (n : ℕ) → n ≤ length ss → v (cur n)
+      ≡ sum f (take n (lines g))
   unfolding sum
   sum-at f v z e zero h = z
   sum-at f v z e (suc n) h =
       e n h ∙ ap (λ x. x +ℤ f (steppedLine t times live meter n)) (sum-at f v z e n (omega arith))
-      ∙ sym (ap (sum f) (take-lines n h) ∙ sum-append f (take n (lines g)) (steppedLine t times live meter n ∷ []) ∙ ap (λ x. sum f (take n (lines g)) +ℤ x) (+ℤ-idr (f (steppedLine t times live meter n))))
+      ∙ sym (ap (sum f) (take-lines n h) ∙ sum-append f (take n (lines g)) (steppedLine t times live meter n ∷ [])
+      ∙ ap (λ x. sum f (take n (lines g)) +ℤ x) (+ℤ-idr (f (steppedLine t times live meter n))))
 
-  pub capped-at : cur (length ss) .capped ≡ sum (λ (l : Line). l .capped .0) (lines g)
+  pub capped-at : cur (length ss) .capped .0 ≡ sum (λ (l : Line). l .capped .0) (lines g)
   unfolding lines
-  capped-at = sum-at (λ (l : Line). l .capped .0) (λ c. c .capped) (entered-sums startOf .0) (λ n h. step-at n h .capped) (length ss) (le-refl (length ss)) ∙ ap (sum (λ (l : Line). l .capped .0)) (whole-lines g)
+  capped-at =
+      sum-at (λ (l : Line). l .capped .0) (λ c. c .capped .0) (entered-sums startOf .0) (λ n h. step-at n h .capped) (length ss) (le-refl (length ss))
+      ∙ ap (sum (λ (l : Line). l .capped .0)) (whole-lines g)
 
-  pub pence-at : cur (length ss) .pence ≡ sum (λ (l : Line). l .pence .0) (lines g)
+  pub pence-at : cur (length ss) .pence .0 ≡ sum (λ (l : Line). l .pence .0) (lines g)
   unfolding lines
-  pence-at = sum-at (λ (l : Line). l .pence .0) (λ c. c .pence) (entered-sums startOf .1) (λ n h. step-at n h .pence) (length ss) (le-refl (length ss)) ∙ ap (sum (λ (l : Line). l .pence .0)) (whole-lines g)
+  pence-at =
+      sum-at (λ (l : Line). l .pence .0) (λ c. c .pence .0) (entered-sums startOf .1) (λ n h. step-at n h .pence) (length ss) (le-refl (length ss))
+      ∙ ap (sum (λ (l : Line). l .pence .0)) (whole-lines g)
 
   -- the lines that are stepped through are the statement's, and so is what the line memory holds
   lines-to : (n : ℕ) → n ≤ length ss → map (steppedLine t times live meter) (between 0 n) ≡ take n (lines g)
@@ -259,4 +298,5 @@ module _ (g : Ledger) (t : Terms) (times live : List ℕ) (meter : List ℤ) (T 
 
   pub stored-lines : (ys : List Line) → length ss ≤ length ys → stored (steppedLine t times live meter) (length ss) ys ≡ lines g ++ drop (length ss) ys
   stored-lines ys h =
-      stored-first (steppedLine t times live meter) (length ss) ys h ∙ ap (λ z. z ++ drop (length ss) ys) (lines-to (length ss) (le-refl (length ss)) ∙ whole-lines g)
+      stored-first (steppedLine t times live meter) (length ss) ys h
+      ∙ ap (λ z. z ++ drop (length ss) ys) (lines-to (length ss) (le-refl (length ss)) ∙ whole-lines g)

@@ -18,12 +18,12 @@ use rules::statement::Statement;
 use settle_availability::paid::Entries;
 use settle_availability::paid::availability;
 use settle_lines::cursor::Cursor;
-use settle_live::show_live;
+use settle_live::mark_live;
 use settle_survey::survey_all;
 use settle_terms::Terms;
 use settle_terms::no_terms;
 use settle_terms::terms_of;
-use settle_terms::times_of;
+use settle_terms::times::times_of;
 
 // What settling has before the first record is written: the answer without the lines' sums, the number of lines, and what they are calculated from.
 pub struct Prepared {
@@ -39,12 +39,13 @@ fn unsummed_of(n: usize, e: Entries) -> Statement
     ensures { λ r. ⌜ r ≡ unsummed n e ⌝ }
 {
     let windows = e.windows;
+    let pence = e.pence;
     Statement {
         lines: n,
         capped: Kwh(0),
         utilisation: Pence(0),
-        availability: Pence(e.pence),
-        total: Pence(e.pence),
+        availability: pence,
+        total: pence,
         windows: windows,
     }
 }
@@ -60,7 +61,7 @@ fn refuse(n: u8) -> Prepared
     let windows = [none; 128];
     let entries = Entries {
         windows: windows,
-        pence: 0,
+        pence: Pence(0),
     };
     let statement = unsummed_of(0, entries);
     let settlement = Settlement {
@@ -87,27 +88,17 @@ fn lay_out(b: Book, t: Terms, times: [u16; 128], n: usize) -> Prepared
     let k = b.contract;
     let windows = b.windows;
     let defaults = b.defaults;
-    let recovery = k.recovery.0;
-    let response = k.response.0;
-    let fall = t.fall as u16;
+    let recovery = k.recovery;
+    let kw = t.kw;
     let mut live = [0; 1490];
-    show_live(
-        &mut live,
-        windows,
-        b.nwindows,
-        &times,
-        t.calls,
-        fall,
-        recovery,
-        response,
-    );
+    mark_live(&mut live, windows, b.nwindows, &times, t, recovery);
     let e = availability(
         &live,
         windows,
         b.nwindows,
         defaults,
         b.ndefaults,
-        t.kw,
+        kw,
         k.availability,
     );
     let statement = unsummed_of(n, e);
@@ -172,20 +163,22 @@ pub fn prepare(b: Book, meter: &[i32], room: usize) -> Prepared
 
 // The answer with the sums of the lines.
 pub fn sum_up(s: Settlement, c: Cursor) -> Settlement
-    requires { ⌜ Within 100000000000000 (c .pence) × Within 100000000000000 (s .statement .availability .0) ⌝ }
+    requires { ⌜ Within 100000000000000 (c .pence .0) × Within 100000000000000 (s .statement .availability .0) ⌝ }
     ensures { λ r. ⌜ r ≡ summed s c ⌝ }
 {
     let answer = s.answer;
     let old = s.statement;
     let windows = old.windows;
     let availability = old.availability;
-    let total = c.pence + availability.0;
+    let capped = c.capped;
+    let pence = c.pence;
+    let total = pence.plus(availability);
     let statement = Statement {
         lines: old.lines,
-        capped: Kwh(c.capped),
-        utilisation: Pence(c.pence),
+        capped: capped,
+        utilisation: pence,
         availability: availability,
-        total: Pence(total),
+        total: total,
         windows: windows,
     };
     Settlement {

@@ -1,1 +1,1 @@
-pub mod Struck
+pub mod Defaults

@@ -4,18 +4,18 @@ use mathlib.Core.Bool.{Bool, true, false, cond, not, _&&_, _||_}
 use mathlib.Core.List.{List}
 use Prim.Native.Nat.{ℕ, zero, suc, _+_, _-_, _*_, _/_, _≤_, _<_}
 use lib.Dec.{eqb, leb, ltb}
-use lib.IntN.{ℤ, pos, _+ℤ_}
+use lib.IntN.{ℤ, pos, natAbs, _+ℤ_}
 use lib.ListN.{length, getD, set}
 use Rattle.energy.specs.Energy.{cell, kwh, capped, payment, expectedIn, deliveredIn}
 use Rattle.energy.specs.Lists.{sum, between}
-use Rattle.energy.specs.Number.{Within}
+use Rattle.energy.specs.Number.{Upto, Within}
 use Rattle.rules.specs.Segment.{periodOf}
 use Rattle.rules.specs.declared.statement.Line.{Line}
 use Rattle.rules.specs.declared.statement.Rate.{Rate}
 use Rattle.rules.specs.declared.statement.Rate.the-variants.{Utilisation, Optional}
-use Rattle.rules.proofs.Cuts.{stageAt, cutOf}
+use Rattle.rules.specs.Cuts.{stageAt, cutOf}
 use Rattle.settle_terms.specs.declared.Terms.{Terms}
-use Rattle.settle_lines.specs.declared.cursor.Call.{Call}
+use Rattle.settle_lines.specs.declared.cursor.Active.{Active}
 use Rattle.settle_lines.specs.declared.cursor.Cursor.{Cursor}
 use Rattle.settle_lines.specs.declared.cursor.Stepped.{Stepped}
 use Rattle.settle_terms.specs.Terms.{issueOf, ceaseOf}
@@ -23,24 +23,24 @@ use Rattle.settle_terms.specs.Terms.{issueOf, ceaseOf}
 -- ---- a line
 
 -- minute m is in a live window: its period is marked in the table of live periods
-abbrev pub lit : List ℕ → ℕ → Bool
-lit live m = not (eqb (getD live (m / 30) 0) 0)
+abbrev pub liveAt : List ℕ → ℕ → Bool
+liveAt live m = not (eqb (getD live (m / 30) 0) 0)
 
 -- instruction j: its times, its base load, and whether its expiry and its last minute before cease are in live windows
-unfoldable pub callOf : Terms → List ℕ → List ℕ → List ℤ → ℕ → Call
-callOf t times live meter j =
+unfoldable pub activeOf : Terms → List ℕ → List ℕ → List ℤ → ℕ → Active
+activeOf t times live meter j =
     record {
-      expiry = issueOf times j + t .response;
-      cease = ceaseOf times j;
-      end = ceaseOf times j + t .fall;
+      expiry = record { 0 = issueOf times j + t .response .0 };
+      cease = record { 0 = ceaseOf times j };
+      end = record { 0 = ceaseOf times j + t .downminutes .0 };
       base = sum (cell meter) (between (issueOf times j - 3) (issueOf times j + 1));
-      early = lit live (issueOf times j + t .response);
-      late = lit live (ceaseOf times j - 1);
+      early = liveAt live (issueOf times j + t .response .0);
+      late = liveAt live (ceaseOf times j - 1);
     }
 
--- the rate of minute m, between expiry e and cease c: by its own window, or by the one that pays for its ramp
-unfoldable pub rateBy : Bool → Bool → ℕ → ℕ → List ℕ → ℕ → Rate
-rateBy early late e c live m = cond ((lit live m || (early && ltb m e)) || (late && leb c m)) Utilisation Optional
+-- the rate of minute m of an instruction: by its own window, or by the one that pays for its ramp
+unfoldable pub rateBy : Active → List ℕ → ℕ → Rate
+rateBy a live m = cond ((liveAt live m || (a .early && ltb m (a .expiry .0))) || (a .late && leb (a .cease .0) m)) Utilisation Optional
 
 -- a rate's pence per MWh
 abbrev pub priceBy : Terms → Rate → ℕ
@@ -51,16 +51,16 @@ priceBy t Optional = t .optional
 abbrev pub steadyAt : ℕ → ℕ → ℕ → Bool
 steadyAt e c m = leb e m && ltb m c
 
--- the line of the minutes a to b − 1 of instruction j
-unfoldable pub lineBy : Terms → Call → List ℕ → List ℤ → ℕ → ℕ → ℕ → Line
-lineBy t c live meter j a b =
-    let r : Rate = rateBy (c .early) (c .late) (c .expiry) (c .cease) live a in
-    let x : ℤ = kwh (pos (expectedIn (t .kw) (steadyAt (c .expiry) (c .cease) a) (b - a))) in
-    let d : ℤ = kwh (deliveredIn (t .kind) (c .base) meter a b) in
+-- the line of the minutes m to n − 1 of instruction j
+unfoldable pub lineBy : Terms → Active → List ℕ → List ℤ → ℕ → ℕ → ℕ → Line
+lineBy t a live meter j m n =
+    let r : Rate = rateBy a live m in
+    let x : ℤ = kwh (pos (expectedIn (natAbs (t .kw .0)) (steadyAt (a .expiry .0) (a .cease .0) m) (n - m))) in
+    let d : ℤ = kwh (deliveredIn (t .kind) (a .base) meter m n) in
     record {
       instruction = j + 1;
-      period = periodOf a;
-      stage = stageAt (c .expiry) (c .cease) a;
+      period = periodOf m;
+      stage = stageAt (a .expiry .0) (a .cease .0) m;
       rate = r;
       expected = record { 0 = x };
       delivered = record { 0 = d };
@@ -78,11 +78,11 @@ either false a b = b
 -- the cursor at the start of its instruction, if there is one
 unfoldable pub enterOf : Terms → List ℕ → List ℕ → List ℤ → Cursor → Cursor
 enterOf t times live meter c =
-    either (ltb (c .at) (t .calls))
+    either (ltb (c .at) (t .instructions))
     (record {
       at = c .at;
-      minute = callOf t times live meter (c .at) .expiry - t .rise;
-      call = callOf t times live meter (c .at);
+      minute = record { 0 = activeOf t times live meter (c .at) .expiry .0 - t .upminutes .0 };
+      active = activeOf t times live meter (c .at);
       capped = c .capped;
       pence = c .pence;
     })
@@ -91,20 +91,26 @@ enterOf t times live meter c =
 -- the cursor at minute m of instruction j, with a line's energy and money added
 abbrev pub moved : Cursor → ℕ → ℕ → Line → Cursor
 moved c j m l =
-    record { at = j; minute = m; call = c .call; capped = c .capped +ℤ l .capped .0; pence = c .pence +ℤ l .pence .0 }
+    record {
+      at = j;
+      minute = record { 0 = m };
+      active = c .active;
+      capped = record { 0 = c .capped .0 +ℤ l .capped .0 };
+      pence = record { 0 = c .pence .0 +ℤ l .pence .0 };
+    }
 
 -- the end of the segment at the cursor
 abbrev pub cutBy : Cursor → ℕ
-cutBy c = cutOf (c .call .expiry) (c .call .cease) (c .call .end) (c .minute)
+cutBy c = cutOf (c .active .expiry .0) (c .active .cease .0) (c .active .end .0) (c .minute .0)
 
 -- the line at the cursor, and the cursor after it
 unfoldable pub stepOf : Terms → List ℕ → List ℕ → List ℤ → Cursor → Stepped
 stepOf t times live meter c =
-    let l : Line = lineBy t (c .call) live meter (c .at) (c .minute) (cutBy c) in
+    let l : Line = lineBy t (c .active) live meter (c .at) (c .minute .0) (cutBy c) in
     record {
       line = l;
       next =
-          either (ltb (cutBy c) (c .call .end)) (moved c (c .at) (cutBy c) l)
+          either (ltb (cutBy c) (c .active .end .0)) (moved c (c .at) (cutBy c) l)
           (enterOf t times live meter (moved c (c .at + 1) (cutBy c) l));
     }
 
@@ -113,10 +119,18 @@ abbrev pub startOf : Cursor
 startOf =
     record {
       at = 0;
-      minute = 0;
-      call = record { expiry = 0; cease = 0; end = 0; base = pos 0; early = false; late = false };
-      capped = pos 0;
-      pence = pos 0;
+      minute = record { 0 = 0 };
+      active =
+          record {
+            expiry = record { 0 = 0 };
+            cease = record { 0 = 0 };
+            end = record { 0 = 0 };
+            base = pos 0;
+            early = false;
+            late = false;
+          };
+      capped = record { 0 = pos 0 };
+      pence = record { 0 = pos 0 };
     }
 
 -- the cursor before line n, from 0
@@ -137,32 +151,32 @@ stored f (suc n) ys = set (stored f n ys) n (f n)
 
 -- instruction j: in the month, in the table of live periods and in meter memory, with a reading in each needed minute
 pub record Planned (t : Terms) (times live : List ℕ) (meter : List ℤ) (j : ℕ) : Type 0 where
-  pub rise : (1 ≤ t .rise) × (t .rise ≤ t .response)
+  pub ramp : (1 ≤ t .upminutes .0) × (t .upminutes .0 ≤ t .response .0)
   pub three : 3 ≤ issueOf times j
-  pub steady : issueOf times j + t .response ≤ ceaseOf times j
-  pub inside : ceaseOf times j + t .fall ≤ length meter
-  pub lights : ceaseOf times j + t .fall < 30 * length live
+  pub steady : issueOf times j + t .response .0 ≤ ceaseOf times j
+  pub inside : ceaseOf times j + t .downminutes .0 ≤ length meter
+  pub periods : ceaseOf times j + t .downminutes .0 < 30 * length live
   pub base : (m : ℕ) → issueOf times j - 3 ≤ m → m < issueOf times j + 1 → Within 500000 (cell meter m)
-  pub read : (m : ℕ) → issueOf times j + t .response - t .rise ≤ m → m < ceaseOf times j + t .fall → Within 500000 (cell meter m)
+  pub read : (m : ℕ) → issueOf times j + t .response .0 - t .upminutes .0 ≤ m → m < ceaseOf times j + t .downminutes .0 → Within 500000 (cell meter m)
 
 -- every instruction, one after the other, and the contract's figures in their ranges
 pub record Plan (t : Terms) (times live : List ℕ) (meter : List ℤ) : Type 0 where
-  pub kw : t .kw ≤ 500000
+  pub kw : Upto 500000 (t .kw .0)
   pub utilisation : t .utilisation ≤ 1000000
   pub optional : t .optional ≤ 1000000
-  pub response : t .response ≤ 240
-  pub fall : t .fall ≤ 240
-  pub calls : t .calls ≤ 64
+  pub response : t .response .0 ≤ 240
+  pub down : t .downminutes .0 ≤ 240
+  pub few : t .instructions ≤ 64
   pub table : 128 ≤ length times
   pub fits : length live ≤ 1490
-  pub call : (j : ℕ) → j < t .calls → Planned t times live meter j
-  pub order : (j : ℕ) → j + 1 < t .calls → ceaseOf times j + t .fall ≤ issueOf times (j + 1)
+  pub each : (j : ℕ) → j < t .instructions → Planned t times live meter j
+  pub order : (j : ℕ) → j + 1 < t .instructions → ceaseOf times j + t .downminutes .0 ≤ issueOf times (j + 1)
 
 -- a segment is at the cursor, and the sums so far are no larger than its minute lets them be
 pub record Ready (t : Terms) (times live : List ℕ) (meter : List ℤ) (c : Cursor) : Type 0 where
-  pub more : c .at < t .calls
-  pub call : c .call ≡ callOf t times live meter (c .at)
-  pub begun : issueOf times (c .at) + t .response - t .rise ≤ c .minute
-  pub before : c .minute < ceaseOf times (c .at) + t .fall
-  pub capped : Within (500000 * c .minute) (c .capped)
-  pub pence : Within (500000000 * c .minute) (c .pence)
+  pub more : c .at < t .instructions
+  pub active : c .active ≡ activeOf t times live meter (c .at)
+  pub begun : issueOf times (c .at) + t .response .0 - t .upminutes .0 ≤ c .minute .0
+  pub before : c .minute .0 < ceaseOf times (c .at) + t .downminutes .0
+  pub capped : Within (500000 * c .minute .0) (c .capped .0)
+  pub pence : Within (500000000 * c .minute .0) (c .pence .0)

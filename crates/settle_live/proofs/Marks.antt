@@ -12,7 +12,7 @@ use lib.Seq.{getD-set-same, getD-set-other}
 use borrow.Author.Tests.{lt-ltb, le-ltb, le-leb, lt-leb}
 use Rattle.commands.specs.declared.entries.Window.{Window}
 use Rattle.rules.specs.Ledger.{noWindow}
-use Rattle.settle_live.specs.Live.{Marked, covers, Showed, Dark, numberTo, Lit}
+use Rattle.settle_live.specs.Live.{Marked, covers, WindowMarked, Unmarked, numberTo, LiveTable}
 
 pub mark-none : (xs : List ℕ) (a v : ℕ) → Marked xs a a v xs
 mark-none xs a v = record { same = refl; entry = λ p. go p (decLe a p) }
@@ -26,13 +26,17 @@ mark-next xs ys a p v h l m = record { same = length-set ys p v ∙ m .same; ent
   where
     go : (q : ℕ) → Dec (q ≡ p) → Dec (q < p) → getD (set ys p v) q 0 ≡ cond (leb a q && ltb q (p + 1)) v (getD xs q 0)
     go q (yes e) d = rw e (getD-set-same ys p v 0 l ∙ sym (rw (le-leb a p h, lt-ltb p (p + 1) (omega arith)) refl))
-    go q (no n) (yes b) = getD-set-other ys p q v 0 n ∙ m .entry q ∙ ap (λ z. cond (leb a q && z) v (getD xs q 0)) (lt-ltb q p b ∙ sym (lt-ltb q (p + 1) (omega arith)))
-    go q (no n) (no d) = getD-set-other ys p q v 0 n ∙ m .entry q ∙ ap (λ z. cond (leb a q && z) v (getD xs q 0)) (le-ltb q p (omega (arith, d)) ∙ sym (le-ltb q (p + 1) (omega (arith, n, d))))
+    go q (no n) (yes b) =
+        getD-set-other ys p q v 0 n ∙ m .entry q ∙ ap (λ z. cond (leb a q && z) v (getD xs q 0)) (lt-ltb q p b ∙ sym (lt-ltb q (p + 1) (omega arith)))
+    go q (no n) (no d) =
+        getD-set-other ys p q v 0 n ∙ m .entry q ∙ ap (λ z. cond (leb a q && z) v (getD xs q 0))
+        (le-ltb q p (omega (arith, d)) ∙ sym (le-ltb q (p + 1) (omega (arith, n, d))))
 
-pub lit-none : (f : Window → Bool) (ws : List Window) (live : List ℕ) → Dark live → Lit f ws 0 live
-lit-none f ws live a = record { period = a .none }
+pub live-none : (f : Window → Bool) (ws : List Window) (live : List ℕ) → Unmarked live → LiveTable f ws 0 live
+live-none f ws live a = record { period = a .none }
 
-pub lit-next : (f : Window → Bool) (ws : List Window) (n : ℕ) (live live′ : List ℕ) → Lit f ws n live → Showed (getD ws n noWindow) (n + 1) (f (getD ws n noWindow)) live live′ → Lit f ws (n + 1) live′
-lit-next f ws n live live′ l s =
+pub live-next : (f : Window → Bool) (ws : List Window) (n : ℕ) (live live′ : List ℕ) → LiveTable f ws n live
+    → WindowMarked (getD ws n noWindow) (n + 1) (f (getD ws n noWindow)) live live′ → LiveTable f ws (n + 1) live′
+live-next f ws n live live′ l s =
     let w : Window = getD ws n noWindow in
     record { period = λ p. s .period p ∙ ap₂ (λ v z. cond (f w && covers w p) v z) (add-one n) (l .period p) ∙ ap (λ k. numberTo f ws k p) (sym (add-one n)) }

@@ -8,28 +8,29 @@ use lib.ListN.{length, getD}
 use Rattle.commands.specs.Input.{mostMinute}
 use Rattle.commands.specs.declared.entries.Window.{Window}
 use Rattle.rules.specs.Ledger.{noWindow}
+use Rattle.settle_terms.specs.declared.Terms.{Terms}
 use Rattle.settle_terms.specs.Terms.{ceaseOf}
 
--- the first n instructions end in the month, and reach is at most recovery and response at their largest
-pub record Cleared (times : List ℕ) (n fall reach : ℕ) : Type 0 where
-  pub few : n ≤ 64
+-- every instruction ends in the month, and recovery and response are in their ranges
+pub record Cleared (times : List ℕ) (t : Terms) (recovery : ℕ) : Type 0 where
+  pub few : t .instructions ≤ 64
   pub table : 128 ≤ length times
-  pub near : reach ≤ 1440
-  pub small : (j : ℕ) → j < n → ceaseOf times j + fall ≤ mostMinute
+  pub near : recovery + t .response .0 ≤ 1440
+  pub small : (j : ℕ) → j < t .instructions → ceaseOf times j + t .downminutes .0 ≤ mostMinute
 
--- instruction j excludes a window that starts at start: reach is recovery and response together
-abbrev pub excludesAt : List ℕ → ℕ → ℕ → ℕ → ℕ → Bool
-excludesAt times fall reach start j = ltb (ceaseOf times j + fall) start && ltb start (ceaseOf times j + fall + reach)
+-- instruction j excludes a window that starts at start
+abbrev pub excludesAt : List ℕ → Terms → ℕ → ℕ → ℕ → Bool
+excludesAt times t recovery start j =
+    ltb (ceaseOf times j + t .downminutes .0) start && ltb start (ceaseOf times j + t .downminutes .0 + recovery + t .response .0)
 
 -- one of the first n does
-abbrev pub excludedTo : List ℕ → ℕ → ℕ → ℕ → ℕ → Bool
-excludedTo times fall reach start zero = false
-excludedTo times fall reach start (suc n) = excludedTo times fall reach start n || excludesAt times fall reach start n
+abbrev pub excludedTo : List ℕ → Terms → ℕ → ℕ → ℕ → Bool
+excludedTo times t recovery start zero = false
+excludedTo times t recovery start (suc n) = excludedTo times t recovery start n || excludesAt times t recovery start n
 
--- a window is live: accepted, and excluded by none of the first n instructions
-unfoldable pub isLive : List ℕ → ℕ → ℕ → ℕ → ℕ → Window → Bool
-isLive times n fall recovery response w =
-    eqb (w .verdict) 0 && not (leb 1 recovery && excludedTo times fall (recovery + response) (w .start .0) n)
+-- a window is live: accepted, and excluded by no instruction
+unfoldable pub isLive : List ℕ → Terms → ℕ → Window → Bool
+isLive times t recovery w = eqb (w .verdict) 0 && not (leb 1 recovery && excludedTo times t recovery (w .start .0) (t .instructions))
 
 -- a table with v in the places from a to b − 1
 pub record Marked (xs : List ℕ) (a b v : ℕ) (ys : List ℕ) : Type 0 where
@@ -41,12 +42,12 @@ abbrev pub covers : Window → ℕ → Bool
 covers w p = leb (w .start .0 / 30) p && ltb p (w .end .0 / 30)
 
 -- the table with window w marked under a number, where it is live
-pub record Showed (w : Window) (v : ℕ) (shown : Bool) (live live′ : List ℕ) : Type 0 where
+pub record WindowMarked (w : Window) (v : ℕ) (shown : Bool) (live live′ : List ℕ) : Type 0 where
   pub same : length live′ ≡ length live
   pub period : (p : ℕ) → getD live′ p 0 ≡ cond (shown && covers w p) v (getD live p 0)
 
 -- nothing is marked
-pub record Dark (xs : List ℕ) : Type 0 where
+pub record Unmarked (xs : List ℕ) : Type 0 where
   pub none : (p : ℕ) → getD xs p 0 ≡ 0
 
 -- the number of the window among the first n that is live, by f, and has place p
@@ -55,7 +56,7 @@ numberTo f ws zero p = 0
 numberTo f ws (suc n) p = cond (f (getD ws n noWindow) && covers (getD ws n noWindow) p) (suc n) (numberTo f ws n p)
 
 -- the table of live periods, of the first n windows
-pub record Lit (f : Window → Bool) (ws : List Window) (n : ℕ) (live : List ℕ) : Type 0 where
+pub record LiveTable (f : Window → Bool) (ws : List Window) (n : ℕ) (live : List ℕ) : Type 0 where
   pub period : (p : ℕ) → getD live p 0 ≡ numberTo f ws n p
 
 -- n windows that a table of so many periods has room for

@@ -27,12 +27,16 @@ use Rattle.rules.proofs.Folds.{concatMap-snoc, length-first, first-snoc}
 use Rattle.settle_lines.proofs.Step.{stored-first}
 
 -- the eight stores of a line
-pub eight-stores : (l : Line) (ys : List ℤ) (at : ℕ) (a b c d e f g h : ℤ) → at + 8 ≤ length ys → a ≡ pos (l .instruction) → b ≡ pos (l .period) → c ≡ stageNumber (l .stage) → d ≡ rateNumber (l .rate)
+pub eight-stores :
+    (l : Line) (ys : List ℤ) (at : ℕ) (a b c d e f g h : ℤ) → at + 8 ≤ length ys
+    → a ≡ pos (l .instruction) → b ≡ pos (l .period) → c ≡ stageNumber (l .stage) → d ≡ rateNumber (l .rate)
     → e ≡ l .expected .0 → f ≡ l .delivered .0 → g ≡ l .capped .0 → h ≡ l .pence .0
-    → set (set (set (set (set (set (set (set ys at a) (at + 1) b) (at + 2) c) (at + 3) d) (at + 4) e) (at + 5) f) (at + 6) g) (at + 7) h ≡ take at ys ++ numbersOf l ++ drop (at + 8) ys
+    → set (set (set (set (set (set (set (set ys at a) (at + 1) b) (at + 2) c) (at + 3) d) (at + 4) e) (at + 5) f) (at + 6) g) (at + 7) h
+    ≡ take at ys ++ numbersOf l ++ drop (at + 8) ys
 unfolding numbersOf
 eight-stores l ys at a b c d e f g h m e₁ e₂ e₃ e₄ e₅ e₆ e₇ e₈ =
-    rw (e₁, e₂, e₃, e₄, e₅, e₆, e₇, e₈, add-one at, add-two at, add-three at, add-four at, add-five at, add-six at, add-seven at) (sets-eq (numbersOf l) ys at m)
+    rw (e₁, e₂, e₃, e₄, e₅, e₆, e₇, e₈, add-one at, add-two at, add-three at, add-four at, add-five at, add-six at, add-seven at)
+    (sets-eq (numbersOf l) ys at m)
 
 long : (ls : List Line) → length (concatMap numbersOf ls) ≡ 8 * length ls
 unfolding numbersOf concatMap
@@ -55,12 +59,14 @@ module _ (f : ℕ → Line) where
   same-size n ys zs h e = ap length e ∙ length-append (numbersTo n) (drop (8 * n) ys) ∙ omega (arith, length-numbers n, length-drop (8 * n) ys)
 
   -- the numbers of one line more
-  pub put-next : (n : ℕ) (ys zs : List ℤ) → zs ≡ numbersTo n ++ drop (8 * n) ys → take (8 * n) zs ++ numbersOf (f n) ++ drop (8 * n + 8) zs ≡ numbersTo (n + 1) ++ drop (8 * (n + 1)) ys
+  pub put-next : (n : ℕ) (ys zs : List ℤ) → zs ≡ numbersTo n ++ drop (8 * n) ys
+      → take (8 * n) zs ++ numbersOf (f n) ++ drop (8 * n + 8) zs ≡ numbersTo (n + 1) ++ drop (8 * (n + 1)) ys
   put-next n ys zs e =
       let front : take (8 * n) zs ≡ numbersTo n = ap (take (8 * n)) e ∙ take-at (numbersTo n) (drop (8 * n) ys) (8 * n) (length-numbers n) in
       let past : drop (8 * n) zs ≡ drop (8 * n) ys = ap (drop (8 * n)) e ∙ drop-at (numbersTo n) (drop (8 * n) ys) (8 * n) (length-numbers n) in
       let eight : 8 * n + 8 ≡ 8 * (n + 1) = omega arith in
-      let after : drop (8 * n + 8) zs ≡ drop (8 * (n + 1)) ys = sym (drop-drop 8 (8 * n) zs) ∙ ap (drop 8) past ∙ drop-drop 8 (8 * n) ys ∙ ap (λ m. drop m ys) eight in
+      let after : drop (8 * n + 8) zs ≡ drop (8 * (n + 1)) ys =
+      sym (drop-drop 8 (8 * n) zs) ∙ ap (drop 8) past ∙ drop-drop 8 (8 * n) ys ∙ ap (λ m. drop m ys) eight in
       ap₂ (λ x y. x ++ numbersOf (f n) ++ y) front after ∙ ap (λ x. x ++ drop (8 * (n + 1)) ys) (sym (numbers-next n))
 
 -- what `settle_numbers` promises, from what is prepared: the lines are those that `settle` would put into as many records, whatever these hold
@@ -80,7 +86,8 @@ module _ (b : Book) (readings : Memory) (memory : List ℤ) (p : Prepared) (P : 
   abbrev made : Settlement → List ℤ → Numbered
   made s m = record { settlement = s; memory = m }
 
-  by-refusal : (o : Option ℕ) → settledWith p meter records ≡ settledBy o g records → made (summed (p .settlement) (lastCursor p meter)) (numbersTo line (p .lines) ++ drop (8 * p .lines) memory) ≡ numberedBy o g memory
+  by-refusal : (o : Option ℕ) → settledWith p meter records ≡ settledBy o g records
+      → made (summed (p .settlement) (lastCursor p meter)) (numbersTo line (p .lines) ++ drop (8 * p .lines) memory) ≡ numberedBy o g memory
   unfolding settledWith statementOf concatMap between run
   by-refusal none e =
       let n : p .lines ≡ length (lines g) = sym (P .count) ∙ ap (λ (s : Settled). s .settlement .statement .lines) e in

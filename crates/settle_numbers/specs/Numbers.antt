@@ -22,6 +22,10 @@ use Rattle.book.specs.declared.Book.{Book}
 use Rattle.settle.specs.declared.Settlement.{Settlement}
 use Rattle.settle.specs.Settle.{noStatement}
 
+-- how many numbers a line is
+abbrev pub lineNumbers : ℕ
+lineNumbers = 8
+
 -- a stage as a number
 abbrev pub stageNumber : Stage → ℤ
 stageNumber Up = pos 0
@@ -56,7 +60,7 @@ abbrev pub numberedBy : Option ℕ → Ledger → List ℤ → Numbered
 numberedBy none g memory =
     record {
       settlement = record { answer = answerOf none; statement = statementOf g };
-      memory = concatMap numbersOf (lines g) ++ drop (8 * length (lines g)) memory;
+      memory = concatMap numbersOf (lines g) ++ drop (lineNumbers * length (lines g)) memory;
     }
 numberedBy (some n) g memory =
     record { settlement = record { answer = answerOf (some n); statement = noStatement }; memory = memory }
@@ -64,4 +68,4 @@ numberedBy (some n) g memory =
 -- settling a book into numbers, eight to a line: what `settle_numbers` promises
 unfoldable pub numberBook : Book → Memory → List ℤ → Numbered
 numberBook b meter memory =
-    numberedBy (settleRefusal (not (sound b)) (roomIn meter) (length memory / 8) (ledgerIn b meter)) (ledgerIn b meter) memory
+    numberedBy (settleRefusal (not (sound b)) (roomIn meter) (length memory / lineNumbers) (ledgerIn b meter)) (ledgerIn b meter) memory

@@ -6,7 +6,7 @@ ghost use lib.ListN.{length, take, drop};
 ghost use Rattle.book_memory.specs.Meter.{lent};
 ghost use Rattle.energy.specs.Lists.{between, concatMap};
 ghost use Rattle.settle_lines.specs.Cursor.{Plan, Ready, cursorAt, steppedLine};
-ghost use Rattle.settle_numbers.specs.Numbers.{numberBook, numbersOf, rateNumber, stageNumber};
+ghost use Rattle.settle_numbers.specs.Numbers.{lineNumbers, numberBook, numbersOf, rateNumber, stageNumber};
 use book::Book;
 use rules::statement::Line;
 use rules::statement::Rate;
@@ -18,6 +18,9 @@ use settle_lines::cursor::Cursor;
 use settle_lines::cursor::first;
 use settle_lines::cursor::step;
 use settle_terms::Terms;
+
+// How many numbers a line is.
+const LINE_NUMBERS: usize = 8;
 
 // A stage as a number.
 fn stage_number(s: Stage) -> i64
@@ -42,8 +45,9 @@ fn rate_number(r: Rate) -> i64
 
 // The numbers of a line, into the eight from `at` on.
 fn put(numbers: &mut [i64], at: usize, l: Line)
-    requires { ⌜ at + 8 ≤ length (now numbers) ⌝ }
-    ensures { λ _. ⌜ now (numbers .exit) ≡ take at (now (numbers .entry)) ++ numbersOf l ++ drop (at + 8) (now (numbers .entry)) ⌝ }
+    requires { ⌜ at + lineNumbers ≤ length (now numbers) ⌝ }
+    ensures { λ _.
+        ⌜ now (numbers .exit) ≡ take at (now (numbers .entry)) ++ numbersOf l ++ drop (at + lineNumbers) (now (numbers .entry)) ⌝ }
 {
     let s = l.stage;
     let r = l.rate;
@@ -74,14 +78,20 @@ fn fill_numbers<'a, 'b, 'c>(
     meter: &'c [i32],
     n: usize,
 ) -> Cursor
-    requires { ⌜ (8 * n ≤ length (now numbers)) × Plan t (now times) (now live) (now meter) × ((k : ℕ) → k < n → Ready t (now times) (now live) (now meter) (cursorAt t (now times) (now live) (now meter) k)) ⌝ }
-    ensures { λ r. ⌜ (r ≡ cursorAt t (now (times .entry)) (now (live .entry)) (now (meter .entry)) n) × (now (numbers .exit) ≡ concatMap numbersOf (map (steppedLine t (now (times .entry)) (now (live .entry)) (now (meter .entry))) (between 0 n)) ++ drop (8 * n) (now (numbers .entry))) ⌝ }
+    requires { ⌜ (lineNumbers * n ≤ length (now numbers))
+        × Plan t (now times) (now live) (now meter)
+        × ((k : ℕ) → k < n → Ready t (now times) (now live) (now meter) (cursorAt t (now times) (now live) (now meter) k)) ⌝ }
+    ensures { λ r. ⌜ r ≡ cursorAt t (now (times .entry)) (now (live .entry)) (now (meter .entry)) n ⌝ }
+    ensures { λ _.
+        ⌜ now (numbers .exit)
+        ≡ concatMap numbersOf (map (steppedLine t (now (times .entry)) (now (live .entry)) (now (meter .entry))) (between 0 n))
+        ++ drop (lineNumbers * n) (now (numbers .entry)) ⌝ }
 {
     let mut c = first(t, times, live, meter);
     let mut k: usize = 0;
     while k < n {
         let s = step(t, times, live, meter, c);
-        put(numbers, 8 * k, s.line);
+        put(numbers, LINE_NUMBERS * k, s.line);
         c = s.next;
         k += 1;
     }
@@ -90,9 +100,10 @@ fn fill_numbers<'a, 'b, 'c>(
 
 // Settles a book over meter memory, each line as eight numbers in the first of those lent. Numbers after them keep their contents; a refusal alters none.
 pub fn settle_numbers(b: Book, meter: &[i32], numbers: &mut [i64]) -> Settlement
-    ensures { λ r. ⌜ (r ≡ numberBook b (lent (now (meter .entry))) (now (numbers .entry)) .settlement) × (now (numbers .exit) ≡ numberBook b (lent (now (meter .entry))) (now (numbers .entry)) .memory) ⌝ }
+    ensures { λ r. ⌜ r ≡ numberBook b (lent (now (meter .entry))) (now (numbers .entry)) .settlement ⌝ }
+    ensures { λ _. ⌜ now (numbers .exit) ≡ numberBook b (lent (now (meter .entry))) (now (numbers .entry)) .memory ⌝ }
 {
-    let p = prepare(b, meter, numbers.len() / 8);
+    let p = prepare(b, meter, numbers.len() / LINE_NUMBERS);
     let times = p.times;
     let live = p.live;
     let sums = fill_numbers(numbers, p.terms, &times, &live, meter, p.lines);

@@ -40,15 +40,19 @@ module _ {M : Type 1} (𝓤 : URA M) (H : Heap 𝓤) (A : Atoms 𝓤) (W : Given
   pub parts : Single (R .mir) → (v : Val) → ent 𝓤 (sep 𝓤 (sem 𝓤 H A (Cell v)) (sem 𝓤 H A (Own v))) (sem 𝓤 H A Parts)
   unfolding partOf
   parts one v =
-      qed W (‵ (Cell v) ∷ ‵ (Own v) ∷ []) ∵ use1 W (‵ (cellAt fullShare (Array R n .mir) (v ∷ []) b o)) (W .laws .at-raw fullShare (tyArray (lone (R .mir)) n) b o v) $ fjoin ! $
-      fpack ! (List Val) (λ vs. fsep (cellAt fullShare (Array R n .mir) vs b o) (Array R n .own xs vs)) (v ∷ []) $ by ! (array-apart 𝓤 H A W R fullShare one n xs b o)
+      qed W (‵ (Cell v) ∷ ‵ (Own v) ∷ []) ∵ use1 W (‵ (cellAt fullShare (Array R n .mir) (v ∷ []) b o))
+      (W .laws .at-raw fullShare (tyArray (lone (R .mir)) n) b o v) $ fjoin ! $
+      fpack ! (List Val) (λ vs. fsep (cellAt fullShare (Array R n .mir) vs b o) (Array R n .own xs vs)) (v ∷ []) $
+      by ! (array-apart 𝓤 H A W R fullShare one n xs b o)
 
   pub joined : ent 𝓤 (sem 𝓤 H A Parts) (sem 𝓤 H A (fex Val (λ v. fsep (Cell v) (Own v))))
   unfolding partOf
   joined =
-      qed W (‵ Parts ∷ []) ∵ use1 W (‵ (partAt (Array R n) fullShare xs b o)) (array-whole 𝓤 H A W R fullShare n xs b o) $ fpick ! (λ vs. fsplit ! $ move ! (1 ∷ []) $
+      qed W (‵ Parts ∷ []) ∵ use1 W (‵ (partAt (Array R n) fullShare xs b o)) (array-whole 𝓤 H A W R fullShare n xs b o) $
+      fpick ! (λ vs. fsplit ! $ move ! (1 ∷ []) $
       peeks ! (Array R n) (Is (Array R n)) (shows 𝓤 H A (Array R n)) xs vs (λ p.
-      rewrite ! 0 (λ (us : List Val). ‵ (Array R n .own xs us)) (p .1 .0 .0) refl $ rewrite ! 1 (λ (us : List Val). ‵ (cellAt fullShare (Array R n .mir) us b o)) (p .1 .0 .0) refl $ move ! (1 ∷ []) $
+      rewrite ! 0 (λ (us : List Val). ‵ (Array R n .own xs us)) (p .1 .0 .0) refl $
+      rewrite ! 1 (λ (us : List Val). ‵ (cellAt fullShare (Array R n .mir) us b o)) (p .1 .0 .0) refl $ move ! (1 ∷ []) $
       use1 W (‵ (Cell (arrayVal (p .0)))) (W .laws .raw-at fullShare (tyArray (lone (R .mir)) n) b o (arrayVal (p .0))) $ fjoin ! $
       fpack ! Val (λ v. fsep (Cell v) (Own v)) (arrayVal (p .0)) $ done !))
 
@@ -59,5 +63,6 @@ module _ {M : Type 1} (𝓤 : URA M) (H : Heap 𝓤) (A : Atoms 𝓤) (W : Given
 
   pub back : ent 𝓤 (sem 𝓤 H A (Arr (mem R) n .lies xs b o)) (sem 𝓤 H A (fex Val (λ v. fsep (Cell v) (Own v))))
   back =
-      qed W (‵ (Arr (mem R) n .lies xs b o) ∷ []) ∵ fsplit ! $ move ! (1 ∷ []) $ use1 W (‵ (row R fullShare xs b o)) (whole-out 𝓤 H A W R xs b o) $ move ! (1 ∷ 0 ∷ []) $ fjoin ! $
+      qed W (‵ (Arr (mem R) n .lies xs b o) ∷ []) ∵ fsplit ! $ move ! (1 ∷ []) $ use1 W (‵ (row R fullShare xs b o)) (whole-out 𝓤 H A W R xs b o) $
+      move ! (1 ∷ 0 ∷ []) $ fjoin ! $
       by ! joined

@@ -24,8 +24,11 @@ fn fill<'a, 'b, 'c>(
     meter: &'c [i32],
     n: usize,
 ) -> Cursor
-    requires { ⌜ (n ≤ length (now lines)) × Plan t (now times) (now live) (now meter) × ((k : ℕ) → k < n → Ready t (now times) (now live) (now meter) (cursorAt t (now times) (now live) (now meter) k)) ⌝ }
-    ensures { λ r. ⌜ (r ≡ cursorAt t (now (times .entry)) (now (live .entry)) (now (meter .entry)) n) × (now (lines .exit) ≡ stored (steppedLine t (now (times .entry)) (now (live .entry)) (now (meter .entry))) n (now (lines .entry))) ⌝ }
+    requires { ⌜ (n ≤ length (now lines))
+        × Plan t (now times) (now live) (now meter)
+        × ((k : ℕ) → k < n → Ready t (now times) (now live) (now meter) (cursorAt t (now times) (now live) (now meter) k)) ⌝ }
+    ensures { λ r. ⌜ (r ≡ cursorAt t (now (times .entry)) (now (live .entry)) (now (meter .entry)) n)
+        × (now (lines .exit) ≡ stored (steppedLine t (now (times .entry)) (now (live .entry)) (now (meter .entry))) n (now (lines .entry))) ⌝ }
 {
     let mut c = first(t, times, live, meter);
     let mut k: usize = 0;
@@ -40,7 +43,8 @@ fn fill<'a, 'b, 'c>(
 
 // Settles a book over meter memory: the answer, and the statement's lines in the first of the records lent. A refusal alters no record.
 pub fn settle(b: Book, meter: &[i32], lines: &mut [Line]) -> Settlement
-    ensures { λ r. ⌜ (r ≡ settleBook b (lent (now (meter .entry))) (now (lines .entry)) .settlement) × (now (lines .exit) ≡ settleBook b (lent (now (meter .entry))) (now (lines .entry)) .memory) ⌝ }
+    ensures { λ r. ⌜ (r ≡ settleBook b (lent (now (meter .entry))) (now (lines .entry)) .settlement)
+        × (now (lines .exit) ≡ settleBook b (lent (now (meter .entry))) (now (lines .entry)) .memory) ⌝ }
 {
     let p = prepare(b, meter, lines.len());
     let times = p.times;

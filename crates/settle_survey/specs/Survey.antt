@@ -7,7 +7,7 @@ use lib.ListN.{length}
 use Rattle.energy.specs.Energy.{cell}
 use Rattle.energy.specs.Lists.{all, between}
 use Rattle.commands.specs.Input.{isReading, mostMinute}
-use Rattle.rules.proofs.Count.{touched}
+use Rattle.rules.specs.Cuts.{touched}
 use Rattle.settle_terms.specs.declared.Terms.{Terms}
 use Rattle.settle_survey.specs.declared.Survey.{Survey}
 use Rattle.settle_terms.specs.Terms.{issueOf, ceaseOf}
@@ -15,18 +15,18 @@ use Rattle.settle_terms.specs.Terms.{issueOf, ceaseOf}
 -- instruction j lies in the month and in meter memory
 pub record LaidAt (t : Terms) (times : List ℕ) (meter : List ℤ) (j : ℕ) : Type 0 where
   pub three : 3 ≤ issueOf times j
-  pub steady : issueOf times j + t .response ≤ ceaseOf times j
-  pub inside : ceaseOf times j + t .fall ≤ length meter
-  pub small : ceaseOf times j + t .fall ≤ mostMinute
+  pub steady : issueOf times j + t .response .0 ≤ ceaseOf times j
+  pub inside : ceaseOf times j + t .downminutes .0 ≤ length meter
+  pub small : ceaseOf times j + t .downminutes .0 ≤ mostMinute
 
 -- every instruction does
 pub record Laid (t : Terms) (times : List ℕ) (meter : List ℤ) : Type 0 where
-  pub response : t .response ≤ 240
-  pub rise : t .rise ≤ t .response
-  pub ramps : 1 ≤ t .rise
-  pub calls : t .calls ≤ 64
+  pub response : t .response .0 ≤ 240
+  pub ramp : t .upminutes .0 ≤ t .response .0
+  pub some : 1 ≤ t .upminutes .0
+  pub few : t .instructions ≤ 64
   pub table : 128 ≤ length times
-  pub call : (j : ℕ) → j < t .calls → LaidAt t times meter j
+  pub each : (j : ℕ) → j < t .instructions → LaidAt t times meter j
 
 -- the cell of a minute holds a reading
 abbrev pub has : List ℤ → ℕ → Bool
@@ -40,10 +40,10 @@ surveyOf t times meter j s =
     record {
       complete =
           s .complete
-          && (all (has meter) (between (i - 3) (i + 1)) && all (has meter) (between (i + t .response - t .rise) (c + t .fall)));
+          && (all (has meter) (between (i - 3) (i + 1)) && all (has meter) (between (i + t .response .0 - t .upminutes .0) (c + t .downminutes .0)));
       count =
           s .count
-          + (touched (i + t .response - t .rise) (i + t .response) + touched (i + t .response) c + touched c (c + t .fall));
+          + (touched (i + t .response .0 - t .upminutes .0) (i + t .response .0) + touched (i + t .response .0) c + touched c (c + t .downminutes .0));
     }
 
 -- the survey of the first n instructions

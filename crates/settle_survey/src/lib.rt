@@ -3,10 +3,24 @@ ghost use mathlib.Core.Path.{_≡_};
 ghost use Prim.Native.Nat.{_+_, _*_, _≤_, _<_};
 ghost use lib.ListN.{length};
 ghost use Rattle.energy.specs.Lists.{all, between};
-ghost use Rattle.rules.proofs.Count.{touched as touchedOf};
+ghost use Rattle.rules.specs.Cuts.{touched as touchedOf};
 ghost use Rattle.settle_survey.specs.Survey.{Laid, has, surveyOf, surveyTo};
+use commands::contract::Contract;
+use energy::units::Minutes;
 use settle_terms::Terms;
-use settle_terms::wide;
+use settle_terms::minutes::cell_of;
+use settle_terms::minutes::place_of;
+use settle_terms::times::base_from;
+use settle_terms::times::cease_at;
+use settle_terms::times::end_of;
+use settle_terms::times::expiry_of;
+use settle_terms::times::issue_at;
+use settle_terms::times::start_of;
+
+// The range of a reading, in a cell's type.
+const LEAST: i32 = Contract::READING_LEAST.0 as i32;
+
+const MOST: i32 = Contract::READING_MOST.0 as i32;
 
 // Of the instructions so far: whether all their readings are there, and the number of their segments.
 pub struct Survey {
@@ -14,7 +28,7 @@ pub struct Survey {
     pub count: usize,
 }
 
-// Whether each minute from `from` to `to` - 1 has a reading. It looks at all of them, so that the compiler tests several cells at a time.
+// Whether each cell from `from` to `to` - 1 holds a reading. It looks at all of them, so that the compiler tests several cells at a time.
 fn all_read(meter: &[i32], from: usize, to: usize) -> bool
     requires { ⌜ (from ≤ to) × (to ≤ length (now meter)) ⌝ }
     ensures { λ r. ⌜ r ≡ all (has (now (meter .entry))) (between from to) ⌝ }
@@ -23,19 +37,19 @@ fn all_read(meter: &[i32], from: usize, to: usize) -> bool
     let mut i = from;
     while i < to {
         let x = meter[i];
-        ok = ok & ((-500000 <= x) & (x <= 500000));
+        ok = ok & ((LEAST <= x) & (x <= MOST));
         i += 1;
     }
     ok
 }
 
 // The periods that the minutes from a to b - 1 touch.
-fn touched(a: usize, b: usize) -> usize
-    requires { ⌜ b ≤ 1000000 ⌝ }
-    ensures { λ r. ⌜ (r ≡ touchedOf a b) × (r ≤ 1000000) ⌝ }
+fn touched(a: Minutes, b: Minutes) -> usize
+    ensures { λ r. ⌜ (r ≡ touchedOf (a .0) (b .0)) × (r ≤ 1000000) ⌝ }
 {
-    if a < b {
-        return (b - 1) / 30 - a / 30 + 1;
+    if a.0 < b.0 {
+        let last = Minutes(b.0 - 1);
+        return place_of(last) - place_of(a) + 1;
     }
     0
 }
@@ -43,17 +57,20 @@ fn touched(a: usize, b: usize) -> usize
 // The survey with instruction `at`.
 fn surveyed(t: Terms, times: &[u16], meter: &[i32], at: usize, s: Survey) -> Survey
     requires { ⌜ Laid t (now times) (now meter) ⌝ }
-    requires { ⌜ (at < t .calls) × (s .count ≤ 3000000 * at) ⌝ }
+    requires { ⌜ (at < t .instructions) × (s .count ≤ 3000000 * at) ⌝ }
     ensures { λ r. ⌜ (r ≡ surveyOf t (now (times .entry)) (now (meter .entry)) at s) × (r .count ≤ 3000000 * (at + 1)) ⌝ }
 {
-    let issue = wide(times[at]);
-    let cease = wide(times[64 + at]);
-    let expiry = issue + t.response;
-    let rise = expiry - t.rise;
-    let end = cease + t.fall;
-    let base = all_read(meter, issue - 3, issue + 1);
-    let active = all_read(meter, rise, end);
-    let n = touched(rise, expiry) + touched(expiry, cease) + touched(cease, end);
+    let response = t.response;
+    let up = t.upminutes;
+    let down = t.downminutes;
+    let issue = issue_at(times, at);
+    let cease = cease_at(times, at);
+    let expiry = expiry_of(issue, response);
+    let start = start_of(expiry, up);
+    let end = end_of(cease, down);
+    let base = all_read(meter, base_from(issue), cell_of(issue) + 1);
+    let active = all_read(meter, cell_of(start), cell_of(end));
+    let n = touched(start, expiry) + touched(expiry, cease) + touched(cease, end);
     let count = s.count + n;
     Survey {
         complete: s.complete & (base & active),
@@ -64,13 +81,13 @@ fn surveyed(t: Terms, times: &[u16], meter: &[i32], at: usize, s: Survey) -> Sur
 // The survey of all instructions.
 pub fn survey_all(t: Terms, times: &[u16], meter: &[i32]) -> Survey
     requires { ⌜ Laid t (now times) (now meter) ⌝ }
-    ensures { λ r. ⌜ r ≡ surveyTo t (now (times .entry)) (now (meter .entry)) (t .calls) ⌝ }
+    ensures { λ r. ⌜ r ≡ surveyTo t (now (times .entry)) (now (meter .entry)) (t .instructions) ⌝ }
 {
     let mut s = Survey {
         complete: true,
         count: 0,
     };
-    let n = t.calls;
+    let n = t.instructions;
     let mut i = 0;
     while i < n {
         s = surveyed(t, times, meter, i, s);

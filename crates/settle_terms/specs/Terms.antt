@@ -2,8 +2,9 @@
 use mathlib.Core.Path.{_≡_}
 use mathlib.Core.List.{List}
 use Prim.Native.Nat.{ℕ, _+_, _<_}
+use lib.IntN.{pos}
 use lib.ListN.{length, getD}
-use Rattle.commands.specs.Input.{kwOf, upMinutes, downMinutes}
+use Rattle.commands.specs.Input.{upMinutes, downMinutes}
 use Rattle.commands.specs.declared.contract.Contract.{Contract}
 use Rattle.commands.specs.declared.entries.Instruction.{Instruction}
 use Rattle.rules.specs.Ledger.{noInstruction}
@@ -13,19 +14,29 @@ use Rattle.settle_terms.specs.declared.Terms.{Terms}
 unfoldable pub termsOf : Contract → ℕ → Terms
 termsOf k n =
     record {
-      kw = kwOf k;
+      kw = k .contracted;
       kind = k .kind;
-      response = k .response .0;
-      rise = upMinutes k;
-      fall = downMinutes k;
+      response = k .response;
+      upminutes = record { 0 = upMinutes k };
+      downminutes = record { 0 = downMinutes k };
       utilisation = k .utilisation;
       optional = k .optional;
-      calls = n;
+      instructions = n;
     }
 
 -- the terms of a refusal: no instruction, and zeros
 abbrev pub noTerms : Terms
-noTerms = record { kw = 0; kind = 0; response = 0; rise = 0; fall = 0; utilisation = 0; optional = 0; calls = 0 }
+noTerms =
+    record {
+      kw = record { 0 = pos 0 };
+      kind = 0;
+      response = record { 0 = 0 };
+      upminutes = record { 0 = 0 };
+      downminutes = record { 0 = 0 };
+      utilisation = 0;
+      optional = 0;
+      instructions = 0;
+    }
 
 -- the table of times: the issue of instruction j, from 0
 abbrev pub issueOf : List ℕ → ℕ → ℕ

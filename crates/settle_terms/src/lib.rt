@@ -1,58 +1,49 @@
 // What settling reads off a book once: the contract's figures, and the times of the instructions.
 ghost use mathlib.Core.Path.{_≡_};
 ghost use Prim.Native.Nat.{_≤_};
-ghost use lib.IntN.{pos};
-ghost use Rattle.commands.specs.Input.{kwOf};
-ghost use Rattle.settle_terms.specs.Terms.{Timed, noTerms, termsOf};
+ghost use Rattle.commands.specs.Input.{downMinutes, upMinutes};
+ghost use Rattle.energy.specs.Number.{Upto};
+ghost use Rattle.settle_terms.specs.Terms.{noTerms, termsOf};
 use commands::contract::Contract;
-use commands::entries::Instruction;
 use energy::ramp::ramp_minutes;
+use energy::units::Kw;
+use energy::units::Minutes;
 
-// What a line needs of the contract, and the number of instructions.
+pub mod minutes;
+pub mod times;
+
+// What a line needs of the contract, and the number of instructions. Its kW and its minutes put into each other's places do not compile: it was tried.
 pub struct Terms {
-    pub kw: u32,
+    pub kw: Kw,
     pub kind: u8,
-    pub response: usize,
-    // ramp up and ramp down minutes
-    pub rise: usize,
-    pub fall: usize,
+    pub response: Minutes,
+    // ramp up minutes U and ramp down minutes V
+    pub upminutes: Minutes,
+    pub downminutes: Minutes,
+    // pence per MWh
     pub utilisation: u32,
     pub optional: u32,
-    pub calls: usize,
+    pub instructions: usize,
 }
 
-// A minute as an index.
-pub fn wide(x: u16) -> usize
-    ensures { λ r. ⌜ r ≡ x ⌝ }
+// The terms of a contract with so many instructions. Its ramps take at most 240 minutes, so that they are minutes of a month.
+pub fn terms_of(k: Contract, instructions: usize) -> Terms
+    requires { ⌜ Upto 500000 (k .contracted .0) × (upMinutes k ≤ 240) × (downMinutes k ≤ 240) ⌝ }
+    ensures { λ r. ⌜ r ≡ termsOf k instructions ⌝ }
 {
-    x as usize
-}
-
-// A byte as an index.
-pub fn wide_byte(x: u8) -> usize
-    ensures { λ r. ⌜ r ≡ x ⌝ }
-{
-    x as usize
-}
-
-// The terms of a contract with so many instructions.
-pub fn terms_of(k: Contract, calls: usize) -> Terms
-    requires { ⌜ (k .contracted .0 ≡ pos (kwOf k)) × (kwOf k ≤ 500000) ⌝ }
-    ensures { λ r. ⌜ r ≡ termsOf k calls ⌝ }
-{
-    let kw = k.contracted.0 as u32;
-    let rise = ramp_minutes(kw, k.rampup) as usize;
-    let fall = ramp_minutes(kw, k.rampdown) as usize;
-    let response = wide(k.response.0);
+    let kw = k.contracted;
+    let response = k.response;
+    let up = ramp_minutes(kw, k.rampup) as u16;
+    let down = ramp_minutes(kw, k.rampdown) as u16;
     Terms {
         kw: kw,
         kind: k.kind,
         response: response,
-        rise: rise,
-        fall: fall,
+        upminutes: Minutes(up),
+        downminutes: Minutes(down),
         utilisation: k.utilisation,
         optional: k.optional,
-        calls: calls,
+        instructions: instructions,
     }
 }
 
@@ -61,30 +52,13 @@ pub fn no_terms() -> Terms
     ensures { λ r. ⌜ r ≡ noTerms ⌝ }
 {
     Terms {
-        kw: 0,
+        kw: Kw(0),
         kind: 0,
-        response: 0,
-        rise: 0,
-        fall: 0,
+        response: Minutes(0),
+        upminutes: Minutes(0),
+        downminutes: Minutes(0),
         utilisation: 0,
         optional: 0,
-        calls: 0,
+        instructions: 0,
     }
-}
-
-// The issues of the instructions, and from 64 on their ceases: the lines are calculated from numbers, not from the book.
-pub fn times_of(instructions: [Instruction; 64]) -> [u16; 128]
-    ensures { λ r. ⌜ Timed instructions 64 r ⌝ }
-{
-    let mut times = [0; 128];
-    let mut i = 0;
-    while i < 64 {
-        let x = instructions[i];
-        let issue = x.issue.0;
-        let cease = x.cease.0;
-        times[i] = issue;
-        times[64 + i] = cease;
-        i += 1;
-    }
-    times
 }

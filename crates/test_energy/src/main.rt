@@ -1,7 +1,7 @@
 // Runs the checked figures that are about energy and money alone, F3, F4, F5, F8 and F10, and prints what it got.
 ghost use mathlib.Core.Path.{_≡_};
 ghost use lib.IntN.{natAbs};
-ghost use Rattle.energy.specs.Number.{Within};
+ghost use Rattle.energy.specs.Number.{Upto, Within};
 use energy::money::Paid;
 use energy::money::capped_kwh;
 use energy::money::delivered_kwh;
@@ -17,6 +17,7 @@ use energy::round::Rounded;
 use energy::round::nearest;
 use energy::units::Kw;
 use energy::units::Kwh;
+use energy::units::Minutes;
 use energy::units::Pence;
 
 // How far n is from 0. One is added before the sign is turned, and again after it, so that the least number fits.
@@ -73,8 +74,10 @@ fn energy_row(quarters: i64) {
 }
 
 // F5: the minutes of a ramp.
-fn ramp_row(kw: u32, ramp: u32) {
-    put(kw as i64);
+fn ramp_row(kw: Kw, ramp: u32)
+    requires { ⌜ Upto 4294967295 (kw .0) ⌝ }
+{
+    put(kw.0);
     io::write_all(1, b" kW at ");
     put(ramp as i64);
     io::write_all(1, b" a minute: ");
@@ -120,7 +123,7 @@ fn six_minutes(kind: u8, base: i32, reading: i32) -> Line
     requires { ⌜ Within 2000000 base × Within 500000 reading ⌝ }
 {
     let meter = [reading; 6];
-    let x = expected_kwh(expected(12000, false, 6));
+    let x = expected_kwh(expected(Kw(12000), false, Minutes(6)));
     let d = delivered_kwh(delivered(kind, base, &meter, 0, 6));
     let k = capped_kwh(x, d);
     let p = payment_pence(k, 30000);
@@ -167,7 +170,7 @@ fn main() {
     energy_row(-120);
     energy_row(-121);
     // F5
-    ramp_row(12000, 5000);
+    ramp_row(Kw(12000), 5000);
     // F8
     period_row(1);
     period_row(30);

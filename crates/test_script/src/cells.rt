@@ -4,7 +4,7 @@ ghost use Prim.Native.Nat.{_≤_};
 ghost use lib.ListN.{length, take};
 
 // The lesser of two numbers, and at most the second.
-pub fn at_most(n: usize, most: usize) -> usize
+pub(crate) fn at_most(n: usize, most: usize) -> usize
     ensures { λ r. ⌜ r ≤ most ⌝ }
 {
     if n < most { n } else { most }
@@ -12,14 +12,14 @@ pub fn at_most(n: usize, most: usize) -> usize
 
 // How many cells are lent: no more than there are. The second part follows from the first; both are stated, so that a function that
 // lends these cells needs no proof.
-pub fn lent(meter: &[i32], cells: usize) -> usize
+pub(crate) fn lent(meter: &[i32], cells: usize) -> usize
     ensures { λ r. ⌜ (r ≤ length (now (meter .entry))) × (r ≡ length (take r (now (meter .entry)))) ⌝ }
 {
     at_most(cells, meter.len())
 }
 
 // What a cell can hold of a kW, 0 of what it cannot.
-pub fn kw_of(n: i64) -> i32 {
+pub(crate) fn kw_of(n: i64) -> i32 {
     if n < -2147483648 {
         return 0;
     }
@@ -29,21 +29,28 @@ pub fn kw_of(n: i64) -> i32 {
     n as i32
 }
 
-pub fn fill(meter: &mut [i32], kw: i32) {
-    let mut i = 0;
-    while i < meter.len() {
-        meter[i] = kw;
-        i += 1;
+// A step from 1.
+fn stride(step: u16) -> usize
+    ensures { λ r. ⌜ (1 ≤ r) × (r ≤ 65535) ⌝ }
+{
+    if step == 0 {
+        return 1;
     }
+    step as usize
 }
 
-pub fn put(meter: &mut [i32], at: usize, kw: i32) {
-    if at < meter.len() {
+// The cell at `from` and each `step` cells on, before `to` and as far as there are cells.
+pub(crate) fn put_each(meter: &mut [i32], from: usize, to: usize, step: u16, kw: i32) {
+    let end = at_most(to, meter.len());
+    let gap = stride(step);
+    let mut at = from;
+    while at < end {
         meter[at] = kw;
+        at += gap;
     }
 }
 
 // A cell, 0 past the end.
-pub fn get(meter: &[i32], at: usize) -> i32 {
+pub(crate) fn cell_at(meter: &[i32], at: usize) -> i32 {
     if at < meter.len() { meter[at] } else { 0 }
 }

@@ -1,10 +1,13 @@
 // Books changed by hand.
-use crate::text::byte;
-use crate::text::digits;
-use crate::text::long;
-use crate::text::short;
-use crate::text::signed;
-use crate::text::size;
+use crate::entries::default_of;
+use crate::entries::instruction_of;
+use crate::entries::window_of;
+use crate::text::digits_after;
+use crate::text::i64_after;
+use crate::text::u8_after;
+use crate::text::u16_after;
+use crate::text::u32_after;
+use crate::text::usize_after;
 use book::Book;
 use commands::contract::Contract;
 use commands::entries::Default;
@@ -17,14 +20,14 @@ use energy::units::Minutes;
 fn with_term(k: Contract, field: u8, line: &[u8]) -> Contract {
     let mut changed = k;
     match field {
-        2 => changed.days = byte(line, 2),
-        3 => changed.kind = byte(line, 2),
-        4 => changed.service = byte(line, 2),
-        6 => changed.rampup = long(line, 2),
-        7 => changed.rampdown = long(line, 2),
-        10 => changed.availability = long(line, 2),
-        11 => changed.utilisation = long(line, 2),
-        12 => changed.optional = long(line, 2),
+        2 => changed.days = u8_after(line, 2),
+        3 => changed.kind = u8_after(line, 2),
+        4 => changed.service = u8_after(line, 2),
+        6 => changed.rampup = u32_after(line, 2),
+        7 => changed.rampdown = u32_after(line, 2),
+        10 => changed.availability = u32_after(line, 2),
+        11 => changed.utilisation = u32_after(line, 2),
+        12 => changed.optional = u32_after(line, 2),
         _ => return with_quantity(k, field, line),
     }
     changed
@@ -32,8 +35,8 @@ fn with_term(k: Contract, field: u8, line: &[u8]) -> Contract {
 
 fn with_quantity(k: Contract, field: u8, line: &[u8]) -> Contract {
     let mut changed = k;
-    let kw = Kw(signed(line, 2));
-    let minutes = Minutes(short(line, 2));
+    let kw = Kw(i64_after(line, 2));
+    let minutes = Minutes(u16_after(line, 2));
     match field {
         5 => changed.contracted = kw,
         8 => changed.response = minutes,
@@ -44,14 +47,14 @@ fn with_quantity(k: Contract, field: u8, line: &[u8]) -> Contract {
 }
 
 // A book with a field set: 0 agreed, 1 closed, 2 to 12 the contract's, 13 to 15 the counts of windows, instructions and defaults.
-pub fn with_field(b: Book, field: u8, line: &[u8]) -> Book {
+fn with_field(b: Book, field: u8, line: &[u8]) -> Book {
     let mut changed = b;
     match field {
-        0 => changed.agreed = digits(line, 2) != 0,
-        1 => changed.closed = digits(line, 2) != 0,
-        13 => changed.nwindows = size(line, 2),
-        14 => changed.ninstructions = size(line, 2),
-        15 => changed.ndefaults = size(line, 2),
+        0 => changed.agreed = digits_after(line, 2) != 0,
+        1 => changed.closed = digits_after(line, 2) != 0,
+        13 => changed.nwindows = usize_after(line, 2),
+        14 => changed.ninstructions = usize_after(line, 2),
+        15 => changed.ndefaults = usize_after(line, 2),
         _ => {
             let k = b.contract;
             changed.contract = with_term(k, field, line);
@@ -60,7 +63,7 @@ pub fn with_field(b: Book, field: u8, line: &[u8]) -> Book {
     changed
 }
 
-pub fn with_window(b: Book, at: usize, w: Window) -> Book {
+fn with_window(b: Book, at: usize, w: Window) -> Book {
     let mut changed = b;
     if at < 128 {
         changed.windows[at] = w;
@@ -68,7 +71,7 @@ pub fn with_window(b: Book, at: usize, w: Window) -> Book {
     changed
 }
 
-pub fn with_instruction(b: Book, at: usize, i: Instruction) -> Book {
+fn with_instruction(b: Book, at: usize, i: Instruction) -> Book {
     let mut changed = b;
     if at < 64 {
         changed.instructions[at] = i;
@@ -76,10 +79,20 @@ pub fn with_instruction(b: Book, at: usize, i: Instruction) -> Book {
     changed
 }
 
-pub fn with_default(b: Book, at: usize, d: Default) -> Book {
+fn with_default(b: Book, at: usize, d: Default) -> Book {
     let mut changed = b;
     if at < 128 {
         changed.defaults[at] = d;
     }
     changed
+}
+
+// A book changed as a line says.
+pub(crate) fn changed(b: Book, letter: u8, line: &[u8]) -> Book {
+    match letter {
+        b'b' => with_field(b, u8_after(line, 1), line),
+        b'w' => with_window(b, usize_after(line, 1), window_of(line, 2)),
+        b'i' => with_instruction(b, usize_after(line, 1), instruction_of(line, 2)),
+        _ => with_default(b, usize_after(line, 1), default_of(line, 2)),
+    }
 }

@@ -1,9 +1,9 @@
-// The script's text: lines, and the numbers in them.
+// The script's text: lines, their letters, and the numbers in them.
 ghost use Prim.Native.Nat.{_≤_};
 ghost use lib.ListN.{length};
 
 // Where the line that starts at a place ends.
-pub fn line_end(text: &[u8], from: usize) -> usize
+pub(crate) fn line_end(text: &[u8], from: usize) -> usize
     requires { ⌜ from ≤ length (now text) ⌝ }
     ensures { λ r. ⌜ (from ≤ r) × (r ≤ length (now (text .entry))) ⌝ }
 {
@@ -18,8 +18,26 @@ pub fn line_end(text: &[u8], from: usize) -> usize
 }
 
 // A line's first byte; of an empty line, that of a heading.
-pub fn first(line: &[u8]) -> u8 {
+pub(crate) fn letter_of(line: &[u8]) -> u8 {
     if line.len() == 0 { b'#' } else { line[0] }
+}
+
+// Where the number after so many spaces of a line begins.
+fn number_start(line: &[u8], spaces: usize) -> usize
+    ensures { λ r. ⌜ r ≤ length (now (line .entry)) ⌝ }
+{
+    let mut left = spaces;
+    let mut at = 0;
+    while at < line.len() {
+        if left == 0 {
+            return at;
+        }
+        if line[at] == b' ' {
+            left -= 1;
+        }
+        at += 1;
+    }
+    at
 }
 
 // One digit more, which is the last four bits of its byte. What is longer than 19 digits loses its first ones.
@@ -28,18 +46,15 @@ fn with_digit(n: u64, c: u8) -> u64 {
 }
 
 // The digits of the number after so many spaces of a line.
-pub fn digits(line: &[u8], spaces: usize) -> u64 {
+pub(crate) fn digits_after(line: &[u8], spaces: usize) -> u64 {
     let mut n: u64 = 0;
-    let mut left = spaces;
-    let mut at = 0;
+    let mut at = number_start(line, spaces);
     while at < line.len() {
         let c = line[at];
         if c == b' ' {
-            if left == 0 {
-                return n;
-            }
-            left -= 1;
-        } else if (left == 0) & (b'0' <= c) & (c <= b'9') {
+            return n;
+        }
+        if (b'0' <= c) & (c <= b'9') {
             n = with_digit(n, c);
         }
         at += 1;
@@ -48,41 +63,32 @@ pub fn digits(line: &[u8], spaces: usize) -> u64 {
 }
 
 // Whether that number has a minus sign.
-pub fn minus(line: &[u8], spaces: usize) -> bool {
-    let mut left = spaces;
-    let mut at = 0;
-    while at < line.len() {
-        let c = line[at];
-        if c == b' ' {
-            if left == 0 {
-                return false;
-            }
-            left -= 1;
-        } else if (left == 0) & (c == b'-') {
-            return true;
-        }
-        at += 1;
+fn minus_after(line: &[u8], spaces: usize) -> bool {
+    let at = number_start(line, spaces);
+    if at < line.len() {
+        line[at] == b'-'
+    } else {
+        false
     }
-    false
 }
 
-pub fn signed(line: &[u8], spaces: usize) -> i64 {
-    let n = (digits(line, spaces) % 9223372036854775808) as i64;
-    if minus(line, spaces) { 0 - n } else { n }
+pub(crate) fn i64_after(line: &[u8], spaces: usize) -> i64 {
+    let n = (digits_after(line, spaces) % 9223372036854775808) as i64;
+    if minus_after(line, spaces) { 0 - n } else { n }
 }
 
-pub fn byte(line: &[u8], spaces: usize) -> u8 {
-    (digits(line, spaces) % 256) as u8
+pub(crate) fn u8_after(line: &[u8], spaces: usize) -> u8 {
+    (digits_after(line, spaces) % 256) as u8
 }
 
-pub fn short(line: &[u8], spaces: usize) -> u16 {
-    (digits(line, spaces) % 65536) as u16
+pub(crate) fn u16_after(line: &[u8], spaces: usize) -> u16 {
+    (digits_after(line, spaces) % 65536) as u16
 }
 
-pub fn long(line: &[u8], spaces: usize) -> u32 {
-    (digits(line, spaces) % 4294967296) as u32
+pub(crate) fn u32_after(line: &[u8], spaces: usize) -> u32 {
+    (digits_after(line, spaces) % 4294967296) as u32
 }
 
-pub fn size(line: &[u8], spaces: usize) -> usize {
-    digits(line, spaces) as usize
+pub(crate) fn usize_after(line: &[u8], spaces: usize) -> usize {
+    digits_after(line, spaces) as usize
 }

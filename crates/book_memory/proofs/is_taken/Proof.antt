@@ -12,8 +12,8 @@ returns c = rw (le-ltb _ _ (c .if1 .taken), and-false)
 
 returns-2 : tie.Need-returns-2
 unfolding takesReading
-returns-2 c = rw (c .input-refusal .ensures, c .before .kw-from-to .ensures, c .before .before .cell .ensures, lt-ltb _ _ (c .before .before .before .if1 .left), and-true)
+returns-2 c = rw (c .before .input-refusal .ensures, c .has-reading .ensures, lt-ltb _ _ (c .before .before .if1 .left), and-true)
 
 pub is-taken-spec : {M : Type 1} → statement M
 is-taken-spec =
-    tie.close (tie.spec (λ c. search needs) returns (λ c κs. search needs) (λ c κs. search needs) (λ c κs. search needs) returns-2)
+    tie.close (tie.spec (λ c. search needs) returns (λ c κs. search needs) (λ c κs. search needs) returns-2)

@@ -1,3 +1,4 @@
+-- `book_memory::mark` meets its contract: after each turn one cell more, from the front, is marked, and the others are as they were.
 use Prim.Native.Nat.{_≤_, _-_}
 use mathlib.Core.Path.{_≡_, refl, ap, _∙_}
 use mathlib.Core.List.{List, _++_}

@@ -1,3 +1,4 @@
+-- `book_memory::put_reading` meets its contract: a reading in its range fits a cell.
 use borrow.Author.Needs.{needs}
 use mir.Syntax.{w64}
 use mir.Val.{SFits}

@@ -1,3 +1,4 @@
+-- `book_memory::take_in_span` meets its contract: a reading that is taken has a cell, and goes into it.
 use borrow.Author.Needs.{needs}
 use mathlib.Core.Path.{refl, sym, ap, _∙_}
 use Rattle.book_memory.specs.Meter.{lent}

@@ -1,3 +1,4 @@
+-- `book_memory::take_reading` meets its contract: every command but a reading is left alone.
 use borrow.Author.Needs.{needs}
 use Rattle.book_memory.specs.Meter.{takesReading}
 use Rattle.book_memory.proofs.take_reading.Statement.{statement}

@@ -32,7 +32,8 @@ ends : (c : tie.In-loop Inv-loop μ-loop)
 ends c =
     let l = c .before .loop in
     let a = c .before .before .before .args in
-    next-ends (a .t4) (a .at) (l .place) (l .k) (a .count) (length (a .out .now)) (inside c) (omega arith) (l .inv .1 .stands) (c .before .before .before .pre .1)
+    next-ends (a .t4) (a .at) (l .place) (l .k) (a .count) (length (a .out .now)) (inside c) (omega arith) (l .inv .1 .stands)
+    (c .before .before .before .pre .1)
 
 long : (c : tie.In-loop Inv-loop μ-loop) → length (c .before .loop .out) ≡ length (c .before .before .before .args .out .now)
 long c = put-long _ _ _ _ _ _ _ (c .before .loop .inv .1) (le-of-lt (inside c)) (le-of-lt (has c)) (omega (arith, ends c))
@@ -58,7 +59,8 @@ same-length c =
     let widths : length (a .t4) ≡ 11 = search needs in
     let operands : length (a .t5) ≡ 11 = search needs in
     let few = c .before .before .before .pre .0 .few in
-    let room : l .place ≤ length (a .out .now) = omega (arith, c .before .before .before .pre .1, l .inv .1 .stands, total-within (a .t4) (l .k) (a .count) (l .inv .0)) in
+    let room : l .place ≤ length (a .out .now) =
+    omega (arith, c .before .before .before .pre .1, l .inv .1 .stands, total-within (a .t4) (l .k) (a .count) (l .inv .0)) in
     put-long _ _ _ _ _ _ _ (l .inv .1) (omega arith) (omega arith) room
 
 returns : tie.Need-returns Inv-loop μ-loop

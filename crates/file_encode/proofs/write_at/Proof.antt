@@ -43,7 +43,8 @@ module _ (command : Command) (m : List ℕ) (at : ℕ) (row : Row) (is : row ≡
     asked : Narrow (row .count) (row .widths) × (at + 1 + total (take (row .count) (row .widths)) ≤ length (set m at (row .byte)))
     asked = (rw is (row-narrow (byteOf command)), rw length-set within)
 
-    module _ (v out : List ℕ) (holds : v ≡ padded (operandsOf command)) (put : out ≡ putAt (writeOperands (take (row .count) (row .widths)) v) (set m at (row .byte)) (at + 1)) where
+    module _ (v out : List ℕ) (holds : v ≡ padded (operandsOf command))
+        (put : out ≡ putAt (writeOperands (take (row .count) (row .widths)) v) (set m at (row .byte)) (at + 1)) where
       bytes : out ≡ putAt (write command) m at
       bytes =
           put ∙ put-cons (row .byte) (writeOperands (take (row .count) (row .widths)) v) m at (omega (arith, within))
@@ -57,12 +58,17 @@ module _ (command : Command) (m : List ℕ) (at : ℕ) (row : Row) (is : row ≡
 row-is : (c : tie.After-row-of) → c .row-of .result ≡ rowFor (byteOf (c .before .before .before .args .command))
 row-is c = c .row-of .ensures ∙ ap rowFor (c .before .byte-of .ensures)
 
-room : (c : tie.Else1) → leb (c .before .before .before .before .before .before .args .at + c .before .before .before .row-of .result .length) (length (c .before .before .before .before .before .before .args .out .now)) ≡ true
+room : (c : tie.Else1)
+    → leb (c .before .before .before .before .before .before .args .at + c .before .before .before .row-of .result .length) (length (c .before .before .before .before .before .before .args .out .now)) ≡ true
 room c = sym (c .before .room-for .ensures) ∙ not-false _ (c .if1 .left)
 
 ends : (c : tie.Else1)
-    → c .before .before .before .before .before .before .args .at + 1 + total (take (c .before .before .before .row-of .result .count) (c .before .before .before .row-of .result .widths)) ≤ length (c .before .before .before .before .before .before .args .out .now)
-ends c = let a = c .before .before .before .before .before .before .args in within (a .command) (a .out .now) (a .at) _ (row-is (c .before .before .before)) (room c)
+    → c .before .before .before .before .before .before .args .at + 1 + total
+    (take (c .before .before .before .row-of .result .count) (c .before .before .before .row-of .result .widths))
+    ≤ length (c .before .before .before .before .before .before .args .out .now)
+ends c =
+    let a = c .before .before .before .before .before .before .args in
+    within (a .command) (a .out .now) (a .at) _ (row-is (c .before .before .before)) (room c)
 
 returns : tie.Need-returns
 returns c = refused _ _ _ _ (row-is (c .before .before .before)) (sym (c .before .room-for .ensures) ∙ not-true _ (c .if1 .taken))
@@ -74,12 +80,19 @@ add-put-operands : tie.Need-add-put-operands
 add-put-operands c = omega (arith, ends (c .before .before .before))
 
 put-operands-requires : tie.Need-put-operands-requires
-put-operands-requires c κs = let a = c .before .before .before .before .before .before .before .before .before .before .args in asked (a .command) (a .out .now) (a .at) _ (row-is (c .before .before .before .before .before .before .before)) (room (c .before .before .before .before))
+put-operands-requires c κs =
+    let a = c .before .before .before .before .before .before .before .before .before .before .args in
+    asked (a .command) (a .out .now) (a .at) _ (row-is (c .before .before .before .before .before .before .before))
+    (room (c .before .before .before .before))
 
 add-t10 : tie.Need-add-t10
 add-t10 c =
     let a = c .before .before .before .before .before .before .before .before .before .before .before .before .before .args in
-    omega (arith, leb-true (a .at + c .before .before .before .before .before .before .before .before .before .before .row-of .result .length) (length (a .out .now)) (room (c .before .before .before .before .before .before .before)))
+    omega (
+      arith,
+      leb-true (a .at + c .before .before .before .before .before .before .before .before .before .before .row-of .result .length)
+          (length (a .out .now)) (room (c .before .before .before .before .before .before .before)),
+    )
 
 same-length : tie.Need-same-length
 same-length c = c .before .before .put-operands .kept .0 ∙ simp length-set
@@ -87,7 +100,9 @@ same-length c = c .before .before .put-operands .kept .0 ∙ simp length-set
 returns-2 : tie.Need-returns-2
 returns-2 c =
     let a = c .before .before .before .before .before .before .before .before .before .before .before .before .before .args in
-    written (a .command) (a .out .now) (a .at) _ (row-is (c .before .before .before .before .before .before .before .before .before .before)) (room (c .before .before .before .before .before .before .before)) _ _ (c .before .before .before .before .before .before .operands-of .ensures) (c .before .before .put-operands .ensures)
+    written (a .command) (a .out .now) (a .at) _ (row-is (c .before .before .before .before .before .before .before .before .before .before))
+    (room (c .before .before .before .before .before .before .before)) _ _ (c .before .before .before .before .before .before .operands-of .ensures)
+    (c .before .before .put-operands .ensures)
 
 pub write-at-spec : {M : Type 1} → statement M
 write-at-spec =

@@ -18,7 +18,8 @@ returns : tie.Need-returns
 returns c =
     let f = c .before .before in
     let s = f .before .before in
-    rw (c .refused .ensures) (refused-11 (s .args .b) (lent (s .args .meter .now)) (s .args .out .now) (sym (f .sound .ensures) ∙ not-true _ (c .before .if1 .taken)))
+    rw (c .refused .ensures) (refused-11 (s .args .b) (lent (s .args .meter .now)) (s .args .out .now)
+    (sym (f .sound .ensures) ∙ not-true _ (c .before .if1 .taken)))
 
 -- past 11
 left : (c : tie.Else1) → sound (c .before .before .before .args .b) ≡ true
@@ -29,7 +30,8 @@ returns-2 c =
     let p = c .before .before in
     let e = p .before in
     let s = e .before .before .before in
-    rw (c .refused2 .ensures) (refused-15 (s .args .b) (lent (s .args .meter .now)) (s .args .out .now) (left e) (rw (p .cells .ensures) at (c .before .if2 .taken)))
+    rw (c .refused2 .ensures) (refused-15 (s .args .b) (lent (s .args .meter .now)) (s .args .out .now) (left e)
+    (rw (p .cells .ensures) at (c .before .if2 .taken)))
 
 -- past 15
 within : (c : tie.Else2)
@@ -48,11 +50,13 @@ returns-3 c =
     let e = f .before .before .before in
     let s = e .before .before .before in
     rw (c .refused3 .ensures)
-    (refused-26 (s .args .b) (lent (s .args .meter .now)) (s .args .out .now) (left e) (within (f .before)) (rw (f .file-length .ensures) at (c .before .if3 .taken)))
+    (refused-26 (s .args .b) (lent (s .args .meter .now)) (s .args .out .now) (left e) (within (f .before))
+    (rw (f .file-length .ensures) at (c .before .if3 .taken)))
 
 -- past 26
 long : (c : tie.Else3)
-    → length (fileBytes (parts (c .before .before .before .before .before .before .before .args .b) (lent (c .before .before .before .before .before .before .before .args .meter .now))))
+    → length (fileBytes (parts (c .before .before .before .before .before .before .before .args .b)
+    (lent (c .before .before .before .before .before .before .before .args .meter .now))))
     ≤ length (c .before .before .before .before .before .before .before .args .out .now)
 long c = rw (c .before .file-length .ensures) at (c .if3 .left)
 

@@ -1,11 +1,9 @@
--- `host::stor_settle_file` meets its contract: the room for sums decides first, then how entering ended, and then the settlement.
-use mathlib.Core.Path.{_≡_, refl, sym, _∙_, ap}
+-- `host::stor_settle_file` meets its contract: how entering ended decides first, and then the settlement.
+use mathlib.Core.Path.{_≡_, sym, _∙_, ap, ap₂}
 use mathlib.Core.List.{List}
-use Prim.Native.Nat.{ℕ, _≤_, _<_}
+use Prim.Native.Nat.{ℕ}
 use native.Mathlib.Omega.{arith}
 use lib.IntN.{ℤ}
-use lib.ListN.{length}
-use borrow.Author.Tests.{le-ltb, lt-ltb}
 use Rattle.book_memory.specs.Meter.{Memory, lent}
 use Rattle.rules.specs.declared.answer.Answer.{Answer}
 use Rattle.rules.specs.declared.answer.Answer.the-variants.{Taken, Refused}
@@ -14,71 +12,62 @@ use Rattle.book.proofs.Tested.{sound-parts}
 use Rattle.file_load.specs.Load.{LoadedFile, load}
 use Rattle.file_load.specs.declared.file.Loaded.{Loaded}
 use Rattle.host.specs.Answers.{packed}
-use Rattle.host.specs.Calls.{SettledFile, settleInto, settlesBy, settleFile}
+use Rattle.host.specs.Calls.{SettledBook, SettledFile, settledBook, settledFile, settleInto, settlesBy, settleFile}
 use borrow.Author.Needs.{needs}
 use Rattle.host.proofs.stor_settle_file.Statement.{statement}
 use Rattle.host.proofs.stor_settle_file.Tie as tie
 
-module _ (file : List ℕ) (meter : Memory) (lines sums : List ℤ) where
+module _ (file : List ℕ) (meter meter′ : Memory) (lines sums : List ℤ) (l : Loaded) where
   abbrev whole : SettledFile
   whole = settleFile file meter lines sums
 
   abbrev entered : LoadedFile
   entered = load file emptyBook meter
 
-  short : (r : ℕ) → length sums < 262 → r ≡ packed 26 0 → (r ≡ whole .answer) × (meter ≡ whole .meter) × (lines ≡ whole .lines) × (sums ≡ whole .sums)
-  unfolding settleFile
-  short r h e = rw (lt-ltb (length sums) 262 h) (e, refl, refl, refl)
-
-  module _ (h : 262 ≤ length sums) (l : Loaded) (el : l ≡ entered .loaded) where
-    long : (a : Answer) → l .answer ≡ a → whole ≡ settlesBy a entered lines sums
+  module _ (el : l ≡ entered .loaded) (em : meter′ ≡ entered .meter) where
+    by-answer : (a : Answer) → l .answer ≡ a → settlesBy a entered lines sums ≡ whole
     unfolding settleFile
-    long a e = rw (le-ltb (length sums) 262 h) (ap (λ z. settlesBy z entered lines sums) (ap (λ (z : Loaded). z .answer) (sym el) ∙ e))
+    by-answer a e = ap (λ z. settlesBy z entered lines sums) (sym e ∙ ap (λ (z : Loaded). z .answer) el)
 
     taken :
-        (r n : ℕ) (meter′ : Memory) (lines′ sums′ : List ℤ) → l .answer ≡ Taken → meter′ ≡ entered .meter
-        → n ≡ settleInto (l .book) meter′ lines sums .number → lines′ ≡ settleInto (l .book) meter′ lines sums .lines
-        → sums′ ≡ settleInto (l .book) meter′ lines sums .sums → r ≡ packed n (l .at)
-        → (r ≡ whole .answer) × (meter′ ≡ whole .meter) × (lines′ ≡ whole .lines) × (sums′ ≡ whole .sums)
-    taken r n meter′ lines′ sums′ e em en els es er = rw (long Taken e, ← el, ← em) (er ∙ ap (λ z. packed z (l .at)) en, refl, els, es)
+        (r n : ℕ) (lines′ sums′ : List ℤ) → l .answer ≡ Taken → settledBook n lines′ sums′ ≡ settleInto (l .book) meter′ lines sums → r ≡ packed n (l .at)
+        → settledFile r meter′ lines′ sums′ ≡ whole
+    taken r n lines′ sums′ e es er =
+        ap (λ z. settledFile z meter′ lines′ sums′) er
+        ∙ ap (λ (z : SettledBook). settledFile (packed (z .number) (l .at)) meter′ (z .lines) (z .sums)) es
+        ∙ ap₂ (λ (x : Loaded) m. settlesBy Taken (record { loaded = x; meter = m }) lines sums) el em
+        ∙ by-answer Taken e
 
-    refused :
-        (r n : ℕ) (meter′ : Memory) → l .answer ≡ Refused n → meter′ ≡ entered .meter → r ≡ packed n (l .at)
-        → (r ≡ whole .answer) × (meter′ ≡ whole .meter) × (lines ≡ whole .lines) × (sums ≡ whole .sums)
-    refused r n meter′ e em er = rw (long (Refused n) e, ← el) (er, em, refl, refl)
-
-returns : tie.Need-returns
-returns c =
-    let a = c .before .before .before .args in
-    short (a .file .now) (lent (a .meter .now)) (a .lines .now) (a .sums .now) _ (c .before .if1 .taken) (c .pack .ensures)
+    refused : (r n : ℕ) → l .answer ≡ Refused n → r ≡ packed n (l .at) → settledFile r meter′ lines sums ≡ whole
+    refused r n e er =
+        ap (λ z. settledFile z meter′ lines sums) er
+        ∙ ap₂ (λ (x : Loaded) m. settlesBy (Refused n) (record { loaded = x; meter = m }) lines sums) el em
+        ∙ by-answer (Refused n) e
 
 settle-book-requires : tie.Need-settle-book-requires
 settle-book-requires c κs =
     let l = c .before .before .before .before .before .before .before .load-file in
-    (c .before .before .before .before .before .before .before .before .before .if1 .left, omega (arith, sound-parts (l .result .book) (l .ensures .2) .tables .windows))
+    omega (arith, sound-parts (l .result .book) (l .ensures .2) .tables .windows)
+
+returns : tie.Need-returns
+returns c =
+    let a = c .before .before .before .before .before .before .before .before .before .before .before .before .before .before .args in
+    let l = c .before .before .before .before .before .before .before .before .before .before .before .load-file in
+    let s = c .before .before .before .settle-book in
+    taken (a .file .now) (lent (a .meter .now)) _ (a .lines .now) (a .sums .now) (l .result) (l .ensures .0) (l .ensures .1) _ (s .result) _ _
+    (c .before .before .before .before .before .before .before .enum-told .given .1) (s .ensures) (c .pack .ensures)
 
 returns-2 : tie.Need-returns-2
 returns-2 c =
-    let a = c .before .before .before .before .before .before .before .before .before .before .before .before .before .before .before .args in
-    let l = c .before .before .before .before .before .before .before .before .before .before .before .load-file in
-    let s = c .before .before .before .settle-book in
-    taken (a .file .now) (lent (a .meter .now)) (a .lines .now) (a .sums .now) (c .before .before .before .before .before .before .before .before .before .before .before .before .before .if1 .left) (l .result) (l .ensures .0) _ (s .result) _ _ _
-    (c .before .before .before .before .before .before .before .enum-told .given .1) (l .ensures .1)
-    (s .ensures .0) (s .ensures .1) (s .ensures .2) (c .pack2 .ensures)
-
-returns-3 : tie.Need-returns-3
-returns-3 c =
-    let a = c .before .before .before .before .before .before .before .before .before .before .args in
+    let a = c .before .before .before .before .before .before .before .before .before .args in
     let l = c .before .before .before .before .before .before .load-file in
-    refused (a .file .now) (lent (a .meter .now)) (a .lines .now) (a .sums .now) (c .before .before .before .before .before .before .before .before .if1 .left) (l .result) (l .ensures .0) _ _ _
-    (c .before .before .answer .given .1) (l .ensures .1) (c .pack3 .ensures)
+    refused (a .file .now) (lent (a .meter .now)) _ (a .lines .now) (a .sums .now) (l .result) (l .ensures .0) (l .ensures .1) _ _
+    (c .before .before .answer .given .1) (c .pack2 .ensures)
 
 pub stor-settle-file-spec : {M : Type 1} → statement M
 stor-settle-file-spec =
     tie.close
     (tie.spec
-    (λ c κs. search needs)
-    returns
     (λ c κs. search needs)
     (λ c. search needs)
     settle-book-requires
@@ -88,6 +77,6 @@ stor-settle-file-spec =
     (λ c. search needs)
     (λ c. search needs)
     (λ c. search needs)
-    returns-2
+    returns
     (λ c. search needs)
-    returns-3)
+    returns-2)

@@ -39,11 +39,13 @@ laid-next s m l i d x y h k em ex ey =
     let p : List ℤ = take 6 s ++ concatMap pairOf (take i l) in
     let e : 2 * i + 7 ≡ suc (2 * i + 6) = omega arith in
     let f : suc (suc (2 * i + 6)) ≡ 2 * (i + 1) + 6 = omega arith in
+    let more : concatMap pairOf (take i l) ++ (x ∷ y ∷ []) ≡ concatMap pairOf (take (i + 1) l) =
+    rw (ex, ey, add-one i) (sym (concat-suc pairOf l i d k)) in
     ap (λ z. set (set z (2 * i + 6) x) (2 * i + 7) y) em
     ∙ ap (λ n. set (set (p ++ drop (2 * i + 6) s) (2 * i + 6) x) n y) e
     ∙ put-two p s (2 * i + 6) x y (laid-front s l i (omega arith) (omega arith)) (omega arith)
     ∙ ap (λ n. p ++ (x ∷ y ∷ []) ++ drop n s) f
-    ∙ ap (λ z. z ++ drop (2 * (i + 1) + 6) s) (append-assoc (take 6 s) (concatMap pairOf (take i l)) (x ∷ y ∷ []) ∙ ap (λ z. take 6 s ++ z) (rw (ex, ey, add-one i) (sym (concat-suc pairOf l i d k))))
+    ∙ ap (λ z. z ++ drop (2 * (i + 1) + 6) s) (append-assoc (take 6 s) (concatMap pairOf (take i l)) (x ∷ y ∷ []) ∙ ap (λ z. take 6 s ++ z) more)
 
 abbrev Inv-loop : tie.InvT-loop
 Inv-loop sums₀ entries i₀ sums i = (i ≤ 128) × (length sums ≡ length sums₀) × (sums ≡ Laid sums₀ entries i)
@@ -88,7 +90,9 @@ returns c =
     let at = c .before .before in
     let l = c .before .loop in
     let e : l .i ≡ 128 = omega arith in
-    l .inv .2 ∙ ap (Laid (at .args .sums .now) (at .args .t2)) e ∙ ap (λ z. take 6 (at .args .sums .now) ++ concatMap pairOf z ++ drop 262 (at .args .sums .now)) (take-all 128 (at .args .t2) (omega (arith, whole at)))
+    let s = at .args .sums .now in
+    l .inv .2 ∙ ap (Laid s (at .args .t2)) e
+    ∙ ap (λ z. take 6 s ++ concatMap pairOf z ++ drop 262 s) (take-all 128 (at .args .t2) (omega (arith, whole at)))
 
 pub put-entries-spec : {M : Type 1} → statement M
 put-entries-spec =

@@ -1,4 +1,4 @@
--- `host_sums::put_totals` meets its contract: six stores from the front.
+-- `host_sums::put_totals` meets its contract: six stores from the front, each of which keeps the length, are the totals.
 use mathlib.Core.Path.{_≡_, refl, _∙_}
 use mathlib.Core.List.{List, [], _∷_, _++_}
 use Prim.Native.Nat.{ℕ, _≤_}
@@ -23,21 +23,6 @@ six-stores :
     → sets m 0 (x₀ ∷ x₁ ∷ x₂ ∷ x₃ ∷ x₄ ∷ x₅ ∷ []) ≡ totalsOf s n ++ drop 6 m
 six-stores s n m x₀ x₁ x₂ x₃ x₄ x₅ h e₀ e₁ e₂ e₃ e₄ e₅ = sets-eq (x₀ ∷ x₁ ∷ x₂ ∷ x₃ ∷ x₄ ∷ x₅ ∷ []) m 0 h ∙ rw (e₀, e₁, e₂, e₃, e₄, e₅) refl
 
-slice-set-from-sums-2 : tie.Need-slice-set-from-sums-2
-slice-set-from-sums-2 c = simp length-set (omega arith)
-
-slice-set-from-capped : tie.Need-slice-set-from-capped
-slice-set-from-capped c = simp length-set (omega arith)
-
-slice-set-from-utilisation : tie.Need-slice-set-from-utilisation
-slice-set-from-utilisation c = simp length-set (omega arith)
-
-slice-set-from-availability : tie.Need-slice-set-from-availability
-slice-set-from-availability c = simp length-set (omega arith)
-
-same-length : tie.Need-same-length
-same-length c = simp length-set refl
-
 returns : tie.Need-returns
 returns c =
     let at = c .before .before .before .before .before in
@@ -58,10 +43,10 @@ put-totals-spec =
     (λ c. search needs)
     (λ c. search needs)
     (λ c. search needs)
-    slice-set-from-sums-2
-    slice-set-from-capped
-    slice-set-from-utilisation
-    slice-set-from-availability
+    (λ c. simp length-set (omega arith))
+    (λ c. simp length-set (omega arith))
+    (λ c. simp length-set (omega arith))
+    (λ c. simp length-set (omega arith))
     (λ c. search needs)
-    same-length
+    (λ c. simp length-set refl)
     returns)

@@ -2,7 +2,7 @@
 use Prim.Native.Nat.{_/_}
 use mathlib.Core.Bool.{true}
 use lib.ListN.{length}
-use Rattle.host_tables.specs.Tables.{bookOf}
+use Rattle.host_tables.specs.Tables.{bookOf, windowNumbers, instructionNumbers, defaultNumbers}
 use borrow.Author.Needs.{needs}
 use Rattle.host_tables.proofs.book_of.Statement.{statement}
 use Rattle.host_tables.proofs.book_of.Tie as tie
@@ -14,13 +14,13 @@ returns c =
     λ i. record {
       agreed = true;
       closed = true;
-      contract = c .before .before .before .contract-of .ensures i;
+      contract = c .before .before .before .contract-in .ensures i;
       windows = c .before .before .windows-of .ensures i;
-      nwindows = length (a .windows .now) / 3;
+      nwindows = length (a .windows .now) / windowNumbers;
       instructions = c .before .instructions-of .ensures i;
-      ninstructions = length (a .instructions .now) / 2;
+      ninstructions = length (a .instructions .now) / instructionNumbers;
       defaults = c .defaults-of .ensures i;
-      ndefaults = length (a .defaults .now) / 3;
+      ndefaults = length (a .defaults .now) / defaultNumbers;
     }
 
 pub book-of-spec : {M : Type 1} → statement M

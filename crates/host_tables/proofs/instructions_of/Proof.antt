@@ -1,44 +1,34 @@
 -- `host_tables::instructions_of` meets its contract. The invariant: the first i places are filled. Places after the table's last number are unused.
-use mathlib.Core.Path.{_≡_, refl}
-use mathlib.Core.List.{List}
-use Prim.Native.Nat.{ℕ, _+_, _*_, _≤_, _-_}
-use lib.ListN.{length, getD, List·getD-eq-default}
+use mathlib.Core.List.{[]}
+use Prim.Native.Nat.{_≤_, _-_}
 use native.Mathlib.Omega.{arith}
 use borrow.Author.Needs.{needs}
-use Rattle.book.specs.Book.{noInstruction}
-use Rattle.host_tables.specs.Tables.{instructionAt}
-use Rattle.host_tables.proofs.Filled.{Filled, filled-none, filled-next, filled-all}
+use Rattle.host_tables.specs.Tables.{entryAt, instructionIn, instructionNumbers}
+use Rattle.host_tables.proofs.Filled.{Rows, filled-none, rows-next, rows-all}
 use Rattle.host_tables.proofs.instructions_of.Statement.{statement}
 use Rattle.host_tables.proofs.instructions_of.Tie as tie
 
--- an entry after the table's end
-past : (s : List ℕ) (j : ℕ) → length s ≤ 2 * j → instructionAt s j ≡ noInstruction
-unfolding instructionAt
-past s j h =
-    let a : getD s (2 * j) 0 ≡ 0 = List·getD-eq-default s 0 h in
-    let b : getD s (2 * j + 1) 0 ≡ 0 = List·getD-eq-default s 0 (omega arith) in
-    rw (a, b) refl
-
 abbrev Inv-loop : tie.InvT-loop
-Inv-loop s n instructions₀ i₀ instructions i = (i ≤ n) × Filled (instructionAt s) noInstruction 64 i instructions
+Inv-loop s n entries₀ i₀ entries i = (i ≤ n) × Rows instructionIn instructionNumbers s 64 i entries
 
 abbrev μ-loop : tie.MeasureT-loop
-μ-loop s n instructions₀ i₀ instructions i = n - i
+μ-loop s n entries₀ i₀ entries i = n - i
 
 loop-holds : tie.Need-loop-holds Inv-loop μ-loop
-loop-holds c = (omega arith, filled-none (instructionAt (c .before .before .args .s .now)) noInstruction 64)
+unfolding instructionIn
+loop-holds c = (omega arith, filled-none (entryAt instructionIn instructionNumbers (c .before .before .args .s .now)) (instructionIn []) 64)
 
 loop-again : tie.Need-loop-again Inv-loop μ-loop
 loop-again c =
-    let s = c .before .before .before .before .before .args .s .now in
-    let l = c .before .before .loop in
-    (omega arith, filled-next (instructionAt s) noInstruction 64 (l .i) (l .instructions) (c .instruction-at .result) (omega arith) (c .instruction-at .ensures) (l .inv .1))
+    let s = c .before .before .before .before .before .before .args .s .now in
+    let l = c .before .before .before .loop in
+    let e = c .instruction-in in
+    (omega arith, rows-next instructionIn instructionNumbers s 64 (l .i) (l .entries) (e .result) (omega arith) (e .ensures) (l .inv .1))
 
 returns : tie.Need-returns Inv-loop μ-loop
 returns c =
-    let s = c .before .before .before .before .args .s .now in
     let l = c .before .loop in
-    filled-all (instructionAt s) noInstruction 64 (l .i) (l .instructions) (l .inv .1) (λ j h k. past s j (omega arith))
+    rows-all instructionIn instructionNumbers (c .before .before .before .before .args .s .now) 64 (l .i) (l .entries) (l .inv .1) (λ j h k. omega arith)
 
 pub instructions-of-spec : {M : Type 1} → statement M
 instructions-of-spec =
@@ -48,6 +38,11 @@ instructions-of-spec =
     μ-loop
     (λ c κs. search needs)
     loop-holds
+    (λ c. search needs)
+    (λ c. search needs)
+    (λ c. search needs)
+    (λ c. search needs)
+    (λ c. search needs)
     (λ c κs. search needs)
     (λ c. search needs)
     (λ c. search needs)

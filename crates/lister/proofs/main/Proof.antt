@@ -7,22 +7,13 @@ use Rattle.energy.proofs.Puts.{laid-within}
 use Rattle.lister.proofs.main.Statement.{statement}
 use Rattle.lister.proofs.main.Tie as tie
 
-put-answer-requires : tie.Need-put-answer-requires
-put-answer-requires c κs = tt
-
 array-share-prefix-rows : tie.Need-array-share-prefix-rows
-array-share-prefix-rows c = laid-within (omega arith) (c .put-answer .ensures)
+array-share-prefix-rows c = laid-within (omega arith) (c .before .before .list-input .ensures .prints)
 
 slice-aggregate-write-all : tie.Need-slice-aggregate-write-all
 slice-aggregate-write-all c =
-    let p = c .before .put-answer in
-    sym (length-take-le (p .result) (p .last .1 .1 .0) (array-share-prefix-rows (c .before)))
-
-write-all-requires : tie.Need-write-all-requires
-write-all-requires c κs = tt
-
-returns : tie.Need-returns
-returns c = tt
+    let l = c .before .before .before .list-input in
+    sym (length-take-le (l .result) (l .last .1 .1 .0) (array-share-prefix-rows (c .before)))
 
 pub main-spec : {M : Type 1} → statement M
 main-spec =
@@ -31,9 +22,7 @@ main-spec =
     (λ c. search needs)
     (λ c. search needs)
     (λ c κs. search needs)
-    (λ c. search needs)
-    put-answer-requires
     array-share-prefix-rows
     slice-aggregate-write-all
-    write-all-requires
-    returns)
+    (λ c κs. search needs)
+    (λ c. search needs))

@@ -32,7 +32,8 @@ returns c =
     let m = l .before .before in
     let s = m .before .before in
     let lines = rw (take-most (m .at-most .result) (s .args .s .lines) (s .args .lines) (tables s .0) (m .at-most .ensures)) at (l .put-lines .ensures .0) in
-    let windows = rw (take-most (n .at-most2 .result) (s .args .windows) (s .args .s .windows) (tables s .1) (n .at-most2 .ensures)) at (w .put-windows .ensures .0) in
+    let windows =
+    rw (take-most (n .at-most2 .result) (s .args .windows) (s .args .s .windows) (tables s .1) (n .at-most2 .ensures)) at (w .put-windows .ensures .0) in
     let totals = rw (row-bytes (totalsRow (s .args .s)) (t .totals-row .ensures .0)) at (c .put-row .ensures) in
     laid-both (omega arith) (laid-both (omega arith) lines windows) totals
 

@@ -31,13 +31,17 @@ slice-write-out : tie.Need-slice-write-out Inv-loop μ-loop
 slice-write-out c =
     let s = c .before .before .before in
     let l = long s in
-    rw (c .before .loop .inv .1) (rw (length-paste (s .args .out .now) (s .args .at) (s .args .r .bytes) (c .before .loop .i) (omega arith) (omega arith)) (omega arith))
+    rw (c .before .loop .inv .1) (rw (length-paste (s .args .out .now) (s .args .at) (s .args .r .bytes) (c .before .loop .i) (omega arith) (omega arith))
+    (omega arith))
 
 loop-again : tie.Need-loop-again Inv-loop μ-loop
 loop-again c =
     let s = c .before .before .before in
-    let l = long s in
-    (search needs, rw (add-one (c .before .loop .i), c .before .loop .inv .1) (paste-suc (s .args .out .now) (s .args .at) (s .args .r .bytes) (c .before .loop .i) 0 (omega arith) (omega arith)))
+    let l = long s in (
+      search needs,
+      rw (add-one (c .before .loop .i), c .before .loop .inv .1)
+          (paste-suc (s .args .out .now) (s .args .at) (s .args .r .bytes) (c .before .loop .i) 0 (omega arith) (omega arith)),
+    )
 
 same-length : tie.Need-same-length Inv-loop μ-loop
 same-length c =

@@ -1,4 +1,4 @@
--- `settle_live::is_live` meets its contract. Assumes nothing.
+-- `settle_live::is_live` meets its contract: the two tests decide, or the instructions do. Assumes nothing.
 use mathlib.Core.Path.{refl, ap}
 use mathlib.Core.Bool.{not}
 use native.Mathlib.Omega.{arith}
@@ -14,11 +14,16 @@ returns c = rw (ne-eqb (c .before .before .before .args .w .verdict) 0 (c .if1 .
 
 returns-2 : tie.Need-returns-2
 unfolding isLive
-returns-2 c = let a = c .before .before .before .before .args in rw (eq-eqb (a .w .verdict) 0 (c .before .if1 .left), lt-leb 1 (a .recovery) (omega (arith, c .if2 .taken))) refl
+returns-2 c =
+    let a = c .before .before .before .before .before .args in
+    rw (eq-eqb (a .w .verdict) 0 (c .before .before .if1 .left), lt-leb 1 (a .recovery .0) (omega (arith, c .if2 .taken))) refl
 
 returns-3 : tie.Need-returns-3
 unfolding isLive
-returns-3 c = let a = c .before .before .before .before .before .args in rw (eq-eqb (a .w .verdict) 0 (c .before .before .if1 .left), le-leb 1 (a .recovery) (omega (arith, c .before .if2 .left))) (ap not (c .excluded .ensures))
+returns-3 c =
+    let a = c .before .before .before .before .before .before .before .args in
+    rw (eq-eqb (a .w .verdict) 0 (c .before .before .before .before .if1 .left), le-leb 1 (a .recovery .0) (omega (arith, c .before .before .if2 .left)))
+    (ap not (c .excluded .ensures))
 
 pub is-live-spec : {M : Type 1} → statement M
-is-live-spec = tie.close (tie.spec returns returns-2 (λ c. search needs) (λ c κs. search needs) returns-3)
+is-live-spec = tie.close (tie.spec returns returns-2 (λ c κs. search needs) returns-3)

@@ -1,4 +1,5 @@
--- `settle_numbers::fill_numbers` meets its contract. The invariant: the numbers of k lines stand before those that are as they were, and the cursor is before line k. Assumes nothing.
+-- `settle_numbers::fill_numbers` meets its contract. The invariant: the numbers of k lines stand before those that are as they were, and the cursor is
+-- before line k.
 use mathlib.Core.Path.{_≡_, refl, sym, _∙_, ap, subst}
 use mathlib.Core.List.{_++_}
 use Prim.Native.Nat.{_+_, _-_, _*_, _≤_}
@@ -15,7 +16,8 @@ use Rattle.settle_numbers.proofs.fill_numbers.Statement.{statement}
 use Rattle.settle_numbers.proofs.fill_numbers.Tie as tie
 
 abbrev Inv-loop : tie.InvT-loop
-Inv-loop numbers₀ t times live meter n c₀ k₀ numbers c k = (k ≤ n) × (c ≡ cursorAt t times live meter k) × (numbers ≡ numbersTo (steppedLine t times live meter) k ++ drop (8 * k) numbers₀)
+Inv-loop numbers₀ t times live meter n c₀ k₀ numbers c k =
+    (k ≤ n) × (c ≡ cursorAt t times live meter k) × (numbers ≡ numbersTo (steppedLine t times live meter) k ++ drop (8 * k) numbers₀)
 
 abbrev μ-loop : tie.MeasureT-loop
 μ-loop numbers₀ t times live meter n c₀ k₀ numbers c k = n - k
@@ -38,7 +40,8 @@ put-requires c κs =
     let s = c .before .before .before .before .before .before .before in
     let l = c .before .before .before .loop in
     let a = s .args in
-    omega (arith, s .pre .0, same-size (steppedLine (a .t) (a .times .now) (a .live .now) (a .meter .now)) (l .k) (a .numbers .now) (l .numbers) (omega (arith, s .pre .0)) (l .inv .2))
+    let line = steppedLine (a .t) (a .times .now) (a .live .now) (a .meter .now) in
+    omega (arith, s .pre .0, same-size line (l .k) (a .numbers .now) (l .numbers) (omega (arith, s .pre .0)) (l .inv .2))
 
 loop-again : tie.Need-loop-again Inv-loop μ-loop
 loop-again c =
@@ -59,7 +62,8 @@ same-length c =
     let s = c .before .before .before .before .before in
     let l = c .before .loop in
     let a = s .args in
-    same-size (steppedLine (a .t) (a .times .now) (a .live .now) (a .meter .now)) (l .k) (a .numbers .now) (l .numbers) (omega (arith, s .pre .0)) (l .inv .2)
+    let line = steppedLine (a .t) (a .times .now) (a .live .now) (a .meter .now) in
+    same-size line (l .k) (a .numbers .now) (l .numbers) (omega (arith, s .pre .0)) (l .inv .2)
 
 returns : tie.Need-returns Inv-loop μ-loop
 returns c =

@@ -1,4 +1,4 @@
--- `settle_numbers::put` meets its contract: the eight stores, in a row, are one. Assumes nothing.
+-- `settle_numbers::put` meets its contract: each store keeps the length, and the eight stores, in a row, are one.
 use mathlib.Core.Path.{refl, _∙_}
 use native.Mathlib.Omega.{arith}
 use lib.ListN.{length-set}
@@ -10,30 +10,6 @@ use mir.Facts.{toZ-ofZ}
 use Rattle.settle_numbers.proofs.Numbered.{eight-stores}
 use Rattle.settle_numbers.proofs.put.Statement.{statement}
 use Rattle.settle_numbers.proofs.put.Tie as tie
-
-slice-set-from-period : tie.Need-slice-set-from-period
-slice-set-from-period c = simp length-set (omega arith)
-
-slice-set-from-stage : tie.Need-slice-set-from-stage
-slice-set-from-stage c = simp length-set (omega arith)
-
-slice-set-from-rate : tie.Need-slice-set-from-rate
-slice-set-from-rate c = simp length-set (omega arith)
-
-slice-set-from-expected : tie.Need-slice-set-from-expected
-slice-set-from-expected c = simp length-set (omega arith)
-
-slice-set-from-delivered : tie.Need-slice-set-from-delivered
-slice-set-from-delivered c = simp length-set (omega arith)
-
-slice-set-from-capped : tie.Need-slice-set-from-capped
-slice-set-from-capped c = simp length-set (omega arith)
-
-slice-set-from-pence : tie.Need-slice-set-from-pence
-slice-set-from-pence c = simp length-set (omega arith)
-
-same-length : tie.Need-same-length
-same-length c = simp length-set refl
 
 returns : tie.Need-returns
 returns c =
@@ -63,24 +39,24 @@ put-spec =
     (λ c. search needs)
     (λ c. search needs)
     (λ c. search needs)
-    slice-set-from-period
+    (λ c. simp length-set (omega arith))
     (λ c. search needs)
     (λ c. search needs)
-    slice-set-from-stage
+    (λ c. simp length-set (omega arith))
     (λ c. search needs)
     (λ c. search needs)
-    slice-set-from-rate
+    (λ c. simp length-set (omega arith))
     (λ c. search needs)
     (λ c. search needs)
-    slice-set-from-expected
+    (λ c. simp length-set (omega arith))
     (λ c. search needs)
     (λ c. search needs)
-    slice-set-from-delivered
+    (λ c. simp length-set (omega arith))
     (λ c. search needs)
     (λ c. search needs)
-    slice-set-from-capped
+    (λ c. simp length-set (omega arith))
     (λ c. search needs)
     (λ c. search needs)
-    slice-set-from-pence
-    same-length
+    (λ c. simp length-set (omega arith))
+    (λ c. simp length-set refl)
     returns)

@@ -1,4 +1,4 @@
--- `settle_numbers::rate_number` meets its contract. Assumes nothing.
+-- `settle_numbers::rate_number` meets its contract: each arm knows its rate.
 use mathlib.Core.Path.{refl}
 use borrow.Author.Needs.{needs}
 use Rattle.settle_numbers.proofs.rate_number.Statement.{statement}

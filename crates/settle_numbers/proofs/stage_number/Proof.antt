@@ -1,4 +1,4 @@
--- `settle_numbers::stage_number` meets its contract. Assumes nothing.
+-- `settle_numbers::stage_number` meets its contract: each arm knows its stage.
 use mathlib.Core.Path.{refl}
 use borrow.Author.Needs.{needs}
 use Rattle.settle_numbers.proofs.stage_number.Statement.{statement}

@@ -27,8 +27,12 @@ loop-holds c = (omega arith, omega arith, sym (all-none (has (c .args .meter .no
 loop-again : tie.Need-loop-again Inv-loop μ-loop
 loop-again c =
     let l = c .before .before in
-    let x : SFits w32 (getD (l .before .args .meter .now) (l .loop .i) (pos 0)) = record { sfits = c .x .given } in
-    (omega arith, omega arith, simp toZ-ofZ (ap (λ b. b && has (l .before .args .meter .now) (l .loop .i)) (l .loop .inv .2) ∙ sym (all-snoc (has (l .before .args .meter .now)) (l .before .args .from) (l .loop .i) (l .loop .inv .0))))
+    let x : SFits w32 (getD (l .before .args .meter .now) (l .loop .i) (pos 0)) = record { sfits = c .x .given } in (
+      omega arith,
+      omega arith,
+      simp toZ-ofZ (ap (λ b. b && has (l .before .args .meter .now) (l .loop .i)) (l .loop .inv .2)
+          ∙ sym (all-snoc (has (l .before .args .meter .now)) (l .before .args .from) (l .loop .i) (l .loop .inv .0))),
+    )
 
 returns : tie.Need-returns Inv-loop μ-loop
 returns c = let e : c .before .loop .i ≡ c .before .before .args .to = omega arith in c .before .loop .inv .2 ∙ rw e refl

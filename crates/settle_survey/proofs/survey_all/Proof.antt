@@ -1,4 +1,4 @@
--- `settle_survey::survey_all` meets its contract. Assumes nothing.
+-- `settle_survey::survey_all` meets its contract. The invariant: the survey is that of the first i instructions, and its count is bounded. Assumes nothing.
 use mathlib.Core.Path.{_≡_, refl, sym, _∙_, ap}
 use Prim.Native.Nat.{_-_, _*_, _≤_}
 use native.Mathlib.Numerals.{add-one}
@@ -22,13 +22,17 @@ surveyed-requires c κs = (c .before .before .before .pre, (omega arith, c .befo
 
 loop-again : tie.Need-loop-again Inv-loop μ-loop
 loop-again c =
-    let a = c .before .before .before .before .args in let l = c .before .before .loop in
-    (omega arith, c .surveyed .ensures .1, c .surveyed .ensures .0 ∙ ap (surveyOf (a .t) (a .times .now) (a .meter .now) (l .i)) (l .inv .2) ∙ ap (surveyTo (a .t) (a .times .now) (a .meter .now)) (sym (add-one (l .i))))
+    let a = c .before .before .before .before .args in let l = c .before .before .loop in (
+      omega arith,
+      c .surveyed .ensures .1,
+      c .surveyed .ensures .0 ∙ ap (surveyOf (a .t) (a .times .now) (a .meter .now) (l .i)) (l .inv .2)
+          ∙ ap (surveyTo (a .t) (a .times .now) (a .meter .now)) (sym (add-one (l .i))),
+    )
 
 returns : tie.Need-returns Inv-loop μ-loop
 returns c =
     let a = c .before .before .before .args in let l = c .before .loop in
-    let e : l .i ≡ a .t .calls = omega arith in
+    let e : l .i ≡ a .t .instructions = omega arith in
     l .inv .2 ∙ ap (surveyTo (a .t) (a .times .now) (a .meter .now)) e
 
 pub survey-all-spec : {M : Type 1} → statement M

@@ -1,3 +1,4 @@
+-- `Book::cells` meets its contract.
 use borrow.Author.Needs.{needs}
 use Rattle.book.specs.Book.{bookCells}
 use Rattle.book.proofs.Book.cells.Statement.{statement}

@@ -1,3 +1,4 @@
+-- `Book::empty` meets its contract: every field is zeros.
 use mathlib.Core.Path.{refl}
 use Rattle.book.specs.Book.{emptyBook}
 use Rattle.book.proofs.Book.empty.Statement.{statement}

@@ -1,3 +1,4 @@
+-- `Book::empty_sound` meets its contract: the chain of tests is the list of them.
 use borrow.Author.Needs.{needs}
 use mathlib.Core.Bool.{not}
 use mathlib.Core.List.{[], _∷_}

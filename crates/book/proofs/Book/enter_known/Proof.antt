@@ -1,3 +1,4 @@
+-- `Book::enter_known` meets its contract: the book is known to be sound.
 use borrow.Author.Needs.{needs}
 use mathlib.Core.Path.{sym}
 use Rattle.book.proofs.Book.enter_known.Statement.{statement}

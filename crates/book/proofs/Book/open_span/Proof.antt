@@ -1,3 +1,4 @@
+-- `Book::open_span` meets its contract: the test is that of the definition.
 use borrow.Author.Needs.{needs}
 use Rattle.book.specs.Readings.{openSpan}
 use Rattle.book.proofs.Book.open_span.Statement.{statement}

@@ -35,7 +35,8 @@ unfolding sound
 returns-3 c =
     let other = c .before .before .before .before .before .before in
     let past = other .before .before in
-    rw (c .agreed-sound .ensures, c .before .before .before .before .span .ensures, shaped past, not-false (past .before .before .args .self .agreed) (other .if2 .left))
+    let agreed = not-false (past .before .before .args .self .agreed) (other .if2 .left) in
+    rw (c .agreed-sound .ensures, c .before .before .before .before .span .ensures, shaped past, agreed)
 
 pub sound-spec : {M : Type 1} → statement M
 sound-spec =

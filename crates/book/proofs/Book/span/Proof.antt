@@ -1,3 +1,4 @@
+-- `Book::span` meets its contract.
 use borrow.Author.Needs.{needs}
 use Rattle.book.specs.Book.{bookSpan}
 use Rattle.book.proofs.Book.span.Statement.{statement}

@@ -1,3 +1,4 @@
+-- `Book::tables_sound` meets its contract: the counts first, and within them the zeros after the entries in use.
 use mathlib.Core.Path.{_≡_, sym, _∙_}
 use mathlib.Core.Bool.{Bool, _&&_}
 use mathlib.Core.List.{List, [], _∷_}
@@ -19,7 +20,11 @@ abbrev counts : Book → List Bool
 counts b = leb (b .nwindows) 128 ∷ leb (b .ninstructions) 64 ∷ leb (b .ndefaults) 128 ∷ []
 
 abbrev zeros : Book → List Bool
-zeros b = all isNoWindow (drop (b .nwindows) (b .windows)) ∷ all isNoInstruction (drop (b .ninstructions) (b .instructions)) ∷ all isNoDefault (drop (b .ndefaults) (b .defaults)) ∷ []
+zeros b =
+    all isNoWindow (drop (b .nwindows) (b .windows))
+    ∷ all isNoInstruction (drop (b .ninstructions) (b .instructions))
+    ∷ all isNoDefault (drop (b .ndefaults) (b .defaults))
+    ∷ []
 
 apart : (b : Book) → pass (tableTests b) ≡ (pass (counts b) && pass (zeros b))
 unfolding tableTests
@@ -58,7 +63,8 @@ returns-2 c =
     rw (c .before .before .windows-unused .ensures, c .before .instructions-unused .ensures, c .defaults-unused .ensures)
     (sym
     (apart b ∙ rw (sym (counted b) ∙ not-false _ (at .if1 .left))
-    (sym (chain-pass (all isNoWindow (drop (b .nwindows) (b .windows))) (all isNoInstruction (drop (b .ninstructions) (b .instructions)) ∷ all isNoDefault (drop (b .ndefaults) (b .defaults)) ∷ [])))))
+    (sym (chain-pass (all isNoWindow (drop (b .nwindows) (b .windows)))
+    (all isNoInstruction (drop (b .ninstructions) (b .instructions)) ∷ all isNoDefault (drop (b .ndefaults) (b .defaults)) ∷ [])))))
 
 pub tables-sound-spec : {M : Type 1} → statement M
 tables-sound-spec =

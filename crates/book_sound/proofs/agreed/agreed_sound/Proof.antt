@@ -19,32 +19,37 @@ use Rattle.book_sound.proofs.agreed.agreed_sound.Tie as tie
 returns : tie.Need-returns
 returns c =
     let k = c .before .before .args .k in
-    refuted _ (λ t. let p = parts k _ _ _ _ t in c .if1 .taken (c .before .input-refusal .ensures ∙ eqb-true (inputRefusal (contractᶜ k)) 0 (contract-input k ∙ of-T _ (and-T (inRange (contractᶜ k)) (not (rampTooLong (contractᶜ k))) (p .operands) (p .ramps)))))
+    refuted _ (λ t. let p = parts k _ _ _ _ t in c .if1 .taken
+    (c .before .input-refusal .ensures ∙ eqb-true (inputRefusal (contractᶜ k)) 0
+    (contract-input k ∙ of-T _ (and-T (inRange (contractᶜ k)) (not (rampTooLong (contractᶜ k))) (p .operands) (p .ramps)))))
 
 -- past the first test the contract could be entered
 agreed : (c : tie.Else1) → (inRange (contractᶜ (c .before .before .args .k)) ≡ true) × (not (rampTooLong (contractᶜ (c .before .before .args .k))) ≡ true)
 agreed c =
     let k = c .before .before .args .k in
-    on-and (inRange (contractᶜ k)) (not (rampTooLong (contractᶜ k))) (sym (contract-input k) ∙ eq-eqb (inputRefusal (contractᶜ k)) 0 (sym (c .before .input-refusal .ensures) ∙ c .if1 .left))
+    on-and (inRange (contractᶜ k)) (not (rampTooLong (contractᶜ k)))
+    (sym (contract-input k) ∙ eq-eqb (inputRefusal (contractᶜ k)) 0 (sym (c .before .input-refusal .ensures) ∙ c .if1 .left))
 
 windows-sound-requires : tie.Need-windows-sound-requires
 windows-sound-requires c κs = c .before .before .pre .0
 
 returns-2 : tie.Need-returns-2
 returns-2 c =
-    refuted _ (λ t. let p = parts (c .before .before .before .before .args .k) _ _ _ _ t in subst T (sym (c .before .windows-sound .ensures) ∙ not-true _ (c .if2 .taken)) (p .windows))
+    refuted _ (λ t. let p = parts (c .before .before .before .before .args .k) _ _ _ _ t in subst T
+    (sym (c .before .windows-sound .ensures) ∙ not-true _ (c .if2 .taken)) (p .windows))
 
 instructions-sound-requires : tie.Need-instructions-sound-requires
 instructions-sound-requires c κs = (c .before .before .before .before .pre .1, agreed (c .before .before) .0)
 
 returns-3 : tie.Need-returns-3
 returns-3 c =
-    refuted _ (λ t. let p = parts (c .before .before .before .before .before .before .args .k) _ _ _ _ t in subst T (sym (c .before .instructions-sound .ensures) ∙ not-true _ (c .if3 .taken)) (p .instructions))
+    refuted _ (λ t. let p = parts (c .before .before .before .before .before .before .args .k) _ _ _ _ t in subst T
+    (sym (c .before .instructions-sound .ensures) ∙ not-true _ (c .if3 .taken)) (p .instructions))
 
 -- past the other tests the defaults decide
-by-defaults : (c : tie.Else3)
-    → all (defaultSound (c .before .before .before .before .before .before .args .k) (c .before .before .before .before .before .before .args .span) (take (c .before .before .before .before .before .before .args .w) (c .before .before .before .before .before .before .args .windows))) (take (c .before .before .before .before .before .before .args .d) (c .before .before .before .before .before .before .args .defaults))
-    ≡ pass (agreedTests (c .before .before .before .before .before .before .args .k) (c .before .before .before .before .before .before .args .span) (take (c .before .before .before .before .before .before .args .w) (c .before .before .before .before .before .before .args .windows)) (take (c .before .before .before .before .before .before .args .i) (c .before .before .before .before .before .before .args .instructions)) (take (c .before .before .before .before .before .before .args .d) (c .before .before .before .before .before .before .args .defaults)))
+by-defaults : (c : tie.Else3) → let at = c .before .before .before .before .before .before .args in
+    all (defaultSound (at .k) (at .span) (take (at .w) (at .windows))) (take (at .d) (at .defaults))
+    ≡ pass (agreedTests (at .k) (at .span) (take (at .w) (at .windows)) (take (at .i) (at .instructions)) (take (at .d) (at .defaults)))
 by-defaults c =
     same-test _ _ (λ t.
     tested

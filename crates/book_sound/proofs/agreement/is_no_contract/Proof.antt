@@ -1,3 +1,4 @@
+-- `book_sound::is_no_contract` meets its contract: the chain of tests is the list of them.
 use mathlib.Core.List.{[], _∷_}
 use lib.Dec.{eqb}
 use mir.Syntax.{w64}

@@ -1,3 +1,4 @@
+-- `book_sound::in_columns` meets its contract: of windows in order only the last that starts by a minute can hold it.
 use borrow.Author.Needs.{needs}
 use native.Mathlib.Omega.{arith}
 use Rattle.book_sound.proofs.Search.{rising, none-held, last-holds}

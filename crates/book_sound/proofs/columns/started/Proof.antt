@@ -1,3 +1,4 @@
+-- `book_sound::started` meets its contract: below `low` all start by the minute, from `high` on none does, and the two meet.
 use Prim.Native.Nat.{ℕ, _≤_, _<_, _-_}
 use lib.ListN.{getD}
 use native.Mathlib.Omega.{arith}

@@ -1,3 +1,4 @@
+-- `book_sound::starts_of` meets its contract: after each turn one entry more is copied.
 use Prim.Native.Nat.{ℕ, _≤_, _-_}
 use mathlib.Core.Path.{_≡_, refl}
 use mathlib.Core.List.{map}

@@ -1,9 +1,9 @@
+-- `book_sound::defaults::in_window` meets its contract: the columns of windows in order are in order, and what is found in them is in the table.
 use borrow.Author.Needs.{needs}
 use mathlib.Core.Path.{_≡_}
 use Prim.Native.Nat.{_≤_}
 use native.Mathlib.Omega.{arith}
 use lib.ListN.{length}
-use Rattle.energy.proofs.Tests.{to-T}
 use Rattle.rules.proofs.Folds.{length-mapped}
 use Rattle.book_sound.proofs.Search.{ordered, in-table}
 use Rattle.book_sound.proofs.defaults.in_window.Statement.{statement}
@@ -15,8 +15,11 @@ room c = let cells : length (c .args .windows) ≡ 128 = search (length-mapped, 
 
 in-columns-requires : tie.Need-in-columns-requires
 in-columns-requires c κs =
-    let at = c .before .before .before .before in
-    (at .pre .0, rw (c .before .before .before .starts-of .ensures, c .before .before .ends-of .ensures) (ordered (at .args .windows) (at .args .n) (room at) (at .args .k) (at .args .span) (to-T (at .pre .1))))
+    let at = c .before .before .before .before in (
+      at .pre .0,
+      rw (c .before .before .before .starts-of .ensures, c .before .before .ends-of .ensures)
+          (ordered (at .args .windows) (at .args .n) (room at) (at .pre .1)),
+    )
 
 returns : tie.Need-returns
 returns c =

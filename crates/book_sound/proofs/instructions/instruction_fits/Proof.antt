@@ -1,3 +1,4 @@
+-- `book_sound::instruction_fits` meets its contract: its tests are those of the rule, in their order.
 use mathlib.Core.Bool.{and-true}
 use borrow.Author.Needs.{needs}
 use Rattle.rules.specs.Reached.{instructionsSound}
@@ -8,16 +9,16 @@ use Rattle.book_sound.proofs.instructions.instruction_fits.Tie as tie
 returns : tie.Need-returns
 unfolding instructionsSound
 returns c =
-    let at = c .before .before .before .before .before .before in
-    rw (c .before .before .before .before .before .input-refusal .ensures, instruction-input (at .args .i), at .pre, and-true)
+    let asked = c .before .before .before .before .before in
+    let at = asked .before .before in
+    rw (asked .input-refusal .ensures, c .before .before .before .before .end-of .ensures .0, instruction-input (at .args .i), at .pre, and-true)
 
 pub instruction-fits-spec : {M : Type 1} → statement M
 instruction-fits-spec =
     tie.close
     (tie.spec
     (λ c κs. search needs)
-    (λ c. search needs)
-    (λ c. search needs)
+    (λ c κs. search needs)
     (λ c. search needs)
     (λ c. search needs)
     (λ c. search needs)

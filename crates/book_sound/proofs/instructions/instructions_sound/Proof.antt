@@ -1,3 +1,4 @@
+-- `book_sound::instructions_sound` meets its contract: at each turn what the rule says of all is what it says of those not yet seen.
 use Prim.Native.Nat.{_-_, _≤_}
 use mathlib.Core.Path.{_≡_, refl, sym, _∙_}
 use native.Mathlib.Omega.{arith}
@@ -12,7 +13,8 @@ use Rattle.book_sound.proofs.instructions.instructions_sound.Statement.
 use Rattle.book_sound.proofs.instructions.instructions_sound.Tie as tie
 
 abbrev Inv-loop : tie.InvT-loop
-Inv-loop k span n instructions down ready₀ x₀ ready x = (x ≤ n) × (instructionsSound k span 0 (take n instructions) ≡ instructionsSound k span ready (slice x n instructions))
+Inv-loop k span n instructions down ready₀ x₀ ready x =
+    (x ≤ n) × (instructionsSound k span 0 (take n instructions) ≡ instructionsSound k span ready (slice x n instructions))
 
 abbrev μ-loop : tie.MeasureT-loop
 μ-loop k span n instructions down ready₀ x₀ ready x = n - x
@@ -21,14 +23,14 @@ abbrev μ-loop : tie.MeasureT-loop
 room : (c : tie.Start Inv-loop μ-loop) → c .args .n ≤ length (c .args .t3)
 room c = let cells : length (c .args .t3) ≡ 64 = search (length-mapped, needs) in omega (arith, c .pre .0)
 
-down-minutes-requires : tie.Need-down-minutes-requires Inv-loop μ-loop
-down-minutes-requires c κs = c .pre .1
+ramp-down-minutes-requires : tie.Need-ramp-down-minutes-requires Inv-loop μ-loop
+ramp-down-minutes-requires c κs = c .pre .1
 
 loop-holds : tie.Need-loop-holds Inv-loop μ-loop
 loop-holds c = (search needs, refl)
 
 instruction-fits-requires : tie.Need-instruction-fits-requires Inv-loop μ-loop
-instruction-fits-requires c κs = c .before .before .before .down-minutes .ensures
+instruction-fits-requires c κs = c .before .before .before .ramp-down-minutes .ensures
 
 returns : tie.Need-returns Inv-loop μ-loop
 returns c =
@@ -39,12 +41,12 @@ returns c =
 
 loop-again : tie.Need-loop-again Inv-loop μ-loop
 loop-again c =
-    let at = c .before .before .before .before .before .before in
+    let at = c .before .before .before .before .before .before .before in
     let b = at .before .before .args in (
       search needs,
-      rw (at .before .down-minutes .ensures)
+      rw (c .before .end-of .ensures .0, at .before .ramp-down-minutes .ensures)
           (instructions-on (b .k) (b .span) (at .loop .ready) (b .t3) (at .loop .x) (b .n) (omega arith) (room (at .before .before)) (at .loop .inv .1)
-          (sym (c .before .before .before .instruction-fits .ensures) ∙ not-false _ (c .before .before .if1 .left))),
+          (sym (c .before .before .before .before .instruction-fits .ensures) ∙ not-false _ (c .before .before .before .if1 .left))),
     )
 
 returns-2 : tie.Need-returns-2 Inv-loop μ-loop
@@ -61,15 +63,13 @@ instructions-sound-spec =
     (tie.spec
     Inv-loop
     μ-loop
-    down-minutes-requires
+    ramp-down-minutes-requires
     loop-holds
     (λ c. search needs)
     (λ c. search needs)
     instruction-fits-requires
     returns
-    (λ c. search needs)
-    (λ c. search needs)
-    (λ c. search needs)
+    (λ c κs. search needs)
     (λ c. search needs)
     (λ c. search needs)
     (λ c. search needs)

@@ -1,3 +1,4 @@
+-- `book_sound::instructions_unused` meets its contract: at each turn the test of all from n on is that of those not yet seen.
 use Prim.Native.Nat.{_≤_, _-_}
 use mathlib.Core.Path.{_≡_, refl}
 use borrow.Author.Needs.{needs}
@@ -27,17 +28,23 @@ loop-holds c = (search needs, search needs, refl)
 returns : tie.Need-returns Inv-loop μ-loop
 returns c =
     let at = c .before .before .before .before .before in
-    all-fails isNoInstruction (at .before .args .t1) (at .before .args .n) (at .loop .x) noInstruction (at .loop .inv .2) (rw (cells (at .before)) (search needs)) (not-true _ (c .if1 .taken))
+    all-fails isNoInstruction (at .before .args .t1) (at .before .args .n) (at .loop .x) noInstruction (at .loop .inv .2)
+    (rw (cells (at .before)) (search needs)) (not-true _ (c .if1 .taken))
 
 loop-again : tie.Need-loop-again Inv-loop μ-loop
 loop-again c =
-    let at = c .before .before .before .before .before in
-    (search needs, search needs, all-on isNoInstruction (at .before .args .t1) (at .before .args .n) (at .loop .x) noInstruction (at .loop .inv .2) (rw (cells (at .before)) (search needs)) (not-false _ (c .if1 .left)))
+    let at = c .before .before .before .before .before in (
+      search needs,
+      search needs,
+      all-on isNoInstruction (at .before .args .t1) (at .before .args .n) (at .loop .x) noInstruction (at .loop .inv .2)
+          (rw (cells (at .before)) (search needs)) (not-false _ (c .if1 .left)),
+    )
 
 returns-2 : tie.Need-returns-2 Inv-loop μ-loop
 returns-2 c =
     let at = c .before in
-    all-passes isNoInstruction (at .before .args .t1) (at .before .args .n) (at .loop .x) noInstruction (at .loop .inv .2) (rw (cells (at .before)) (search needs))
+    all-passes isNoInstruction (at .before .args .t1) (at .before .args .n) (at .loop .x) noInstruction (at .loop .inv .2)
+    (rw (cells (at .before)) (search needs))
 
 pub instructions-unused-spec : {M : Type 1} → statement M
 instructions-unused-spec =

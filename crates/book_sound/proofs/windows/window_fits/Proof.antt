@@ -1,3 +1,4 @@
+-- `book_sound::window_fits` meets its contract: its tests are those of the rule, in their order.
 use mathlib.Core.Bool.{and-true}
 use borrow.Author.Needs.{needs}
 use Rattle.rules.specs.Reached.{windowsSound}

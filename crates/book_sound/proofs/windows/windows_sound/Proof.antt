@@ -1,3 +1,4 @@
+-- `book_sound::windows_sound` meets its contract: at each turn what the rule says of all is what it says of those not yet seen.
 use Prim.Native.Nat.{_-_, _≤_}
 use mathlib.Core.Path.{_≡_, refl, sym, _∙_}
 use native.Mathlib.Omega.{arith}

@@ -1,4 +1,4 @@
--- `energy::money::capped_kwh` meets its contract. Assumes nothing.
+-- `energy::money::capped_kwh` meets its contract: the test decides which of the two is the lesser. Assumes nothing.
 use mathlib.Core.Path.{refl}
 use native.Mathlib.Omega.{arith}
 use mir.Syntax.{w64}

@@ -1,4 +1,4 @@
--- `energy::money::expected_kwh` meets its contract. Assumes nothing.
+-- `energy::money::expected_kwh` meets its contract: the rounded number is `half_up`'s promise, and fits. Assumes nothing.
 use Prim.Native.Nat.{_≤_}
 use native.Mathlib.Omega.{arith}
 use borrow.Author.Needs.{needs}

@@ -1,4 +1,4 @@
--- `energy::money::kwh_of` meets its contract. Assumes nothing.
+-- `energy::money::kwh_of` meets its contract: it is the quotient by 240. Assumes nothing.
 use mathlib.Core.Path.{_∙_}
 use native.Mathlib.Omega.{arith}
 use borrow.Author.Needs.{needs}

@@ -1,4 +1,4 @@
--- `energy::money::pay` meets its contract. Assumes nothing.
+-- `energy::money::pay` meets its contract: the test says what `payment_pence` asks for. Assumes nothing.
 use mathlib.Core.Path.{_≡_, refl, ap}
 use mathlib.Core.Bool.{true, _&&_}
 use native.Mathlib.Omega.{arith}
@@ -17,7 +17,8 @@ use Rattle.energy.proofs.money.pay.Statement.{statement}
 use Rattle.energy.proofs.money.pay.Tie as tie
 
 -- the test, of the number that the machine holds
-inside : (c : tie.Then1) → (leZ (negsuc 499999) (c .before .before .args .capped .0) && leZ (c .before .before .args .capped .0) (pos 500000) && leb (c .before .before .args .rate) 1000000) ≡ true
+inside : (c : tie.Then1) → (leZ (negsuc 499999) (c .before .before .args .capped .0) && leZ (c .before .before .args .capped .0) (pos 500000) && leb
+    (c .before .before .args .rate) 1000000) ≡ true
 inside c =
     let f : SFits w64 (c .before .before .args .capped .0) = omega arith in
     simp toZ-ofZ at (c .if1 .taken)

@@ -1,4 +1,4 @@
--- `energy::round::half_up` meets its contract. Assumes nothing.
+-- `energy::round::half_up` meets its contract: half of the divisor added, the quotient rounds down to the nearest. Assumes nothing.
 use borrow.Author.Needs.{needs}
 use Rattle.energy.proofs.Rounding.{half-up}
 use Rattle.energy.proofs.round.half_up.Statement.{statement}

@@ -1,4 +1,4 @@
--- `energy::round::nearest` meets its contract. Assumes nothing.
+-- `energy::round::nearest` meets its contract: a divisor from 1 is what `quotient` asks for. Assumes nothing.
 use mathlib.Core.Path.{refl, _∙_, ap}
 use native.Mathlib.Omega.{arith}
 use borrow.Author.Needs.{needs}
@@ -11,7 +11,9 @@ use Rattle.energy.proofs.round.nearest.Tie as tie
 
 returns : tie.Need-returns
 unfolding rounded
-returns c = let s = c .before .before in let f = s .fits .n in rw (le-leb 1 (s .args .d) (omega arith)) (ap Value (toZ-ofZ (omega arith) ∙ simp toZ-ofZ at (c .quotient .ensures)))
+returns c =
+    let s = c .before .before in let f = s .fits .n in rw (le-leb 1 (s .args .d) (omega arith))
+    (ap Value (toZ-ofZ (omega arith) ∙ simp toZ-ofZ at (c .quotient .ensures)))
 
 returns-2 : tie.Need-returns-2
 unfolding rounded

@@ -29,10 +29,10 @@ shaped : (c : tie.Start Inv-loop μ-loop) → Shaped (c .args .b)
 shaped c = record { windows = search (length-mapped, needs); instructions = search (length-mapped, needs); defaults = search (length-mapped, needs) }
 
 loop-holds : tie.Need-loop-holds Inv-loop μ-loop
-loop-holds c = (refl, record { left = c .before .before .pre; shaped = shaped (c .before .before) }, omega arith, refl, c .open-span .ensures)
+loop-holds c = (refl, record { sound = c .before .before .pre; shaped = shaped (c .before .before) }, omega arith, refl, c .open-span .ensures)
 
 read-and-enter-requires : tie.Need-read-and-enter-requires Inv-loop μ-loop
-read-and-enter-requires c κs = c .before .before .before .before .before .before .loop .inv .1 .left
+read-and-enter-requires c κs = c .before .before .before .before .before .before .loop .inv .1 .sound
 
 loop-less : tie.Need-loop-less Inv-loop μ-loop
 loop-less c =
@@ -42,7 +42,12 @@ loop-less c =
     let e = d .read-and-enter .ensures in
     let run = r .take-readings .ensures .0 in
     rw (r .before .before .before .loop-test .taken)
-    (omega (arith, run .forward, less (at .before .before .before .args .s .now) (r .take-readings .result) (at .loop .l .book) _ (d .read-and-enter .result) _ (e .0) (e .1) (run .inside (at .loop .inv .2))))
+    (omega (
+      arith,
+      run .forward,
+      less (at .before .before .before .args .s .now) (r .take-readings .result) (at .loop .l .book) _
+          (d .read-and-enter .result) _ (e .0) (e .1) (run .inside (at .loop .inv .2)),
+    ))
 
 loop-again : tie.Need-loop-again Inv-loop μ-loop
 loop-again c =
@@ -70,7 +75,7 @@ unfolding load from
 returns c =
     let inv = c .before .loop .inv in
     let e = rw (c .loop-test .left) at (inv .0) in
-    (ap (λ f. f .loaded) e, ap (λ f. f .meter) e, inv .1 .left, inv .2)
+    (ap (λ f. f .loaded) e, ap (λ f. f .meter) e, inv .1 .sound, inv .2)
 
 pub load-spec : {M : Type 1} → statement M
 load-spec =

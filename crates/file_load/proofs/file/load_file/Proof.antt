@@ -7,7 +7,7 @@ use Rattle.file_load.proofs.file.load_file.Statement.{statement}
 use Rattle.file_load.proofs.file.load_file.Tie as tie
 
 load-requires : tie.Need-load-requires
-load-requires c κs = rw (c .before .empty .ensures) (starts (lent []) .left)
+load-requires c κs = rw (c .before .empty .ensures) (starts (lent []) .sound)
 
 returns : tie.Need-returns
 returns c =

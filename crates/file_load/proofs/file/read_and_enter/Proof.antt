@@ -1,25 +1,39 @@
 -- `file_load::file::read_and_enter` meets its contract: what was read decides, and a command read is entered.
-use mathlib.Core.Path.{refl}
+use mathlib.Core.Path.{_≡_, refl, sym, ap, _∙_}
 use borrow.Author.Needs.{needs}
+use Rattle.rules.specs.File.{readAt}
+use Rattle.file_read.specs.Reader.{after, stepAt}
 use Rattle.file_load.specs.Turn.{turnAt}
 use Rattle.file_load.proofs.file.read_and_enter.Statement.{statement}
 use Rattle.file_load.proofs.file.read_and_enter.Tie as tie
 
+-- what the reader found is what stands there, and where it stands after a command is behind it
+found : (c : tie.After-read-from) → c .read-from .result .read ≡ readAt (c .before .before .args .s .now) (c .before .before .args .at)
+unfolding stepAt
+found c = ap (λ x. x .read) (c .read-from .ensures)
+
+moved : (c : tie.After-read-from)
+    → c .read-from .result .at ≡ after (readAt (c .before .before .args .s .now) (c .before .before .args .at)) (c .before .before .args .at)
+unfolding stepAt
+moved c = ap (λ x. x .at) (c .read-from .ensures)
+
 returns : tie.Need-returns
 unfolding turnAt
-returns c = rw (← c .before .before .before .read-at .ensures, c .before .enum-told .given .1) (c .stopped .ensures, refl)
+returns c = rw (← found (c .before .before .before), c .before .enum-told .given .1) (c .stopped .ensures, refl)
 
 returns-2 : tie.Need-returns-2
 unfolding turnAt
-returns-2 c = rw (← c .before .before .before .before .read-at .ensures, c .before .before .n .given .1) (c .stopped2 .ensures, refl)
+returns-2 c = rw (← found (c .before .before .before .before), c .before .before .read .given .1) (c .stopped2 .ensures, refl)
 
 returns-3 : tie.Need-returns-3
 unfolding turnAt
 returns-3 c =
-    let read = c .before .before .before .before .before .before .before .read-at .ensures in
-    let got = c .before .before .before .before .before .c .given .1 in
+    let d = c .before .before .before .before .before .before .before in
+    let read = found d in
+    let got = c .before .before .before .before .before .read2 .given .1 in
+    let next = moved d ∙ ap (λ r. after r (d .before .before .args .at)) (sym read ∙ got) in
     let e = c .before .before .enter-known .ensures in
-    rw (← read, got) (rw (← e .entry) (c .entered .ensures), e .meter)
+    rw (← read, got) (rw (← e .entry, ← next) (c .entered .ensures), e .meter)
 
 pub read-and-enter-spec : {M : Type 1} → statement M
 read-and-enter-spec =

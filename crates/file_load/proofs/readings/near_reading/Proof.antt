@@ -16,7 +16,8 @@ use Rattle.file_load.proofs.readings.near_reading.Tie as tie
 below : (i : ℕ) (c : tie.After-shared-slice-known) (n : ℕ) → wordFrom 0 (take i (drop n (c .before .args .s .now))) < 256 ^ i
 below i c n = word-below i (drop n (c .before .args .s .now)) (λ k. rw getD-drop (c .shared-slice-known .given (n + k) .fits))
 
-minute : (c : tie.After-number-in) → c .number-in .result ≡ wordFrom 0 (take 2 (drop (c .before .before .before .args .at + 1) (c .before .before .before .args .s .now)))
+minute : (c : tie.After-number-in)
+    → c .number-in .result ≡ wordFrom 0 (take 2 (drop (c .before .before .before .args .at + 1) (c .before .before .before .args .s .now)))
 minute c =
     let at = c .before .before .before .args .at in
     let two : at + 1 + 2 - (at + 1) ≡ 2 = omega arith in
@@ -25,7 +26,8 @@ minute c =
 cast-t13 : tie.Need-cast-t13
 cast-t13 c = record { fits = rw (minute c) (below 2 (c .before .before) (c .before .before .before .args .at + 1)) }
 
-kw : (c : tie.After-number-in2) → c .number-in2 .result ≡ wordFrom 0 (take 4 (drop (c .before .before .before .before .before .args .at + 3) (c .before .before .before .before .before .args .s .now)))
+kw : (c : tie.After-number-in2)
+    → c .number-in2 .result ≡ wordFrom 0 (take 4 (drop (c .before .before .before .before .before .args .at + 3) (c .before .before .before .before .before .args .s .now)))
 kw c =
     let at = c .before .before .before .before .before .args .at in
     let four : at + 1 + 2 + 4 - (at + 1 + 2) ≡ 4 = omega arith in
@@ -36,7 +38,10 @@ near-kw-requires : tie.Need-near-kw-requires
 near-kw-requires c κs = rw (kw c) (below 4 (c .before .before .before .before) (c .before .before .before .before .before .args .at + 3))
 
 returns : tie.Need-returns
-returns c = (minute (c .before .before .before), rw (toZ-ofZ {w = w64} {z = c .near-kw .result} (record { sfits = c .near-kw .ok }), ← kw (c .before)) (c .near-kw .ensures))
+returns c = (
+  minute (c .before .before .before),
+  rw (toZ-ofZ {w = w64} {z = c .near-kw .result} (record { sfits = c .near-kw .ok }), ← kw (c .before)) (c .near-kw .ensures),
+)
 
 pub near-reading-spec : {M : Type 1} → statement M
 near-reading-spec =

@@ -22,14 +22,20 @@ loop-holds : tie.Need-loop-holds Inv-loop μ-loop
 loop-holds c = (run-none _ _ _ _, refl)
 
 -- a whole reading stands there
-stands : (c : tie.Then1 Inv-loop μ-loop) → (c .before .before .loop .at + 7 ≤ length (c .before .before .before .before .args .s .now)) × (getD (c .before .before .before .before .args .s .now) (c .before .before .loop .at) 0 ≡ 0x4D)
+stands : (c : tie.Then1 Inv-loop μ-loop)
+    → let at = c .before .before .loop .at in
+    let s = c .before .before .before .before .args .s .now in
+    (at + 7 ≤ length s) × (getD s at 0 ≡ 0x4D)
 stands c = whole _ _ (sym (c .before .whole-reading .ensures) ∙ c .if1 .taken)
 
 take-at-requires : tie.Need-take-at-requires Inv-loop μ-loop
 take-at-requires c κs = stands (c .before)
 
 -- a turn more
-turned : (c : tie.After-take-at Inv-loop μ-loop) → let l = c .before .before .before .before in let a = l .before .before .args in Run (a .span) (a .s .now) (a .start) (lent (a .meter .now)) (cond (c .take-at .result) (l .loop .at + 7) (l .loop .at)) (lent (c .take-at .last .1 .1 .1 .0))
+turned : (c : tie.After-take-at Inv-loop μ-loop)
+    → let l = c .before .before .before .before in
+    let a = l .before .before .args in
+    Run (a .span) (a .s .now) (a .start) (lent (a .meter .now)) (cond (c .take-at .result) (l .loop .at + 7) (l .loop .at)) (lent (c .take-at .last .1 .1 .1 .0))
 turned c =
     let l = c .before .before .before .before in
     run-more _ _ _ _ (l .loop .at) (lent (l .loop .meter)) (c .take-at .result) _ (l .loop .inv .0) (stands (c .before .before) .0) (c .take-at .ensures)

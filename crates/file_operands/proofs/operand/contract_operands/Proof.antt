@@ -12,7 +12,8 @@ cast-t15 c = omega (arith, c .struct-known10 .given)
 
 returns : tie.Need-returns
 returns c =
-    let f : SFits w64 (c .before .before .before .before .before .before .before .before .before .before .before .before .before .before .before .args .k .contracted .0) = search needs in
+    let f : SFits w64 (c .before .before .before .before .before .before .before .before .before .before .before .before .before .before .before .args .k .contracted .0) =
+    search needs in
     rw (c .before .before .before .before .before .before .before .magnitude .ensures, toZ-ofZ f)
 
 pub contract-operands-spec : {M : Type 1} → statement M

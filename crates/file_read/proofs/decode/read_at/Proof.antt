@@ -1,5 +1,5 @@
 -- `file_read::decode::read_at` meets its contract: each of its answers is one of the four things that can be found at a position.
-use mathlib.Core.Path.{_≡_, sym}
+use mathlib.Core.Path.{_≡_, sym, _∙_}
 use mathlib.Core.List.{List}
 use mathlib.Core.Option.{some}
 use Prim.Native.Nat.{ℕ, _+_, _-_, _≤_, _<_}
@@ -7,13 +7,13 @@ use native.Mathlib.Omega.{arith}
 use borrow.Author.Needs.{needs}
 use lib.ListN.{length, getD, take, drop}
 use lib.Seq.{getD-drop}
-use Rattle.rules.specs.File.{table, widthsOf, total, operands, commandOf, readAt}
-use Rattle.commands.specs.declared.entries.Command.{Command}
-use Rattle.rules.specs.declared.file.Read.the-variants.{Got, Refused}
+use Rattle.rules.specs.File.{table, widthsOf, total, operands, commandOf, readAs, readAt}
+use Rattle.rules.specs.declared.file.Read.{Read}
+use Rattle.rules.specs.declared.file.Read.the-variants.{Refused}
 use Rattle.file_table.specs.Table.{padded, rowFor, byteWidths}
 use Rattle.file_table.specs.Operands.{Narrow, Sized}
 use Rattle.file_table.specs.declared.table.Row.{Row}
-use Rattle.file_read.proofs.Found.{ended, unknown, short, entire, found-reads}
+use Rattle.file_read.proofs.Found.{ended, unknown, short, entire-reads, found-reads}
 use Rattle.file_table.proofs.Operands.{getD-padded, command-padded, operand-below}
 use Rattle.file_table.proofs.Rows.{row-widths, row-none, row-some, row-length, row-narrow}
 use Rattle.file_table.proofs.Words.{Bytes}
@@ -51,8 +51,8 @@ module _ (s : List ℕ) (at : ℕ) (inside : at < length s) (row : Row) (is : ro
         fits : Bytes s → Sized (getD s at 0) v
         fits h = record { sized = λ k. rw (holds, getD-padded) (operand-below (ws s at) (drop (at + 1) s) (λ j. rw getD-drop (h (at + 1 + j))) k) }
 
-        got : (c : Command) → c ≡ commandOf (getD s at 0) v → Got c (at + row .length) ≡ readAt s at
-        got c e = rw (e, holds, command-padded, long) (sym (found-reads (entire inside known (rw long at room))))
+        got : (r : Read) → r ≡ readAs (commandOf (getD s at 0) v) (at + row .length) → r ≡ readAt s at
+        got r e = e ∙ rw (holds, command-padded, long) (entire-reads s at inside (ws s at) known (rw long at room))
 
 returns : tie.Need-returns
 returns c = sym (found-reads (ended (c .if1 .taken)))
@@ -61,19 +61,28 @@ returns-2 : tie.Need-returns-2
 returns-2 c = not-there _ _ (c .before .before .before .before .if1 .left) _ (c .before .before .row-of .ensures) (c .if2 .taken)
 
 returns-3 : tie.Need-returns-3
-returns-3 c = too-short _ _ (c .before .before .before .before .before .if1 .left) _ (c .before .before .before .row-of .ensures) (c .before .if2 .left) (c .if3 .taken)
+returns-3 c =
+    too-short _ _ (c .before .before .before .before .before .if1 .left) _ (c .before .before .before .row-of .ensures) (c .before .if2 .left)
+    (c .if3 .taken)
 
 operands-at-requires : tie.Need-operands-at-requires
 operands-at-requires c κs =
-    asked (c .before .before .before .before .before .before .before .before .before .args .s .now) _ (c .before .before .before .before .before .before .before .if1 .left) _ (c .before .before .before .before .before .row-of .ensures) (c .before .before .before .if2 .left) (c .before .before .if3 .left)
+    asked (c .before .before .before .before .before .before .before .before .before .args .s .now) _
+    (c .before .before .before .before .before .before .before .if1 .left) _ (c .before .before .before .before .before .row-of .ensures)
+    (c .before .before .before .if2 .left) (c .before .before .if3 .left)
 
 command-of-requires : tie.Need-command-of-requires
 command-of-requires c κs =
-    fits _ _ (c .before .before .before .before .before .before .before .before .if1 .left) _ (c .before .before .before .before .before .before .row-of .ensures) (c .before .before .before .before .if2 .left) (c .before .before .before .if3 .left) _ (c .operands-at .ensures) (λ k. c .before .before .before .before .before .before .before .before .before .shared-slice-known .given k .fits)
+    fits _ _ (c .before .before .before .before .before .before .before .before .if1 .left) _
+    (c .before .before .before .before .before .before .row-of .ensures) (c .before .before .before .before .if2 .left)
+    (c .before .before .before .if3 .left) _ (c .operands-at .ensures)
+    (λ k. c .before .before .before .before .before .before .before .before .before .shared-slice-known .given k .fits)
 
 returns-4 : tie.Need-returns-4
 returns-4 c =
-    got _ _ (c .before .before .before .before .before .before .before .before .before .if1 .left) _ (c .before .before .before .before .before .before .before .row-of .ensures) (c .before .before .before .before .before .if2 .left) (c .before .before .before .before .if3 .left) _ (c .before .operands-at .ensures) _ (c .command-of .ensures)
+    got _ _ (c .before .before .before .before .before .before .before .before .before .if1 .left) _
+    (c .before .before .before .before .before .before .before .row-of .ensures) (c .before .before .before .before .before .if2 .left)
+    (c .before .before .before .before .if3 .left) _ (c .before .operands-at .ensures) _ (c .command-of .ensures)
 
 pub read-at-spec : {M : Type 1} → statement M
 read-at-spec =
@@ -89,6 +98,6 @@ read-at-spec =
     (λ c. search needs)
     (λ c. search needs)
     operands-at-requires
-    command-of-requires
     (λ c. search needs)
+    command-of-requires
     returns-4)

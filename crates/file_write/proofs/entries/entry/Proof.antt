@@ -14,7 +14,9 @@ shaped : (c : tie.Start) → Shaped (c .args .t1)
 shaped c = record { windows = search (length-mapped, needs); instructions = search (length-mapped, needs); defaults = search (length-mapped, needs) }
 
 window-below : (c : tie.After-enum-told) → c .before .before .args .i < 128
-window-below c = place-below windowᶜ (c .before .before .args .t1 .windows) _ (rw (c .enum-told .given .1) at (c .before .before .pre)) (shaped (c .before .before) .windows)
+window-below c =
+    place-below windowᶜ (c .before .before .args .t1 .windows) _ (rw (c .enum-told .given .1) at (c .before .before .pre))
+    (shaped (c .before .before) .windows)
 
 mul-w : tie.Need-mul-w
 mul-w c = record { fits = omega (arith, window-below c) }
@@ -23,7 +25,9 @@ element-copy-out-w : tie.Need-element-copy-out-w
 element-copy-out-w c = window-below c
 
 instruction-below : (c : tie.After-enum-told2) → c .before .before .args .i < 64
-instruction-below c = place-below instructionᶜ (c .before .before .args .t1 .instructions) _ (rw (c .enum-told2 .given .1) at (c .before .before .pre)) (shaped (c .before .before) .instructions)
+instruction-below c =
+    place-below instructionᶜ (c .before .before .args .t1 .instructions) _ (rw (c .enum-told2 .given .1) at (c .before .before .pre))
+    (shaped (c .before .before) .instructions)
 
 mul-x : tie.Need-mul-x
 mul-x c = record { fits = omega (arith, instruction-below c) }
@@ -32,7 +36,9 @@ element-copy-out-x : tie.Need-element-copy-out-x
 element-copy-out-x c = instruction-below c
 
 default-below : (c : tie.After-enum-told3) → c .before .before .args .i < 128
-default-below c = place-below defaultᶜ (c .before .before .args .t1 .defaults) _ (rw (c .enum-told3 .given .1) at (c .before .before .pre)) (shaped (c .before .before) .defaults)
+default-below c =
+    place-below defaultᶜ (c .before .before .args .t1 .defaults) _ (rw (c .enum-told3 .given .1) at (c .before .before .pre))
+    (shaped (c .before .before) .defaults)
 
 mul-d : tie.Need-mul-d
 mul-d c = record { fits = omega (arith, default-below c) }
@@ -48,7 +54,8 @@ returns c =
 returns-2 : tie.Need-returns-2
 returns-2 c =
     let s = c .before .before .before in
-    rw (c .before .enum-told2 .given .1) (place-is instructionᶜ (s .args .t1 .instructions) (s .args .i) (rw (c .before .enum-told2 .given .1) at (s .pre)) noInstruction)
+    rw (c .before .enum-told2 .given .1)
+    (place-is instructionᶜ (s .args .t1 .instructions) (s .args .i) (rw (c .before .enum-told2 .given .1) at (s .pre)) noInstruction)
 
 returns-3 : tie.Need-returns-3
 returns-3 c =

@@ -52,7 +52,8 @@ put-readings-requires c κs =
     rw (c .before .span .ensures) (
       s .pre .0 .memory,
       s .pre .0 .month,
-      room-readings (s .args .b) (lent (s .args .meter .now)) (s .pre .1) (c₁ .put-if .ensures) (c₂ .put-table .ensures) (c₃ .put-table2 .ensures) (c₄ .put-table3 .ensures),
+      room-readings (s .args .b) (lent (s .args .meter .now)) (s .pre .1) (c₁ .put-if .ensures) (c₂ .put-table .ensures) (c₃ .put-table2 .ensures)
+          (c₄ .put-table3 .ensures),
     )
 
 put-if-requires-2 : tie.Need-put-if-requires-2
@@ -64,7 +65,8 @@ put-if-requires-2 c κs =
     let c₂ = c₃ .before .before .before .before in
     let c₁ = c₂ .before .before .before .before in
     let s = c₁ .before .before .before .before in
-    room-close (s .args .b) (lent (s .args .meter .now)) (s .pre .1) (c₁ .put-if .ensures) (c₂ .put-table .ensures) (c₃ .put-table2 .ensures) (c₄ .put-table3 .ensures) (rw span at (c₅ .put-readings .ensures))
+    room-close (s .args .b) (lent (s .args .meter .now)) (s .pre .1) (c₁ .put-if .ensures) (c₂ .put-table .ensures) (c₃ .put-table2 .ensures)
+    (c₄ .put-table3 .ensures) (rw span at (c₅ .put-readings .ensures))
 
 returns : tie.Need-returns
 returns c =
@@ -76,7 +78,8 @@ returns c =
     let c₂ = c₃ .before .before .before .before in
     let c₁ = c₂ .before .before .before .before in
     let s = c₁ .before .before .before .before in
-    parts-laid (s .args .b) (lent (s .args .meter .now)) (s .pre .1) (c₁ .put-if .ensures) (c₂ .put-table .ensures) (c₃ .put-table2 .ensures) (c₄ .put-table3 .ensures) (rw span at (c₅ .put-readings .ensures)) (c₆ .put-if2 .ensures)
+    parts-laid (s .args .b) (lent (s .args .meter .now)) (s .pre .1) (c₁ .put-if .ensures) (c₂ .put-table .ensures) (c₃ .put-table2 .ensures)
+    (c₄ .put-table3 .ensures) (rw span at (c₅ .put-readings .ensures)) (c₆ .put-if2 .ensures)
 
 pub put-book-spec : {M : Type 1} → statement M
 put-book-spec =

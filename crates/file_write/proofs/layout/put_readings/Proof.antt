@@ -29,7 +29,8 @@ put-cell-requires : tie.Need-put-cell-requires Inv-loop μ-loop
 put-cell-requires c κs =
     let l = c .before .before in
     let s = l .before .before .before in
-    rw (c .before .kw-at .ensures) (room-turn (readings-turns (lent (s .args .meter .now)) (s .args .span)) (s .pre .2) (l .loop-test .taken) (l .before .loop .inv .1))
+    rw (c .before .kw-at .ensures)
+    (room-turn (readings-turns (lent (s .args .meter .now)) (s .args .span)) (s .pre .2) (l .loop-test .taken) (l .before .loop .inv .1))
 
 loop-again : tie.Need-loop-again Inv-loop μ-loop
 loop-again c =
@@ -38,13 +39,15 @@ loop-again c =
     let l = k .before in
     let s = l .before .before .before in (
       search needs,
-      laid-turn (readings-turns (lent (s .args .meter .now)) (s .args .span)) (s .pre .2) (l .loop-test .taken) (l .before .loop .inv .1) (rw (k .kw-at .ensures) at (p .put-cell .ensures)),
+      laid-turn (readings-turns (lent (s .args .meter .now)) (s .args .span)) (s .pre .2) (l .loop-test .taken) (l .before .loop .inv .1)
+          (rw (k .kw-at .ensures) at (p .put-cell .ensures)),
     )
 
 same-length : tie.Need-same-length Inv-loop μ-loop
 same-length c =
     let s = c .before .before .before in
-    laid-long (room-so (readings-turns (lent (s .args .meter .now)) (s .args .span)) (s .pre .2) (c .before .loop .m) (c .before .loop .inv .0)) (c .before .loop .inv .1)
+    laid-long (room-so (readings-turns (lent (s .args .meter .now)) (s .args .span)) (s .pre .2) (c .before .loop .m) (c .before .loop .inv .0))
+    (c .before .loop .inv .1)
 
 returns : tie.Need-returns Inv-loop μ-loop
 returns c =

@@ -23,11 +23,13 @@ loop-holds c = (search needs, laid-none _ _)
 
 -- the turns, and room for all of them
 turns : (c : tie.After-used Inv-loop μ-loop)
-    → Turns (λ i. take i (placesIn (c .before .before .args .b) (c .before .before .args .table))) (λ i. getD (placesIn (c .before .before .args .b) (c .before .before .args .table)) i closeᶜ ∷ []) (c .used .result)
+    → Turns (λ i. take i (placesIn (c .before .before .args .b) (c .before .before .args .table)))
+    (λ i. getD (placesIn (c .before .before .args .b) (c .before .before .args .table)) i closeᶜ ∷ []) (c .used .result)
 turns c = entries-turns _ _ (rw (c .used .ensures) (c .before .before .pre .0 .few))
 
 room : (c : tie.After-used Inv-loop μ-loop)
-    → Room (take (c .used .result) (placesIn (c .before .before .args .b) (c .before .before .args .table))) (c .before .before .args .out .now) (c .before .before .args .at)
+    → Room (take (c .used .result) (placesIn (c .before .before .args .b) (c .before .before .args .table))) (c .before .before .args .out .now)
+    (c .before .before .args .at)
 room c = rw (c .used .ensures) (c .before .before .pre .1)
 
 entry-requires : tie.Need-entry-requires Inv-loop μ-loop

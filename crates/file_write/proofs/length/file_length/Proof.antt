@@ -40,7 +40,8 @@ as-long-requires-2 c κs =
     omega (arith, c .readings-in .ensures, readings-few (lent (s .args .meter .now)) (c .before .span .result), c .before .span .ensures, s .pre .month)
 
 as-long-requires-3 : tie.Need-as-long-requires-3
-as-long-requires-3 c κs = omega (arith, c .once2 .ensures, once-most (c .before .before .before .before .before .before .before .before .before .before .args .b .closed))
+as-long-requires-3 c κs =
+    omega (arith, c .once2 .ensures, once-most (c .before .before .before .before .before .before .before .before .before .before .args .b .closed))
 
 -- the six lengths
 whole : (c : tie.After-as-long3)
@@ -49,7 +50,8 @@ whole : (c : tie.After-as-long3)
     + c .before .before .before .before .before .table-length3 .result
     + c .before .before .as-long2 .result
     + c .as-long3 .result
-    ≡ length (fileBytes (parts (c .before .before .before .before .before .before .before .before .before .before .before .args .b) (lent (c .before .before .before .before .before .before .before .before .before .before .before .args .meter .now))))
+    ≡ length (fileBytes (parts (c .before .before .before .before .before .before .before .before .before .before .before .args .b)
+    (lent (c .before .before .before .before .before .before .before .before .before .before .before .args .meter .now))))
 whole c =
     let t = c .before .before .before .before .before in
     let s = t .before .before .before .before .before .before in
@@ -60,13 +62,15 @@ whole c =
       t .before .before .table-length .ensures,
       t .before .table-length2 .ensures,
       t .table-length3 .ensures,
-      readings-length (lent (s .args .meter .now)) _ (bookSpan b) (c .before .before .before .before .span .ensures) (c .before .before .before .readings-in .ensures) (c .before .before .as-long2 .ensures),
+      readings-length (lent (s .args .meter .now)) _ (bookSpan b) (c .before .before .before .before .span .ensures)
+          (c .before .before .before .readings-in .ensures) (c .before .before .as-long2 .ensures),
       once-length (b .closed) closeᶜ (c .before .once2 .ensures) (c .as-long3 .ensures),
       parts-length b (lent (s .args .meter .now)),
     )
 
 short : (c : tie.After-as-long3)
-    → length (fileBytes (parts (c .before .before .before .before .before .before .before .before .before .before .before .args .b) (lent (c .before .before .before .before .before .before .before .before .before .before .before .args .meter .now)))) ≤ 2000000
+    → length (fileBytes (parts (c .before .before .before .before .before .before .before .before .before .before .before .args .b)
+    (lent (c .before .before .before .before .before .before .before .before .before .before .before .args .meter .now)))) ≤ 2000000
 short c =
     let s = c .before .before .before .before .before .before .before .before .before .before .before in
     parts-short (s .args .b) (lent (s .args .meter .now)) (tables s) (s .pre .month)

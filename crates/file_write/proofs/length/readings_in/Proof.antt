@@ -25,13 +25,22 @@ kw-at-requires c κs = omega arith
 add-n : tie.Need-add-n Inv-loop μ-loop
 add-n c =
     let l = c .before .before .before .before in
-    omega (arith, c .once .ensures, once-most (c .before .is-reading .result), readings-few (lent (l .before .args .meter .now)) (l .loop .minute), l .loop .inv .1, l .loop .inv .0, l .before .pre)
+    omega (
+      arith,
+      c .once .ensures,
+      once-most (c .before .is-reading .result),
+      readings-few (lent (l .before .args .meter .now)) (l .loop .minute),
+      l .loop .inv .1,
+      l .loop .inv .0,
+      l .before .pre,
+    )
 
 loop-again : tie.Need-loop-again Inv-loop μ-loop
 loop-again c =
     let l = c .before .before .before .before in (
       search needs,
-      rw (l .loop .inv .1, c .once .ensures, c .before .is-reading .ensures, c .before .before .kw-at .ensures) (sym (readings-count (lent (l .before .args .meter .now)) (l .loop .minute))),
+      rw (l .loop .inv .1, c .once .ensures, c .before .is-reading .ensures, c .before .before .kw-at .ensures)
+          (sym (readings-count (lent (l .before .args .meter .now)) (l .loop .minute))),
     )
 
 returns : tie.Need-returns Inv-loop μ-loop

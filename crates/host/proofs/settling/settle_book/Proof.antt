@@ -1,35 +1,51 @@
--- `host::settling::settle_book` meets its contract: the answer decides whether sums are written, and the lines fit the memory lent for them.
+-- `host::settling::settle_book` meets its contract: the answer and the room for the sums decide whether these are written, and the lines fit the
+-- memory lent for them.
 use mathlib.Core.Path.{_≡_, ap}
 use native.Mathlib.Omega.{arith}
+use lib.ListN.{take}
+use lib.Seq.{length-take-le}
 use Rattle.book_memory.specs.Meter.{lent}
 use Rattle.settle_numbers.specs.Numbers.{numberBook}
 use Rattle.settle.specs.declared.Settlement.{Settlement}
-use Rattle.host.proofs.Settled.{few-lines, settled-taken, settled-refused}
+use Rattle.host.proofs.Settled.{few-lines, short-taken, long-taken, refused}
 use borrow.Author.Needs.{needs}
 use Rattle.host.proofs.settling.settle_book.Statement.{statement}
 use Rattle.host.proofs.settling.settle_book.Tie as tie
 
-put-sums-requires : tie.Need-put-sums-requires
-put-sums-requires c κs =
-    let at = c .before .before .before .before .before .before .before in
-    let s = c .before .before .before .before .before .settle-numbers in
-    let same : s .result .statement .lines ≡ numberBook (at .args .b) (lent (at .args .meter .now)) (at .args .lines .now) .settlement .statement .lines =
-    ap (λ (z : Settlement). z .statement .lines) (s .ensures .0) in
-    (at .pre .0, omega (arith, same, few-lines (at .args .b) (lent (at .args .meter .now)) (at .args .lines .now), at .good .1 .1 .0 .0), at .pre .1)
-
 returns : tie.Need-returns
 returns c =
-    let a = c .before .before .before .before .before .before .before .before .before .args in
-    let s = c .before .before .before .before .before .before .before .settle-numbers in
-    settled-taken (a .b) (lent (a .meter .now)) (a .lines .now) (a .sums .now) _ (s .result) (s .ensures .0) (s .ensures .1) _
-    (c .before .before .before .enum-told .given .1) (c .before .put-sums .ensures)
+    let a = c .before .before .before .before .before .before .before .before .args in
+    let room = c .before .before .before .before .before .before .before .line-room in
+    let s = c .before .before .before .before .before .settle-numbers in
+    short-taken (a .b) (lent (a .meter .now)) (a .lines .now) (a .sums .now) _ (room .result) (s .result) (room .ensures .0) (s .ensures .0) (s .ensures .1)
+    (c .if1 .taken) (c .before .enum-told .given .1)
+
+put-sums-requires : tie.Need-put-sums-requires
+put-sums-requires c κs =
+    let at = c .before .before .before .before .before .before .before .before .before in
+    let a = at .args in
+    let room = c .before .before .before .before .before .before .before .before .line-room in
+    let s = c .before .before .before .before .before .before .settle-numbers in
+    let few = few-lines (a .b) (lent (a .meter .now)) (take (room .result) (a .lines .now)) in
+    let same = ap (λ (z : Settlement). z .statement .lines) (s .ensures .0) in
+    let size = length-take-le (room .result) (a .lines .now) (room .ensures .1) in
+    (c .before .if1 .left, omega (arith, same, few, size, room .ensures .1, at .good .1 .1 .0 .0), at .pre)
 
 returns-2 : tie.Need-returns-2
 returns-2 c =
-    let a = c .before .before .before .before .before .before .before .args in
+    let a = c .before .before .before .before .before .before .before .before .before .before .before .args in
+    let room = c .before .before .before .before .before .before .before .before .before .before .line-room in
+    let s = c .before .before .before .before .before .before .before .before .settle-numbers in
+    long-taken (a .b) (lent (a .meter .now)) (a .lines .now) (a .sums .now) _ (room .result) (s .result) (room .ensures .0) (s .ensures .0) (s .ensures .1) _
+    (c .before .before .before .if1 .left) (c .before .before .before .before .enum-told .given .1) (c .before .put-sums .ensures)
+
+returns-3 : tie.Need-returns-3
+returns-3 c =
+    let a = c .before .before .before .before .before .before .before .before .args in
+    let room = c .before .before .before .before .before .before .before .line-room in
     let s = c .before .before .before .before .before .settle-numbers in
-    settled-refused (a .b) (lent (a .meter .now)) (a .lines .now) (a .sums .now) _ (s .result) (s .ensures .0) (s .ensures .1) (c .before .answer .given .0 .0)
-    (c .before .answer .given .1)
+    refused (a .b) (lent (a .meter .now)) (a .lines .now) (a .sums .now) _ (room .result) (s .result) (room .ensures .0) (s .ensures .0) (s .ensures .1)
+    (c .before .answer .given .0 .0) (c .before .answer .given .1)
 
 pub settle-book-spec : {M : Type 1} → statement M
 settle-book-spec =
@@ -37,10 +53,15 @@ settle-book-spec =
     (tie.spec
     (λ c κs. search needs)
     (λ c. search needs)
+    (λ c. search (length-take-le, needs))
+    (λ c κs. search needs)
+    (λ c. search needs)
+    (λ c. search needs)
+    returns
     put-sums-requires
     (λ c. search needs)
     (λ c. search needs)
     (λ c. search needs)
-    returns
+    returns-2
     (λ c. search needs)
-    returns-2)
+    returns-3)

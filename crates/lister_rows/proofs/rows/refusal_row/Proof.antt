@@ -14,8 +14,13 @@ returns c =
     let c2 = c3 .before in
     let c1 = c2 .before in
     let s = c1 .before in
-    counted (refusalRow (s .args .number) (s .args .offset)) (rw (c .put2 .ensures, c4 .count2 .ensures, c3 .count .ensures, c2 .put .ensures, c1 .empty .ensures)
-    (row-put _ _ (omega (arith, digits-length (s .args .number) 2 (omega (arith, s .fits .number)), digits-length (s .args .offset) 19 (omega (arith, s .fits .offset))))))
+    counted (refusalRow (s .args .number) (s .args .offset))
+    (rw (c .put2 .ensures, c4 .count2 .ensures, c3 .count .ensures, c2 .put .ensures, c1 .empty .ensures)
+    (row-put _ _ (omega (
+      arith,
+      digits-length (s .args .number) 2 (omega (arith, s .fits .number)),
+      digits-length (s .args .offset) 19 (omega (arith, s .fits .offset)),
+    ))))
 
 pub refusal-row-spec : {M : Type 1} → statement M
 refusal-row-spec =

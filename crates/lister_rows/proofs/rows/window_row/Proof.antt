@@ -33,7 +33,12 @@ returns c =
     let f = fit (c5 .before) in
     counted (windowRow (a .n) (a .a)) (rw (c .put2 .ensures, c5 .amount .ensures, c4 .count2 .ensures, c3 .count .ensures, c2 .put .ensures, c1 .empty .ensures)
     (simp (toZ-ofZ, f .pence)
-    (row-put _ _ (omega (arith, digits-length (a .n) 9 (omega (arith, f .number)), digits-length (a .a .periods) 9 (omega (arith, f .periods)), signed-length (a .a .pence .0) (f .pence))))))
+    (row-put _ _ (omega (
+      arith,
+      digits-length (a .n) 9 (omega (arith, f .number)),
+      digits-length (a .a .periods) 9 (omega (arith, f .periods)),
+      signed-length (a .a .pence .0) (f .pence),
+    )))))
 
 pub window-row-spec : {M : Type 1} → statement M
 window-row-spec =

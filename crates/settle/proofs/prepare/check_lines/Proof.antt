@@ -1,4 +1,6 @@
--- `settle::prepare::check_lines` meets its contract. Assumes nothing.
+-- `settle::prepare::check_lines` meets its contract: the survey is the rules' (`SurveyRules`), so 25 and 26 are theirs; else what is laid out settles
+-- (`Outcome`).
+-- Assumes nothing.
 use mathlib.Core.Path.{_≡_, sym, _∙_, ap, subst}
 use mathlib.Core.Bool.{true, false}
 use mathlib.Core.List.{List}
@@ -9,6 +11,7 @@ use lib.ListN.{length}
 use borrow.Author.Needs.{needs}
 use borrow.Author.Tests.{not-true, not-false}
 use Rattle.book_memory.specs.Meter.{Memory, lent}
+use Rattle.energy.specs.Number.{down}
 use Rattle.rules.specs.Ledger.{Ledger}
 use Rattle.rules.specs.Segment.{complete, segments}
 use Rattle.book.specs.Book.{ledgerIn}
@@ -22,10 +25,10 @@ use Rattle.settle_survey.specs.Survey.{Laid, surveyTo}
 use Rattle.settle.specs.Prepared.{Prepares, refusalOf, LaidOut}
 use Rattle.rules.proofs.Folds.{length-mapped}
 use Rattle.book.proofs.SoundBook.{SoundBook, sound-book, closed-agreed}
-use Rattle.settle.proofs.Surveyed.{Surveyed, survey-complete, survey-count}
-use Rattle.settle.proofs.Ground.{Grounds, surveyed}
-use Rattle.settle.proofs.Refused.{refused, is-25, is-26, is-taken}
-use Rattle.settle.proofs.Stated.{prepares}
+use Rattle.settle.proofs.SurveyRules.{Surveyed, survey-complete, survey-count}
+use Rattle.settle.proofs.BookPlan.{Grounds, surveyed}
+use Rattle.settle.proofs.Refusal.{refused, is-25, is-26, is-taken}
+use Rattle.settle.proofs.Outcome.{prepares}
 use Rattle.settle.proofs.prepare.check_lines.Statement.{statement}
 use Rattle.settle.proofs.prepare.check_lines.Tie as tie
 
@@ -61,7 +64,7 @@ module _ (s : tie.Start) where
     survey : Surveyed (ledgerIn (s .args .b) (lent (s .args .meter .now))) t times (s .args .meter .now)
     survey = surveyed b times readings grounds
 
-    module _ (v : Survey) (q : v ≡ surveyTo t times (s .args .meter .now) (t .calls)) where
+    module _ (v : Survey) (q : v ≡ surveyTo t times (s .args .meter .now) (t .instructions)) where
       complete-is : v .complete ≡ complete g
       complete-is = ap (λ (z : Survey). z .complete) q ∙ survey-complete g t times meter survey
 
@@ -76,10 +79,14 @@ module _ (s : tie.Start) where
         as-26 l = refused b readings room 26 (is-26 b readings room (s .pre .0) (s .pre .2) (s .pre .1) (sym complete-is ∙ h) (omega (arith, count-is)))
 
         as-taken : v .count ≤ room → (p : Prepared) → LaidOut b t times (v .count) p → Prepares b readings room p
-        as-taken l p O = prepares b times readings grounds room (v .count) p O (sym complete-is ∙ h) count-is (is-taken b readings room (s .pre .0) (s .pre .2) (s .pre .1) (sym complete-is ∙ h) (omega (arith, count-is))) l
+        as-taken l p O =
+            prepares b times readings grounds room (v .count) p O (sym complete-is ∙ h) count-is
+            (is-taken b readings room (s .pre .0) (s .pre .2) (s .pre .1) (sym complete-is ∙ h) (omega (arith, count-is))) l
 
 terms-of-requires : tie.Need-terms-of-requires
-terms-of-requires c κs = let k = book (c .before .before) .contract in (k .plain, k .kw .1)
+terms-of-requires c κs =
+    let k = book (c .before .before) .contract in
+    ((k .kw .1, ap down (k .plain)), omega (arith, k .rise, k .response), k .fall)
 
 survey-all-requires : tie.Need-survey-all-requires
 survey-all-requires c κs =
@@ -89,15 +96,22 @@ survey-all-requires c κs =
 
 -- the survey at the terms as the definitions have them
 told : (c : tie.After-survey-all)
-    → c .survey-all .result ≡ surveyTo (termsOf (c .before .before .before .before .before .before .args .b .contract) (c .before .before .before .before .before .before .args .b .ninstructions)) (c .before .before .times-of .result) (c .before .before .before .before .before .before .args .meter .now) (termsOf (c .before .before .before .before .before .before .args .b .contract) (c .before .before .before .before .before .before .args .b .ninstructions) .calls)
-told c = c .survey-all .ensures ∙ ap (λ (z : Terms). surveyTo z (c .before .before .times-of .result) (c .before .before .before .before .before .before .args .meter .now) (z .calls)) (c .before .before .before .terms-of .ensures)
+    → c .survey-all .result ≡ surveyTo (termsOf (c .before .before .before .before .before .before .args .b .contract)
+    (c .before .before .before .before .before .before .args .b .ninstructions)) (c .before .before .times-of .result)
+    (c .before .before .before .before .before .before .args .meter .now)
+    (termsOf (c .before .before .before .before .before .before .args .b .contract)
+    (c .before .before .before .before .before .before .args .b .ninstructions) .instructions)
+told c =
+    c .survey-all .ensures ∙ ap (λ (z : Terms). surveyTo z (c .before .before .times-of .result)
+    (c .before .before .before .before .before .before .args .meter .now) (z .instructions)) (c .before .before .before .terms-of .ensures)
 
 returns : tie.Need-returns
 returns c =
     let s = c .before .before .before .before .before .before .before .before .before in
     let x = c .before .before .before .before .before .times-of in
     let v = c .before .before .before in
-    subst (Prepares (b s) (readings s) (room s)) (sym (c .refuse .ensures)) (as-25 s (x .result) (x .ensures) (v .survey-all .result) (told v) (not-true (v .survey-all .result .complete) (c .before .if1 .taken)))
+    subst (Prepares (b s) (readings s) (room s)) (sym (c .refuse .ensures))
+    (as-25 s (x .result) (x .ensures) (v .survey-all .result) (told v) (not-true (v .survey-all .result .complete) (c .before .if1 .taken)))
 
 returns-2 : tie.Need-returns-2
 returns-2 c =
@@ -105,12 +119,17 @@ returns-2 c =
     let x = c .before .before .before .before .before .before .times-of in
     let v = c .before .before .before .before in
     subst (Prepares (b s) (readings s) (room s)) (sym (c .refuse2 .ensures))
-    (as-26 s (x .result) (x .ensures) (v .survey-all .result) (told v) (not-false (v .survey-all .result .complete) (c .before .before .if1 .left)) (c .before .if2 .taken))
+    (as-26 s (x .result) (x .ensures) (v .survey-all .result) (told v) (not-false (v .survey-all .result .complete) (c .before .before .if1 .left))
+    (c .before .if2 .taken))
 
 lay-out-requires : tie.Need-lay-out-requires
 lay-out-requires c κs =
-    let s = c .before .before .before .before .before .before .before .before .before in
-    (s .pre .0, closed-agreed (b s) (s .pre .0) (s .pre .1), c .before .before .before .before .before .before .terms-of .ensures, c .before .before .before .before .before .times-of .ensures)
+    let s = c .before .before .before .before .before .before .before .before .before in (
+      s .pre .0,
+      closed-agreed (b s) (s .pre .0) (s .pre .1),
+      c .before .before .before .before .before .before .terms-of .ensures,
+      c .before .before .before .before .before .times-of .ensures,
+    )
 
 returns-3 : tie.Need-returns-3
 returns-3 c =
@@ -118,8 +137,10 @@ returns-3 c =
     let x = c .before .before .before .before .before .before .times-of in
     let v = c .before .before .before .before in
     let n = v .survey-all .result .count in
-    as-taken s (x .result) (x .ensures) (v .survey-all .result) (told v) (not-false (v .survey-all .result .complete) (c .before .before .if1 .left)) (c .before .if2 .left) (c .lay-out .result)
-    (subst (λ (z : Terms). LaidOut (b s) z (x .result) n (c .lay-out .result)) (c .before .before .before .before .before .before .before .terms-of .ensures) (c .lay-out .ensures))
+    as-taken s (x .result) (x .ensures) (v .survey-all .result) (told v) (not-false (v .survey-all .result .complete) (c .before .before .if1 .left))
+    (c .before .if2 .left) (c .lay-out .result)
+    (subst (λ (z : Terms). LaidOut (b s) z (x .result) n (c .lay-out .result))
+    (c .before .before .before .before .before .before .before .terms-of .ensures) (c .lay-out .ensures))
 
 pub check-lines-spec : {M : Type 1} → statement M
 check-lines-spec =

@@ -1,4 +1,4 @@
--- `settle::prepare::refuse` meets its contract. Assumes nothing.
+-- `settle::prepare::refuse` meets its contract: field by field. Assumes nothing.
 use borrow.Author.Needs.{needs}
 use lib.ListN.{replicate}
 use Rattle.rules.specs.declared.answer.Answer.the-variants.{Refused}

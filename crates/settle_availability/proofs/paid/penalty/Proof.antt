@@ -14,21 +14,31 @@ use Rattle.settle_availability.proofs.paid.penalty.Statement.{statement
 use Rattle.settle_availability.proofs.paid.penalty.Tie as tie
 
 abbrev Inv-loop : tie.InvT-loop
-Inv-loop struck n count₀ i₀ count i = (i ≤ n) × (count ≤ i) × (count ≡ countOf (marked struck) (between 0 i))
+Inv-loop counted n count₀ i₀ count i = (i ≤ n) × (count ≤ i) × (count ≡ countOf (marked counted) (between 0 i))
 
 abbrev μ-loop : tie.MeasureT-loop
-μ-loop struck n count₀ i₀ count i = n - i
+μ-loop counted n count₀ i₀ count i = n - i
 
 loop-holds : tie.Need-loop-holds Inv-loop μ-loop
-loop-holds c = (omega arith, omega arith, sym (count-none (marked (c .args .struck .now)) 0))
+loop-holds c = (omega arith, omega arith, sym (count-none (marked (c .args .counted .now)) 0))
 
 loop-again : tie.Need-loop-again Inv-loop μ-loop
 loop-again c =
-    let xs = c .before .before .before .before .args .struck .now in
+    let xs = c .before .before .before .before .args .counted .now in
     let l = c .before .before .before .loop in
     ⊎-elim
-    (λ w. (omega arith, omega arith, count-step (marked xs) 0 (l .i) (l .count) (c .if1 .count) true (omega arith) (l .inv .2) (eq-eqb (getD xs (l .i) 0) 1 (w .0 .taken)) (w .1)))
-    (λ w. (omega arith, omega arith, count-step (marked xs) 0 (l .i) (l .count) (c .if1 .count) false (omega arith) (l .inv .2) (ne-eqb (getD xs (l .i) 0) 1 (w .0 .left)) (omega (arith, w .1))))
+    (λ w. (
+      omega arith,
+      omega arith,
+      count-step (marked xs) 0 (l .i) (l .count) (c .if1 .count) true (omega arith) (l .inv .2)
+          (eq-eqb (getD xs (l .i) 0) 1 (w .0 .taken)) (w .1),
+    ))
+    (λ w. (
+      omega arith,
+      omega arith,
+      count-step (marked xs) 0 (l .i) (l .count) (c .if1 .count) false (omega arith) (l .inv .2)
+          (ne-eqb (getD xs (l .i) 0) 1 (w .0 .left)) (omega (arith, w .1)),
+    ))
     (c .if1 .came)
 
 returns : tie.Need-returns Inv-loop μ-loop
@@ -36,7 +46,7 @@ returns c =
     let a = c .before .before .before .args in
     let l = c .before .before .loop in
     let e : l .i ≡ a .n = omega arith in
-    let f = l .inv .2 ∙ ap (λ z. countOf (marked (a .struck .now)) (between 0 z)) e in
+    let f = l .inv .2 ∙ ap (λ z. countOf (marked (a .counted .now)) (between 0 z)) e in
     (omega (arith, f), omega arith)
 
 returns-2 : tie.Need-returns-2 Inv-loop μ-loop
@@ -44,7 +54,7 @@ returns-2 c =
     let a = c .before .before .before .args in
     let l = c .before .before .loop in
     let e : l .i ≡ a .n = omega arith in
-    let f = l .inv .2 ∙ ap (λ z. countOf (marked (a .struck .now)) (between 0 z)) e in
+    let f = l .inv .2 ∙ ap (λ z. countOf (marked (a .counted .now)) (between 0 z)) e in
     (omega (arith, f), omega arith)
 
 pub penalty-spec : {M : Type 1} → statement M

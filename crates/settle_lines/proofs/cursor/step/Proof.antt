@@ -1,10 +1,12 @@
--- `settle_lines::cursor::step` meets its contract. Assumes nothing.
+-- `settle_lines::cursor::step` meets its contract: the segment at the cursor is what `Next` says of it, and the two ways on are the definition's. Assumes
+-- nothing.
 use mathlib.Core.Path.{sym, _∙_, ap, subst}
 use Prim.Native.Nat.{_-_}
 use native.Mathlib.Omega.{arith}
 use Rattle.settle_lines.specs.Cursor.{Planned, enterOf}
 use Rattle.settle_lines.proofs.Step.{Next, next, step-on, step-over}
 use Rattle.energy.specs.Energy.{Readable}
+use Rattle.energy.specs.Number.{Within}
 use borrow.Author.Needs.{needs}
 use Rattle.settle_lines.proofs.cursor.step.Statement.{statement}
 use Rattle.settle_lines.proofs.cursor.step.Tie as tie
@@ -13,31 +15,49 @@ abbrev nextOf : (s : tie.Start) → Next (s .args .t) (s .args .times .now) (s .
 nextOf s = next (s .args .t) (s .args .times .now) (s .args .live .now) (s .args .meter .now) (s .args .c) (s .pre .0) (s .pre .1)
 
 abbrev planned : (s : tie.Start) → Planned (s .args .t) (s .args .times .now) (s .args .live .now) (s .args .meter .now) (s .args .c .at)
-planned s = s .pre .0 .call (s .args .c .at) (s .pre .1 .more)
+planned s = s .pre .0 .each (s .args .c .at) (s .pre .1 .more)
 
 segment-end-requires : tie.Need-segment-end-requires
-segment-end-requires c κs = let s = c .before .before .before in omega (arith, planned s, s .pre .0, s .pre .1)
+segment-end-requires c κs = let s = c .before .before .before .before in omega (arith, planned s, s .pre .0, s .pre .1)
 
 line-of-requires : tie.Need-line-of-requires
 line-of-requires c κs =
-    let s = c .before .before .before .before in let n = nextOf s in let p = s .pre .0 in
-    (subst (λ z. Readable (s .args .meter .now) (s .args .c .minute) z) (sym (c .segment-end .ensures)) (n .readable), (n .base, ((p .kw, p .utilisation, p .optional), (omega (arith, p, s .pre .1), omega (arith, planned s, s .pre .1), p .fits))))
+    let s = c .before .before .before .before .before in
+    let n = nextOf s in
+    let p = s .pre .0 in (
+      subst (λ z. Readable (s .args .meter .now) (s .args .c .minute .0) z) (sym (c .segment-end .ensures)) (n .readable),
+      (n .base, ((p .kw, p .utilisation, p .optional), (omega (arith, p, s .pre .1), omega (arith, planned s, s .pre .1), p .fits))),
+    )
+
+-- the sums so far, and the line's, are small enough to be added
+sums : (s : tie.Start) → Within 100000000000000 (s .args .c .capped .0) × Within 100000000000000 (s .args .c .pence .0)
+sums s = omega (arith, s .pre .1, planned s, s .pre .0)
 
 moved-requires : tie.Need-moved-requires
-moved-requires c κs = let s = c .before .before .before .before .before .before .before in (omega (arith, s .pre .1, planned s, s .pre .0), (c .before .before .line-of .ensures .1, c .before .before .line-of .ensures .2))
+moved-requires c κs =
+    let l = c .before .before .before .line-of .ensures in (sums (c .before .before .before .before .before .before .before .before .before), (l .1, l .2))
 
 returns : tie.Need-returns
 returns c =
-    let s = c .before .before .before .before .before .before .before .before in let a = s .args in let l = c .before .before .before in let e = l .before .segment-end .ensures in
-    step-on (a .t) (a .times .now) (a .live .now) (a .meter .now) (a .c) _ (l .line-of .result) (c .moved .result) e (l .line-of .ensures .0) (c .before .if1 .taken) (c .moved .ensures)
+    let a = c .before .before .before .before .before .before .before .before .before .before .args in
+    let l = c .before .before .before .before in
+    step-on (a .t) (a .times .now) (a .live .now) (a .meter .now) (a .c) _ (l .line-of .result) (c .moved .result) (l .before .segment-end .ensures)
+    (l .line-of .ensures .0) (c .before .if1 .taken) (c .moved .ensures)
 
 moved-requires-2 : tie.Need-moved-requires-2
-moved-requires-2 c κs = let s = c .before .before .before .before .before .before .before in (omega (arith, s .pre .1, planned s, s .pre .0), (c .before .before .line-of .ensures .1, c .before .before .line-of .ensures .2))
+moved-requires-2 c κs =
+    let l = c .before .before .before .line-of .ensures in (sums (c .before .before .before .before .before .before .before .before .before), (l .1, l .2))
+
+enter-requires : tie.Need-enter-requires
+enter-requires c κs = c .before .before .before .before .before .before .before .before .before .before .pre .0
 
 returns-2 : tie.Need-returns-2
 returns-2 c =
-    let s = c .before .before .before .before .before .before .before .before .before in let a = s .args in let l = c .before .before .before .before in let e = l .before .segment-end .ensures in
-    step-over (a .t) (a .times .now) (a .live .now) (a .meter .now) (a .c) _ (l .line-of .result) (c .enter .result) e (l .line-of .ensures .0) (c .before .before .if1 .left) (c .enter .ensures ∙ ap (enterOf (a .t) (a .times .now) (a .live .now) (a .meter .now)) (c .before .moved2 .ensures))
+    let a = c .before .before .before .before .before .before .before .before .before .before .before .args in
+    let l = c .before .before .before .before .before in
+    step-over (a .t) (a .times .now) (a .live .now) (a .meter .now) (a .c) _ (l .line-of .result) (c .enter .result) (l .before .segment-end .ensures)
+    (l .line-of .ensures .0) (c .before .before .if1 .left)
+    (c .enter .ensures ∙ ap (enterOf (a .t) (a .times .now) (a .live .now) (a .meter .now)) (c .before .moved2 .ensures))
 
 pub step-spec : {M : Type 1} → statement M
 step-spec =
@@ -49,5 +69,5 @@ step-spec =
     returns
     (λ c. search needs)
     moved-requires-2
-    (λ c κs. search needs)
+    enter-requires
     returns-2)

@@ -1,3 +1,4 @@
+-- `test_script::cells::kw_of`: behind both tests the number is one that 32 bits can hold.
 use borrow.Author.Needs.{needs}
 use native.Mathlib.Omega.{arith}
 use lib.IntN.{pos, negsuc}

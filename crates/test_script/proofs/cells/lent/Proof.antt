@@ -1,3 +1,4 @@
+-- `test_script::cells::lent`: what `at_most` promises; and a list cut at no more than its length has that many elements.
 use mathlib.Core.Path.{sym}
 use lib.Seq.{length-take-le}
 use borrow.Author.Needs.{needs}

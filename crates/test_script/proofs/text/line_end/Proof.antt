@@ -1,3 +1,4 @@
+-- `test_script::text::line_end`: the place stays between the start and the end of the text, and falls short of that end by less each turn.
 use Prim.Native.Nat.{_≤_, _-_}
 use lib.ListN.{length}
 use borrow.Author.Needs.{needs}

@@ -7,7 +7,10 @@ use Rattle.commands.proofs.entries.Default.input_refusal.Statement.{sta
 use Rattle.commands.proofs.entries.Default.input_refusal.Tie as tie
 
 returns : tie.Need-returns
-returns c = input-picked _ (c .pick .ensures) (λ i. c .before .before .before .minutes-from-to .ensures i && c .before .before .known-kind .ensures i && c .before .known-reach .ensures i) refl
+returns c =
+    input-picked _ (c .pick .ensures)
+    (λ i. c .before .before .before .minutes-from-to .ensures i && c .before .before .known-kind .ensures i && c .before .known-reach .ensures i)
+    refl
 
 pub input-refusal-spec : {M : Type 1} → statement M
 input-refusal-spec =

@@ -8,7 +8,9 @@ use Rattle.commands.proofs.entries.Window.input_refusal.Tie as tie
 returns : tie.Need-returns
 returns c =
     let tests = c .before .before .before .before .before .before .before .before in
-    input-picked _ (c .pick2 .ensures) (λ i. tests .before .before .minutes-from-to .ensures i && tests .before .minutes-from-to2 .ensures i && tests .byte-from-to .ensures i) (c .before .pick .ensures)
+    input-picked _ (c .pick2 .ensures)
+    (λ i. tests .before .before .minutes-from-to .ensures i && tests .before .minutes-from-to2 .ensures i && tests .byte-from-to .ensures i)
+    (c .before .pick .ensures)
 
 pub input-refusal-spec : {M : Type 1} → statement M
 input-refusal-spec =

@@ -1,5 +1,7 @@
--- `file_read::reader::Reader::read` meets its contract: a walk of its MIR, by hand. The struct is taken apart, `step_at` is called on the slice and the position, and the reader after the command is made, beside the answer, in a second struct.
--- All that the proof knows of `step_at` is that it meets its contract. The struct is Copy: what it owns is had twice more, for the callee and for the result, and one copy is kept whole for the exit.
+-- `file_read::reader::Reader::read` meets its contract: a walk of its MIR, by hand. The struct is taken apart, `step_at` is called on the slice and the
+-- position, and the reader after the command is made, beside the answer, in a second struct.
+-- All that the proof knows of `step_at` is that it meets its contract. The struct is Copy: what it owns is had twice more, for the callee and for the
+-- result, and one copy is kept whole for the exit.
 -- Assumes nothing.
 use mathlib.Core.Path.{_≡_, refl, ap, subst}
 use Prim.Native.Nat.{_<_, _^_}
@@ -87,7 +89,8 @@ module _ {M : Type 1} (𝓤 : URA M) (H : Heap 𝓤) (A : Atoms 𝓤) (mem : Mem
   abbrev StepC : Contract 𝓤
   StepC = tripleOf 𝓤 H A step-at.signature (step-at.spec 𝓤 H A mem run)
 
-module _ {M : Type 1} (𝓤 : URA M) (H : Heap 𝓤) (A : Atoms 𝓤) (W : Given 𝓤 H A) (mem : Memory → SProp 𝓤) (run : Routine → Fun 𝓤) (κ : Lft) (q : Share) (d : Reader) where
+module _ {M : Type 1} (𝓤 : URA M) (H : Heap 𝓤) (A : Atoms 𝓤) (W : Given 𝓤 H A) (mem : Memory → SProp 𝓤) (run : Routine → Fun 𝓤) (κ : Lft) (q : Share)
+    (d : Reader) where
   abbrev mach : Val
   mach = T′.lowered d
 
@@ -141,10 +144,13 @@ module _ {M : Type 1} (𝓤 : URA M) (H : Heap 𝓤) (A : Atoms 𝓤) (W : Given
   apart : d .at < 2 ^ 64 → ent 𝓤 (onEntry 𝓤 H A read.signature (κ, tt) (q, tt) (d, tt) (mach ∷ [], tt)) (sep 𝓤 (StepC 𝓤 H A mem run .pre to) (sem 𝓤 H A Own))
   apart fits =
       qed W ((‵ (flft κ q) ⊛ ‵ ftrue) ∷ ‵ (owns (B (κ, tt) ∷ []) (d, tt) (mach ∷ [], tt)) ∷ []) ∵
-      move ! (1 ∷ []) $ fsplit ! $ move ! (1 ∷ []) $ drop ! $ use1 W (‵ Own ⊛ ‵ Own) (LL.copy D (T′.the-copy (namedLft 1 0 tt (κ, tt))) 𝓤 H A W .twice d (mach ∷ [])) $ split ! $
-      use1 W (given (mach ∷ [] ≡ mach ∷ []) (‵ (all-own (D .parts) L vd))) (own-open 𝓤 H A W D L vd mach) $ learn ! (λ _. use1 W (‵ (ownAt (D .parts) L 0 (d .src)) ⊛ ‵ (rest (D .parts) L 0 vd)) (own-out 𝓤 H A W (D .parts) L 0 vd) $ split ! $
+      move ! (1 ∷ []) $ fsplit ! $ move ! (1 ∷ []) $ drop ! $
+      use1 W (‵ Own ⊛ ‵ Own) (LL.copy D (T′.the-copy (namedLft 1 0 tt (κ, tt))) 𝓤 H A W .twice d (mach ∷ [])) $ split ! $
+      use1 W (given (mach ∷ [] ≡ mach ∷ []) (‵ (all-own (D .parts) L vd))) (own-open 𝓤 H A W D L vd mach) $
+      learn ! (λ _. use1 W (‵ (ownAt (D .parts) L 0 (d .src)) ⊛ ‵ (rest (D .parts) L 0 vd)) (own-out 𝓤 H A W (D .parts) L 0 vd) $ split ! $
       -- [what src owns; what at owns; what the struct owns; the token]
-      move ! (1 ∷ []) $ drop ! $ nothing ! $ owned ! usize (Is usize) (uint-makes 𝓤 H A W w64) (d .at) _ (refl, fits) $ fjoin ! $ move ! (1 ∷ 0 ∷ []) $ fjoin ! $
+      move ! (1 ∷ []) $ drop ! $ nothing ! $ owned ! usize (Is usize) (uint-makes 𝓤 H A W w64) (d .at) _ (refl, fits) $ fjoin ! $ move ! (1 ∷ 0 ∷ []) $
+      fjoin ! $
       move ! (2 ∷ 0 ∷ []) $ use2 W (raw (StepC 𝓤 H A mem run .pre to)) asked $ frame ! $ done !)
 
   -- of the callee's `ensured`, the clause alone
@@ -165,26 +171,36 @@ module _ {M : Type 1} (𝓤 : URA M) (H : Heap 𝓤) (A : Atoms 𝓤) (W : Given
     exits : r ≡ found → ent 𝓤 (⋆ 𝓤 H A ((‵ (flft κ q) ⊛ ‵ ftrue) ∷ ‵ Own ∷ [])) (Post (LL.val DN LN (made r)))
     exits e =
         qed W ((‵ (flft κ q) ⊛ ‵ ftrue) ∷ ‵ Own ∷ []) ∵
-        suffices ! _ (ends-at 𝓤 H A read.ended stayed (read.clauses 𝓤 H A mem run) W (((κ, tt), (q, tt), tt, (d, tt), (mach ∷ [], tt)), tt) (LL.val DN LN (made r)) (made r) (tt, tt) (tt, tt)) $
+        suffices ! _ (ends-at 𝓤 H A read.ended stayed (read.clauses 𝓤 H A mem run) W (((κ, tt), (q, tt), tt, (d, tt), (mach ∷ [], tt)), tt)
+        (LL.val DN LN (made r)) (made r) (tt, tt) (tt, tt)) $
         says ! (refl, ap (λ (z : Step). z .at) e, ap (λ (z : Step). z .read) e) $ frame ! $
-        use1 W (‵ Own ⊛ ‵ Own) (LL.copy D (T′.the-copy (namedLft 1 0 tt (κ, tt))) 𝓤 H A W .twice d (mach ∷ [])) $ split ! $ nothing ! $ move ! (1 ∷ 0 ∷ []) $ fjoin ! $ frame ! $
+        use1 W (‵ Own ⊛ ‵ Own) (LL.copy D (T′.the-copy (namedLft 1 0 tt (κ, tt))) 𝓤 H A W .twice d (mach ∷ [])) $ split ! $ nothing ! $
+        move ! (1 ∷ 0 ∷ []) $ fjoin ! $ frame ! $
         -- [what the struct owns]: with the number's facts, what the reader after it owns; with the answer's, what the result owns
         owned ! usize (Is usize) (uint-makes 𝓤 H A W w64) (r .at) _ (is-at) $ move ! (1 ∷ 0 ∷ []) $
         use2 W (‵ (B (κ, tt) .own (after r) (LL.vals D L (after r)))) (own-put 𝓤 H A W D L 1 vd (r .at) mach) $
-        nothing ! $ owned ! G.the-row (Is G.the-row) ((EL.makes G.the-type G′.the-plain) 𝓤 H A) (r .read) _ (is-read) $ fjoin ! $ move ! (1 ∷ 0 ∷ []) $ fjoin ! $
+        nothing ! $ owned ! G.the-row (Is G.the-row) ((EL.makes G.the-type G′.the-plain) 𝓤 H A) (r .read) _ (is-read) $ fjoin ! $ move ! (1 ∷ 0 ∷ []) $
+        fjoin ! $
         by ! (own-shut 𝓤 H A W DN LN (after r, (r .read, tt)))
 
   module _ (C : Calls 𝓤 H) (Λ : Loops 𝓤 H) (fm : FmC 𝓤 H (W .laws) C) (known : Triple 𝓤 (C #file-read·reader·step-at) (StepC 𝓤 H A mem run)) where
-    walk : Is (B (κ, tt)) d (mach ∷ []) → ent 𝓤 (onEntry 𝓤 H A read.signature (κ, tt) (q, tt) (d, tt) (mach ∷ [], tt)) (WpFn 𝓤 H C Λ code.function (mach ∷ []) Post)
+    walk : Is (B (κ, tt)) d (mach ∷ [])
+        → ent 𝓤 (onEntry 𝓤 H A read.signature (κ, tt) (q, tt) (d, tt) (mach ∷ [], tt)) (WpFn 𝓤 H C Λ code.function (mach ∷ []) Post)
     walk p =
         let wt = LL.lawful D L 𝓤 H A W .typed d _ p .0 in
         qed W (raw (onEntry 𝓤 H A read.signature (κ, tt) (q, tt) (d, tt) (mach ∷ [], tt)) ∷ []) ∵ enter ! C Λ code.function (mach ∷ []) _ $
-        alloc1 ! (λ l₀. alloc1 ! (λ l₁. alloc1 ! (λ l₂. alloc1 ! (λ l₃. alloc1 ! (λ l₄. alloc1 ! (λ l₅. alloc1 ! (λ l₆. alloc0 ! $ params1 ! $ pass1 ! (init ! 10 refl wt) $ pass0 ! $
-        assigns ! (of-opd ! (load ! (from ! (fld ! {τ = Bytes} {d = 0} refl (stop !))) (look-in ! 10 {τ = Bytes} (sub ! {τs = ReaderFields} 0 {τ = Bytes} {d = 0} refl (whole !))))) (from ! (stop !)) (init ! 6 refl (tt, wt .1 .0)) $
-        assigns ! (of-opd ! (load ! (from ! (fld ! {τ = tyInt w64} {d = 16} refl (stop !))) (look-in ! 10 {τ = tyInt w64} (sub ! {τs = ReaderFields} 1 {τ = tyInt w64} {d = 16} refl (whole !))))) (from ! (stop !)) (init ! 4 refl (tt, wt .1 .1 .0)) $
+        alloc1 ! (λ l₀. alloc1 ! (λ l₁. alloc1 !
+        (λ l₂. alloc1 ! (λ l₃. alloc1 ! (λ l₄. alloc1 ! (λ l₅. alloc1 ! (λ l₆. alloc0 ! $ params1 ! $ pass1 ! (init ! 10 refl wt) $ pass0 ! $
+        assigns ! (of-opd ! (load ! (from ! (fld ! {τ = Bytes} {d = 0} refl (stop !)))
+        (look-in ! 10 {τ = Bytes} (sub ! {τs = ReaderFields} 0 {τ = Bytes} {d = 0} refl (whole !))))) (from ! (stop !)) (init ! 6 refl (tt, wt .1 .0)) $
+        assigns ! (of-opd ! (load ! (from ! (fld ! {τ = tyInt w64} {d = 16} refl (stop !)))
+        (look-in ! 10 {τ = tyInt w64} (sub ! {τs = ReaderFields} 1 {τ = tyInt w64} {d = 16} refl (whole !))))) (from ! (stop !))
+        (init ! 4 refl (tt, wt .1 .1 .0)) $
         move ! (14 ∷ []) $ use1 W (raw (StepC 𝓤 H A mem run .pre to) ⊛ ‵ Own) (apart (wt .1 .1 .0 .fits)) $ split ! $
-        calls-at ! fm (StepC 𝓤 H A mem run) known to (and-then ! (load ! (from ! (stop !)) (look ! 8 refl)) (and-then ! (load ! (from ! (stop !)) (look ! 6 refl)) (no-more !))) (λ u.
-        use1 W (later (some (λ (r : Step). ((‵ (flft κ q) ⊛ ‵ ftrue) ⊛ ‵ (S.the-row .own r (u ∷ []))) ⊛ raw (ensured 𝓤 H A step-at.ended (step-at.clauses 𝓤 H A mem run) (κ, tt) (d .src, (d .at, tt)) tt r)))) (id⊢ 𝓤 _) $ await ! tt $ pick ! (λ r.
+        calls-at ! fm (StepC 𝓤 H A mem run) known to
+        (and-then ! (load ! (from ! (stop !)) (look ! 8 refl)) (and-then ! (load ! (from ! (stop !)) (look ! 6 refl)) (no-more !))) (λ u.
+        use1 W (later (some (λ (r : Step). ((‵ (flft κ q) ⊛ ‵ ftrue) ⊛ ‵ (S.the-row .own r (u ∷ []))) ⊛ raw
+        (ensured 𝓤 H A step-at.ended (step-at.clauses 𝓤 H A mem run) (κ, tt) (d .src, (d .at, tt)) tt r)))) (id⊢ 𝓤 _) $ await ! tt $ pick ! (λ r.
         split ! $ move ! (1 ∷ []) $ use1 W (raw (fact 𝓤 (r ≡ found))) (said r) $ heard ! (r ≡ found) (λ e. split ! $ move ! (1 ∷ []) $
         peeks ! S.the-row (Is S.the-row) (shows 𝓤 H A S.the-row) r (u ∷ []) (λ is.
         let u-is = LL.tells S.the-type S′.the-laws r (u ∷ []) is in
@@ -192,22 +208,36 @@ module _ {M : Type 1} (𝓤 : URA M) (H : Heap 𝓤) (A : Atoms 𝓤) (W : Given
         land ! (from ! (stop !)) (init ! 11 refl (LL.lawful S.the-type S′.the-laws 𝓤 H A W .typed r _ is .0)) $
         rewrite ! 11 (λ (z : Val). ‵ (fat fullShare S′.mir l₂ 0 z)) (ap only u-is) refl $ drop ! $
         -- [the token; what the struct owns; _6 at 2; _5 at 4; _4; _3; _2 at 10; _1 at 12; room for _0 at 14; …]
-        assigns ! (of-opd ! (load ! (from ! (fld ! {τ = Bytes} {d = 0} refl (stop !))) (look-in ! 12 {τ = Bytes} (sub ! {τs = ReaderFields} 0 {τ = Bytes} {d = 0} refl (whole !))))) (from ! (stop !)) (init ! 4 refl (tt, wt .1 .0)) $
-        assigns ! (agg ! (and-then ! (load ! (from ! (stop !)) (look ! 4 refl)) (and-then ! (load ! (from ! (fld ! {τ = tyInt w64} {d = 64} refl (stop !))) (look-in ! 10 {τ = tyInt w64} (sub ! {τs = StepFields} 1 {τ = tyInt w64} {d = 64} refl (whole !)))) (no-more !)))) (from ! (stop !)) (init ! 2 refl (tt, (wt .1 .0, (record { fits = is-at r is′ .1 }, tt)))) $
-        assigns ! (agg ! (and-then ! (load ! (from ! (stop !)) (look ! 2 refl)) (and-then ! (load ! (from ! (fld ! {τ = G′.mir} {d = 0} refl (stop !))) (look-in ! 10 {τ = G′.mir} (sub ! {τs = StepFields} 0 {τ = G′.mir} {d = 0} refl (whole !)))) (no-more !)))) (from ! (stop !)) (init ! 14 refl (LL.lawful DN LN 𝓤 H A W .typed (made r) _ (is-made r is′ p) .0)) $
-        returns ! (look ! 14 refl) $ forget ! 2 refl $ forget ! 4 refl $ forget ! 6 refl $ forget ! 8 refl $ forget ! 10 refl $ forget ! 12 refl $ forget ! 14 refl $
-        move ! (14 ∷ 15 ∷ []) $ free1 ! $ move ! (12 ∷ 13 ∷ []) $ free1 ! $ move ! (10 ∷ 11 ∷ []) $ free1 ! $ move ! (8 ∷ 9 ∷ []) $ free1 ! $ move ! (6 ∷ 7 ∷ []) $ free1 ! $ move ! (4 ∷ 5 ∷ []) $ free1 ! $ move ! (2 ∷ 3 ∷ []) $ free1 ! $ free0 ! $ by ! (exits r is′ e))))))))))))
+        assigns ! (of-opd ! (load ! (from ! (fld ! {τ = Bytes} {d = 0} refl (stop !)))
+        (look-in ! 12 {τ = Bytes} (sub ! {τs = ReaderFields} 0 {τ = Bytes} {d = 0} refl (whole !))))) (from ! (stop !)) (init ! 4 refl (tt, wt .1 .0)) $
+        assigns ! (agg ! (and-then ! (load ! (from ! (stop !)) (look ! 4 refl))
+        (and-then ! (load ! (from ! (fld ! {τ = tyInt w64} {d = 64} refl (stop !)))
+        (look-in ! 10 {τ = tyInt w64} (sub ! {τs = StepFields} 1 {τ = tyInt w64} {d = 64} refl (whole !)))) (no-more !)))) (from ! (stop !))
+        (init ! 2 refl (tt, (wt .1 .0, (record { fits = is-at r is′ .1 }, tt)))) $
+        assigns ! (agg ! (and-then ! (load ! (from ! (stop !)) (look ! 2 refl))
+        (and-then ! (load ! (from ! (fld ! {τ = G′.mir} {d = 0} refl (stop !)))
+        (look-in ! 10 {τ = G′.mir} (sub ! {τs = StepFields} 0 {τ = G′.mir} {d = 0} refl (whole !)))) (no-more !)))) (from ! (stop !))
+        (init ! 14 refl (LL.lawful DN LN 𝓤 H A W .typed (made r) _ (is-made r is′ p) .0)) $
+        returns ! (look ! 14 refl) $ forget ! 2 refl $ forget ! 4 refl $ forget ! 6 refl $ forget ! 8 refl $ forget ! 10 refl $ forget ! 12 refl $
+        forget ! 14 refl $
+        move ! (14 ∷ 15 ∷ []) $ free1 ! $ move ! (12 ∷ 13 ∷ []) $ free1 ! $ move ! (10 ∷ 11 ∷ []) $ free1 ! $ move ! (8 ∷ 9 ∷ []) $ free1 ! $
+        move ! (6 ∷ 7 ∷ []) $ free1 ! $ move ! (4 ∷ 5 ∷ []) $ free1 ! $ move ! (2 ∷ 3 ∷ []) $ free1 ! $ free0 ! $ by ! (exits r is′ e))))))))))))
 
 module _ {M : Type 1} (𝓤 : URA M) (H : Heap 𝓤) (A : Atoms 𝓤) (W : Given 𝓤 H A) (mem : Memory → SProp 𝓤) (run : Routine → Fun 𝓤) where
   read-walks : (C : Calls 𝓤 H) (Λ : Loops 𝓤 H) → FmC 𝓤 H (W .laws) C → Triple 𝓤 (C #file-read·reader·step-at) (StepC 𝓤 H A mem run)
       → Walks 𝓤 H A read.ended stayed (WpFn 𝓤 H C Λ code.function) (read.clauses 𝓤 H A mem run)
-  read-walks C Λ fm known = walked 𝓤 H A read.ended stayed (read.clauses 𝓤 H A mem run) (WpFn 𝓤 H C Λ code.function) (λ κs. (LL.vals (T.the-type (namedLft 1 0 tt κs)) (T′.the-laws (namedLft 1 0 tt κs)), tt)) (λ κs. (LL.tells (T.the-type (namedLft 1 0 tt κs)) (T′.the-laws (namedLft 1 0 tt κs)), tt))
+  read-walks C Λ fm known =
+      walked 𝓤 H A read.ended stayed (read.clauses 𝓤 H A mem run) (WpFn 𝓤 H C Λ code.function)
+      (λ κs. (LL.vals (T.the-type (namedLft 1 0 tt κs)) (T′.the-laws (namedLft 1 0 tt κs)), tt))
+      (λ κs. (LL.tells (T.the-type (namedLft 1 0 tt κs)) (T′.the-laws (namedLft 1 0 tt κs)), tt))
       (λ κs qs bounds a g are. via 𝓤 _ (fst∗ 𝓤 _ (emp 𝓤)) (walk 𝓤 H A W mem run (κs .0) (qs .0) (a .0) C Λ fm known (are .0)))
 
 read-meets : {M : Type 1} (𝓤 : URA M) (H : Heap 𝓤) (A : Atoms 𝓤) (W : Given 𝓤 H A) (mem : Memory → SProp 𝓤) (run : Routine → Fun 𝓤) (𝓣 : Tables 𝓤 H)
     → Triple 𝓤 (𝓣 .C #file-read·reader·step-at) (StepC 𝓤 H A mem run)
     → Meets 𝓤 H A read.signature (WpFn 𝓤 H (𝓣 .C) (𝓣 .Λ) code.function) (read.spec 𝓤 H A mem run)
-read-meets 𝓤 H A W mem run 𝓣 known = walk-meets 𝓤 H A read.ended stayed W (goes-none 𝓤 H A W 1 B yes (λ κs x f. refl), tt) (read.clauses 𝓤 H A mem run) (WpFn 𝓤 H (𝓣 .C) (𝓣 .Λ) code.function) (WpFn-mono 𝓤 H (W .laws) 𝓣 code.function)
+read-meets 𝓤 H A W mem run 𝓣 known =
+    walk-meets 𝓤 H A read.ended stayed W (goes-none 𝓤 H A W 1 B yes (λ κs x f. refl), tt) (read.clauses 𝓤 H A mem run)
+    (WpFn 𝓤 H (𝓣 .C) (𝓣 .Λ) code.function) (WpFn-mono 𝓤 H (W .laws) 𝓣 code.function)
     (read-walks 𝓤 H A W mem run (𝓣 .C) (𝓣 .Λ) (fmOf 𝓤 H (W .laws) 𝓣) known)
 
 pub read-spec : {M : Type 1} → stated.statement M
@@ -216,4 +246,5 @@ read-spec 𝓤 H 𝓜 𝓖 𝓡 =
     entered 𝓤 H (tripleOf 𝓤 H (𝓖 .A) read.signature (read.spec 𝓤 H (𝓖 .A) (𝓜 .mem) (𝓡 .run)))
     (tables 𝓤 H 𝓜 𝓡 code.env .C) (tables 𝓤 H 𝓜 𝓡 code.env .Λ) #file-read·reader·Reader·read code.function (code.unfolded 𝓤 H 𝓜 𝓡)
     (read-meets 𝓤 H (𝓖 .A) (givenOf 𝓤 H 𝓜 𝓖) (𝓜 .mem) (𝓡 .run) (tablesOf 𝓤 H 𝓜 (tables 𝓤 H 𝓜 𝓡 code.env))
-    (cited 𝓤 H (StepC 𝓤 H (𝓖 .A) (𝓜 .mem) (𝓡 .run)) 𝓜 𝓡 code.env #file-read·reader·step-at step-at-def.routine code.calls-file-read·reader·step-at (step-at-thm.met 𝓤 H 𝓜 𝓖 𝓡)))
+    (cited 𝓤 H (StepC 𝓤 H (𝓖 .A) (𝓜 .mem) (𝓡 .run)) 𝓜 𝓡 code.env #file-read·reader·step-at step-at-def.routine code.calls-file-read·reader·step-at
+    (step-at-thm.met 𝓤 H 𝓜 𝓖 𝓡)))

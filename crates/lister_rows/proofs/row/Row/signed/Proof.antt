@@ -84,7 +84,8 @@ returns c =
 
 cast-number : tie.Need-cast-number
 cast-number c =
-    simp (toZ-ofZ, c .before .fits .n) (plain (c .before .args .n) (left c) .0, omega (arith, abs-parts (c .before .args .n), parts-fit w64 (c .before .args .n) (c .before .fits .n)))
+    simp (toZ-ofZ, c .before .fits .n)
+    (plain (c .before .args .n) (left c) .0, omega (arith, abs-parts (c .before .args .n), parts-fit w64 (c .before .args .n) (c .before .fits .n)))
 
 returns-2 : tie.Need-returns-2
 returns-2 c =

@@ -1,0 +1,33 @@
+-- `Book::enter_close` meets its contract: a close has no conditions of its own, so a number up to 15 decides alone.
+use borrow.Author.Needs.{needs}
+use mathlib.Core.Path.{_≡_, refl, _∙_}
+use Rattle.commands.specs.Input.{lowest, inputRefusal}
+use Rattle.commands.specs.declared.entries.Command.the-variants.{Close as closeᶜ}
+use Rattle.book.proofs.Refusals.{anyOf, close-own}
+use Rattle.book.proofs.Entered.{any-refuses-at, own-takes-at}
+use Rattle.book.proofs.Book.enter_close.Statement.{statement}
+use Rattle.book.proofs.Book.enter_close.Tie as tie
+
+-- the number up to 15
+any : (c : tie.After-any-refusal) → let at = c .before .before .args in c .any-refusal .result ≡ anyOf (at .self) (at .room) closeᶜ
+unfolding inputRefusal lowest
+any c = c .any-refusal .ensures ∙ (rw (c .before .cells .ensures, c .before .before .pre))
+
+returns : tie.Need-returns
+returns c = rw (c .refused .ensures) (any-refuses-at _ _ _ _ (any (c .before .before)) (c .before .if1 .taken))
+
+returns-2 : tie.Need-returns-2
+returns-2 c =
+    let b = c .before .before .before .before .args .self in
+    rw (c .taken .ensures) (own-takes-at b _ _ _ (any (c .before .before)) (c .before .if1 .left) (λ m. close-own b m) (λ m. refl))
+
+pub enter-close-spec : {M : Type 1} → statement M
+enter-close-spec =
+    tie.close
+    (tie.spec
+    (λ c κs. search needs)
+    (λ c κs. search needs)
+    (λ c κs. search needs)
+    returns
+    (λ c κs. search needs)
+    returns-2)

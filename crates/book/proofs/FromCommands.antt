@@ -1,0 +1,159 @@
+-- 11 in both directions: the books that a list of commands leaves are the sound ones. A sound book is left by the commands that it is written as.
+use mathlib.Core.Path.{_≡_, refl, sym, ap, _∙_, subst, subst⁻¹}
+use mathlib.Core.Bool.{Bool, true, false, cond}
+use mathlib.Core.List.{List, [], _∷_, _++_}
+use mathlib.Core.Option.{Option, none, some, Option·none-ne-some}
+use Prim.Native.Nat.{ℕ, _≤_, _<_}
+use native.Mathlib.Nat.{le-refl}
+use native.Mathlib.Omega.{arith}
+use lib.IntN.{ℤ}
+use lib.Dec.{T, ltb, ltb→lt}
+use lib.ListN.{length, take, replicate, length-replicate, length-take}
+use Rattle.energy.specs.Lists.{pass}
+use Rattle.energy.proofs.Tests.{to-T, of-T}
+use Rattle.commands.specs.Input.{isReading}
+use Rattle.rules.specs.Ledger.{Ledger, ledgerOf, contractOf, spanIn}
+use Rattle.rules.specs.Refusal.{refusal, joined, takenAfter, taken}
+use Rattle.rules.specs.Reached.{Reached, untouched, agreed, Untouched, Agreed, agreedTests}
+use Rattle.rules.specs.File.{written}
+use Rattle.rules.specs.Rewritten.{Rewritten}
+use Rattle.commands.specs.declared.entries.Command.{Command}
+use Rattle.rules.proofs.Rewritten.{rewritten}
+use Rattle.book_memory.specs.Meter.{putMeter, cellReading, missing, Memory, kwAt, lent}
+use Rattle.book.specs.Book.{emptyBook, bookSpan, bookCells, ledgerIn, putBook, putAll}
+use Rattle.book.specs.Sound.{sound, Shaped, FromCommands, Sound·theorem}
+use Rattle.book.specs.declared.Book.{Book}
+use Rattle.book.proofs.Holds.{none-below}
+use Rattle.book.proofs.Tested.{Tables, contents, sound-parts, contract-is, Empty, sound-empty}
+use Rattle.book.proofs.Month.{span-is, cells-is, span-empty}
+use Rattle.book.proofs.Follow.{Follows, starts, put-follows}
+use Rattle.book.proofs.Determined.{determined}
+
+-- ---- what commands leave is sound
+
+putAll-snoc : (b : Book) (t : List Command) (c : Command) → putAll b (t ++ (c ∷ [])) ≡ putBook (putAll b t) c
+unfolding putAll
+putAll-snoc b [] c = refl
+putAll-snoc b (x ∷ t) c = putAll-snoc (putBook b x) t c
+
+-- commands taken, put into the empty book, with some meter memory that follows them
+pub record Leads (size : ℕ) (t : List Command) : Type 0 where
+  pub meter : Memory
+  pub follows : Follows size t (putAll emptyBook t) meter
+
+leads-on : (size : ℕ) (t cs : List Command) → Leads size t → Leads size (takenAfter size t cs)
+unfolding takenAfter
+leads-on size t [] l = l
+leads-on size t (c ∷ cs) l = leads-on size (joined (refusal false size (ledgerOf t) c) t c) cs (go (refusal false size (ledgerOf t) c) refl)
+  where
+    go : (o : Option ℕ) → refusal false size (ledgerOf t) c ≡ o → Leads size (joined o t c)
+    go none e =
+        record {
+          meter = putMeter (l .meter) c;
+          follows = subst⁻¹ (λ b. Follows size (t ++ (c ∷ [])) b (putMeter (l .meter) c)) (putAll-snoc emptyBook t c) (put-follows (l .follows) c e);
+        }
+    go (some n) e = l
+
+pub leads : (size : ℕ) (cs : List Command) → Leads size (taken size cs)
+unfolding taken putAll
+leads size cs =
+    leads-on size [] cs
+    (record {
+      meter = lent (replicate size missing);
+      follows = subst (λ n. Follows n [] emptyBook (lent (replicate size missing))) (length-replicate size missing) (starts (lent (replicate size missing)));
+    })
+
+from-sound : (b : Book) → FromCommands b → T (sound b)
+from-sound b l = subst⁻¹ (λ x. T (sound x)) (l .leaves) (to-T (leads (l .size) (l .commands) .follows .sound))
+
+-- ---- the ledger of a sound book is reached
+
+short : {A : Type 0} (n : ℕ) (l : List A) {most : ℕ} → n ≤ most → length (take n l) ≤ most
+short n l {most} h = subst⁻¹ (λ x. x ≤ most) (length-take n l) (omega arith)
+
+-- a reading is in the span and in range
+given : (b : Book) (meter : Memory) (m : ℕ) (kw : ℤ) → ledgerIn b meter .reading m ≡ some kw → (m < bookSpan b) × T (isReading kw)
+unfolding ledgerIn
+given b meter m kw e = in-span (ltb m (bookSpan b)) refl e
+  where
+    in-range : (z : ℤ) (t : Bool) → isReading z ≡ t → cond t (some z) none ≡ some kw → T (isReading kw)
+    in-range z true i h = let same : z ≡ kw = cc in subst (λ x. T (isReading x)) same (to-T i)
+    in-range z false i h = absurd (Option·none-ne-some kw h)
+
+    in-span : (t : Bool) → ltb m (bookSpan b) ≡ t → cond t (cellReading (kwAt meter m)) none ≡ some kw → (m < bookSpan b) × T (isReading kw)
+    in-span true l h = (ltb→lt m (bookSpan b) (to-T l), in-range (kwAt meter m) (isReading (kwAt meter m)) refl h)
+    in-span false l h = absurd (Option·none-ne-some kw h)
+
+with-contract : (b : Book) (meter : Memory) (size : ℕ) → sound b ≡ true → b .agreed ≡ true → bookCells b ≤ size → Agreed size (ledgerIn b meter)
+unfolding ledgerIn
+with-contract b meter size e s h =
+    let t : Tables b = sound-parts b e .tables in
+    let k : contractOf (ledgerIn b meter) ≡ b .contract = contract-is b meter s in
+    record {
+      contract = ap (λ x. cond x (b .contract ∷ []) []) s ∙ ap (λ c. c ∷ []) (sym k);
+      tests =
+          subst⁻¹ (λ c. T (pass (agreedTests c (spanIn (ledgerIn b meter)) (take (b .nwindows) (b .windows)) (take (b .ninstructions) (b .instructions))
+          (take (b .ndefaults) (b .defaults))))) k
+          (subst⁻¹ (λ n. T (pass (agreedTests (b .contract) n (take (b .nwindows) (b .windows)) (take (b .ninstructions) (b .instructions))
+          (take (b .ndefaults) (b .defaults))))) (span-is b meter s)
+          (subst (λ x. T (pass (contents b x))) s (sound-parts b e .contents)));
+      windows = short (b .nwindows) (b .windows) (t .windows);
+      instructions = short (b .ninstructions) (b .instructions) (t .instructions);
+      defaults = short (b .ndefaults) (b .defaults) (t .defaults);
+      cells = subst⁻¹ (λ n. n ≤ size) (cells-is b meter s) h;
+      readings = λ m kw r. subst⁻¹ (λ n. (m < n) × T (isReading kw)) (span-is b meter s) (given b meter m kw r);
+    }
+
+without : (b : Book) (meter : Memory) → sound b ≡ true → b .agreed ≡ false → Untouched (ledgerIn b meter)
+unfolding ledgerIn
+without b meter e s =
+    let n : Empty b = sound-empty b e s in
+    record {
+      contracts = ap (λ x. cond x (b .contract ∷ []) []) s;
+      windows = ap (λ x. take x (b .windows)) (n .windows);
+      instructions = ap (λ x. take x (b .instructions)) (n .instructions);
+      defaults = ap (λ x. take x (b .defaults)) (n .defaults);
+      notClosed = n .notClosed;
+      readings = λ m. none-below b meter m (span-empty b e s);
+    }
+
+pub book-reached : (b : Book) (meter : Memory) (size : ℕ) → sound b ≡ true → bookCells b ≤ size → Reached size (ledgerIn b meter)
+book-reached b meter size e h = go (b .agreed) refl
+  where
+    go : (x : Bool) → b .agreed ≡ x → Reached size (ledgerIn b meter)
+    go true s = agreed (with-contract b meter size e s h)
+    go false s = untouched (without b meter e s)
+
+-- ---- a sound book is left by its own commands
+
+-- books that hold the same ledger are the same
+pub same-book : (b c : Book) (meter after : Memory) → Shaped b → Shaped c → sound b ≡ true → sound c ≡ true → ledgerIn b meter ≡ ledgerIn c after → b ≡ c
+unfolding ledgerIn
+same-book b c meter after s s′ e e′ l =
+    determined b c s s′ e e′
+    (record {
+      contracts = ap (λ g. g .contracts) l;
+      windows = ap (λ g. g .windows) l;
+      instructions = ap (λ g. g .instructions) l;
+      defaults = ap (λ g. g .defaults) l;
+      closed = ap (λ g. g .closed) l;
+    })
+
+sound-from : (b : Book) → Shaped b → T (sound b) → FromCommands b
+sound-from b s t =
+    let size : ℕ = bookCells b in
+    let e : sound b ≡ true = of-T (sound b) t in
+    let g : Ledger = ledgerIn b (lent []) in
+    let w : Rewritten size g = rewritten size g (book-reached b (lent []) size e (le-refl size)) in
+    let l : Leads size (taken size (written g)) = leads size (written g) in
+    let after : Book = putAll emptyBook (taken size (written g)) in
+    let same : ledgerIn after (l .meter) ≡ g = l .follows .ledger ∙ ap ledgerOf (w .allTaken) ∙ w .same in
+    record {
+      size = size;
+      commands = written g;
+      leaves = same-book b after (lent []) (l .meter) s (l .follows .shaped) e (l .follows .sound) (sym same);
+    }
+
+pub commands-leave : Sound·theorem
+unfolding Sound·theorem
+commands-leave b s = (λ t. sound-from b s t, λ l. from-sound b l)

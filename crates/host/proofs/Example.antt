@@ -1,0 +1,25 @@
+-- The example of Appendix 2 through a call for hosts, by computation.
+use mathlib.Core.Path.{refl}
+use Rattle.rules.specs.Reached.{windowsSound, instructionsSound, agreedTests}
+use Rattle.rules.proofs.Opened.{opened}
+use Rattle.book.specs.Book.{bookSpan, bookCells, ledgerIn}
+use Rattle.book.specs.Sound.{noContractTests, emptyTests, tableTests, sound}
+use Rattle.settle_numbers.specs.Numbers.{numbersOf, numberBook}
+use Rattle.host_tables.specs.Tables.{contractIn, windowIn, instructionIn, defaultIn, entriesOf, bookOf, entire}
+use Rattle.host_sums.specs.Sums.{sumsOf}
+use Rattle.host.specs.Calls.{settleInto, settleTables}
+use Rattle.host.specs.Example.{Example}
+
+-- the book's definitions, all opened by one name
+unfoldable books : Unit {0}
+unfolding windowsSound instructionsSound agreedTests bookSpan bookCells ledgerIn noContractTests emptyTests tableTests sound
+books = tt
+
+-- those of tables, numbers and sums
+unfoldable numbers : Unit {0}
+unfolding contractIn windowIn instructionIn defaultIn entriesOf bookOf entire numbersOf numberBook sumsOf
+numbers = tt
+
+pub example : Example
+unfolding opened books numbers settleInto settleTables
+example = record { settled = refl; fewLines = refl; fewSums = refl; unread = refl; fewMinutes = refl; cutShort = refl }

@@ -1,0 +1,57 @@
+-- Appendix 2 through a call for hosts, to the number: its contract, window and instruction as tables, its readings in meter memory, and what the call
+-- answers and leaves in line and sum memory; and which refusal is given where several hold.
+use mathlib.Core.Path.{_≡_}
+use mathlib.Core.List.{List, [], _∷_, _++_, map}
+use Prim.Native.Nat.{ℕ, _*_}
+use lib.IntN.{ℤ, pos}
+use lib.ListN.{replicate}
+use Rattle.book_memory.specs.Meter.{Memory, lent, missing}
+use Rattle.rules.specs.Examples.{guide, times}
+use Rattle.host_tables.specs.Tables.{Tables, tables}
+use Rattle.host.specs.Calls.{settledBook, settleTables}
+
+-- Appendix 2's contract, window and instruction
+abbrev pub appendix : Tables
+appendix = tables guide (0 ∷ 180 ∷ 0 ∷ []) (5 ∷ 85 ∷ []) []
+
+-- the same with its instruction's row cut short
+abbrev pub cut : Tables
+cut = tables guide (0 ∷ 180 ∷ 0 ∷ []) (5 ∷ []) []
+
+-- its metered MW, from minute 19 to minute 90
+abbrev pub metered : List ℕ
+metered =
+    (0 ∷ 2 ∷ 4 ∷ 6 ∷ 8 ∷ 10 ∷ 12 ∷ 12 ∷ 12 ∷ 12 ∷ 13 ∷ []) ++ times 15 (10 ∷ 13 ∷ []) ++ times 25 (13 ∷ []) ++ (13 ∷ 11 ∷ 9 ∷ 7 ∷ 5 ∷ 3 ∷ [])
+
+-- a day of meter memory with these, and 0 in every other minute
+abbrev pub day : Memory
+day = lent (replicate 19 (pos 0) ++ map (λ x. pos (1000 * x)) metered ++ replicate 1349 (pos 0))
+
+-- memory of so many numbers, all 7
+abbrev pub sevens : ℕ → List ℤ
+sevens n = replicate n (pos 7)
+
+-- the numbers of F1's lines
+abbrev pub lineNumbers : List ℤ
+lineNumbers =
+    map pos
+    ((1 ∷ 1 ∷ 0 ∷ 0 ∷ 600 ∷ 500 ∷ 500 ∷ 15000 ∷ []) ++ (1 ∷ 1 ∷ 1 ∷ 0 ∷ 1000 ∷ 1017 ∷ 1000 ∷ 30000 ∷ [])
+    ++ (1 ∷ 2 ∷ 1 ∷ 0 ∷ 6000 ∷ 5750 ∷ 5750 ∷ 172500 ∷ [])
+    ++ (1 ∷ 3 ∷ 1 ∷ 0 ∷ 5000 ∷ 5417 ∷ 5000 ∷ 150000 ∷ [])
+    ++ (1 ∷ 3 ∷ 2 ∷ 0 ∷ 500 ∷ 750 ∷ 500 ∷ 15000 ∷ [])
+    ++ (1 ∷ 4 ∷ 2 ∷ 0 ∷ 100 ∷ 50 ∷ 50 ∷ 1500 ∷ []))
+
+-- the numbers of F1's sums
+abbrev pub sumNumbers : List ℤ
+sumNumbers = map pos (6 ∷ 1 ∷ 12800 ∷ 384000 ∷ 32400 ∷ 416400 ∷ 6 ∷ 32400 ∷ []) ++ replicate 254 (pos 0)
+
+-- room for six lines is 48 numbers, for the sums 262
+pub record Example : Type 0 where
+  pub settled : settleTables appendix day (sevens 49) (sevens 263) ≡ settledBook 0 (lineNumbers ++ sevens 1) (sumNumbers ++ sevens 1)
+  -- a number too few of either
+  pub fewLines : settleTables appendix day (sevens 47) (sevens 262) ≡ settledBook 26 (sevens 47) (sevens 262)
+  pub fewSums : settleTables appendix day (sevens 48) (sevens 261) ≡ settledBook 26 (sevens 48) (sevens 261)
+  -- too few sums, and something before it: no readings, meter memory a minute short, a row cut short
+  pub unread : settleTables appendix (lent (replicate 1440 missing)) (sevens 48) (sevens 261) ≡ settledBook 25 (sevens 48) (sevens 261)
+  pub fewMinutes : settleTables appendix (lent (replicate 1439 (pos 0))) (sevens 48) (sevens 261) ≡ settledBook 15 (sevens 48) (sevens 261)
+  pub cutShort : settleTables cut day (sevens 48) (sevens 261) ≡ settledBook 11 (sevens 48) (sevens 261)

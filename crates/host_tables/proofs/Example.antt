@@ -1,0 +1,31 @@
+-- The example of a book in tables, by computation.
+use mathlib.Core.Path.{refl}
+use Rattle.energy.specs.Lists.{run, between}
+use Rattle.host_tables.specs.Tables.{contractIn, windowIn, instructionIn, defaultIn, entriesOf, bookOf, entire}
+use Rattle.host_tables.specs.Example.{Example}
+
+pub example : Example
+unfolding run between contractIn windowIn instructionIn defaultIn entriesOf bookOf entire
+example =
+    record {
+      contract = refl;
+      windows = refl;
+      instructions = refl;
+      defaults = refl;
+      windowCount = refl;
+      instructionCount = refl;
+      defaultCount = refl;
+      agreed = refl;
+      closed = refl;
+      wideDays = refl;
+      wideResponse = refl;
+      wideWindow = refl;
+      wideInstruction = refl;
+      wideDefault = refl;
+      wholeRows = refl;
+      shortContract = refl;
+      longContract = refl;
+      shortWindow = refl;
+      shortInstruction = refl;
+      shortDefault = refl;
+    }

@@ -1,0 +1,118 @@
+-- `lister::input::list_input` meets its contract. The loop's invariant: entering stands as all bytes so far say, and no rows are put yet. The measure is
+-- how far entering can still come: each full buffer moves the offset on.
+use mathlib.Core.Path.{_≡_, refl, sym, _∙_}
+use mathlib.Core.Bool.{true}
+use mathlib.Core.List.{[]}
+use borrow.Author.Needs.{needs}
+use borrow.Author.Tests.{not-true, not-false}
+use Prim.Native.Nat.{_≤_, _+_, _-_}
+use native.Mathlib.Omega.{arith}
+use lib.ListN.{length, take}
+use Rattle.energy.proofs.Puts.{put-none}
+use Rattle.book_memory.specs.Meter.{lent, roomIn}
+use Rattle.rules.specs.FileLength.{mostTaken}
+use Rattle.rules.proofs.FileLength.{file-length}
+use Rattle.book.specs.Sound.{sound}
+use Rattle.book.proofs.Follow.{starts}
+use Rattle.lister.proofs.Refill.{SoFar, begins, far, Held, held, listed, again, forward}
+use Rattle.lister.proofs.input.list_input.Statement.{statement}
+use Rattle.lister.proofs.input.list_input.Tie as tie
+
+abbrev Inv-loop : tie.InvT-loop
+Inv-loop buffer₀ meter₀ rows₀ e₀ kept₀ buffer meter rows e kept =
+    (sound (e .book) ≡ true) × (kept ≤ length buffer) × (length buffer ≡ length buffer₀) × (length meter ≡ length meter₀) × (rows ≡ rows₀)
+    × SoFar (lent meter₀) e (lent meter) (take kept buffer)
+
+abbrev μ-loop : tie.MeasureT-loop
+μ-loop buffer₀ meter₀ rows₀ e₀ kept₀ buffer meter rows e kept = mostTaken (roomIn (lent meter₀)) - e .offset
+
+loop-holds : tie.Need-loop-holds Inv-loop μ-loop
+loop-holds c = (rw (c .empty .ensures) (starts (lent []) .sound), omega arith, refl, refl, refl, begins _ _ (c .empty .ensures))
+
+list-piece-requires : tie.Need-list-piece-requires Inv-loop μ-loop
+list-piece-requires c κs =
+    let f = c .before .before .before .before .before .fill in
+    let t = c .before .before .before .before .before .before .before .loop in
+    let start = c .before .before .before .before .before .before .before .before .before .before in
+    let small = file-length .counted (length (start .args .meter .now)) (omega (arith, start .pre)) in
+    (t .inv .0, f .ensures .2, omega (arith, far (t .inv .5), small, f .ensures .2, f .kept, t .inv .2, start .pre))
+
+-- the bytes that the buffer holds once it is filled
+met : (c : tie.After-list-piece Inv-loop μ-loop)
+    → Held (lent (c .before .before .before .before .before .before .before .before .before .before .before .args .meter .now))
+    (c .before .before .before .before .before .before .before .before .loop .e)
+    (lent (c .before .before .before .before .before .before .before .before .loop .meter))
+    (c .before .before .before .before .before .before .fill .last .0)
+    (c .before .before .before .before .before .before .fill .result)
+met c =
+    let f = c .before .before .before .before .before .before .fill in
+    let t = c .before .before .before .before .before .before .before .before .loop in
+    held (t .inv .5) (f .last .0) (t .kept) (f .result) (f .ensures .0) (f .ensures .1) (f .ensures .2)
+
+returns : tie.Need-returns Inv-loop μ-loop
+returns c =
+    let d = c .before .before .before .before .before .before in
+    let l = d .list-piece in
+    let stopped = not-true (l .result .piece .going) (c .if1 .taken) in
+    rw (sym (d .before .before .before .before .before .before .before .before .loop .inv .4))
+    (listed (met d) (l .ensures .0) stopped (search (needs, l, d .before .before .before .before .before .before .fill)) (l .ensures .1))
+
+-- the loop goes on
+goes : (c : tie.Else1 Inv-loop μ-loop) → c .before .before .before .before .before .before .list-piece .result .piece .going ≡ true
+goes c = not-false (c .before .before .before .before .before .before .list-piece .result .piece .going) (c .if1 .left)
+
+loop-less : tie.Need-loop-less Inv-loop μ-loop
+loop-less c =
+    let d = c .before .before .before .before .before .before .before in
+    let start = d .before .before .before .before .before .before .before .before .before .before .before in
+    omega (
+      arith,
+      forward (met d) (d .list-piece .ensures .0) (goes (c .before))
+          (omega (arith, d .before .before .before .before .before .before .fill .kept, d .before .before .before .before .before .before .before .before .loop .inv .2, start .pre)),
+    )
+
+loop-again : tie.Need-loop-again Inv-loop μ-loop
+loop-again c =
+    let d = c .before .before .before .before .before .before .before in
+    let l = d .list-piece in
+    let f = d .before .before .before .before .before .before .fill in
+    let t = d .before .before .before .before .before .before .before .before .loop in
+    let nothing = rw (goes (c .before)) at (l .ensures .1) in (
+      l .ensures .0 .keeps,
+      l .ensures .0 .fits,
+      search (needs, l, f, t .inv),
+      search (needs, l, f, t .inv),
+      nothing .holds ∙ put-none (t .rows) 0 ∙ t .inv .4,
+      again (met d) (l .ensures .0) (goes (c .before)),
+    )
+
+same-length : tie.Need-same-length Inv-loop μ-loop
+same-length c =
+    let d = c .before .before .before .before .before .before in
+    search (
+      needs,
+      d .list-piece,
+      d .before .before .before .before .before .before .fill,
+      d .before .before .before .before .before .before .before .before .loop .inv,
+    )
+
+same-length-2 : tie.Need-same-length-2 Inv-loop μ-loop
+same-length-2 c =
+    let d = c .before .before .before .before .before .before in
+    search (needs, d .list-piece, d .before .before .before .before .before .before .before .before .loop .inv)
+
+pub list-input-spec : {M : Type 1} → statement M
+list-input-spec =
+    tie.close
+    (tie.spec
+    Inv-loop
+    μ-loop
+    (λ c κs. search needs)
+    loop-holds
+    (λ c κs. search needs)
+    list-piece-requires
+    same-length
+    same-length-2
+    returns
+    loop-less
+    loop-again)

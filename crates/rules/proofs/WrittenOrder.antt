@@ -1,0 +1,14 @@
+-- What a book is written as, by computation.
+use mathlib.Core.Path.{refl}
+use Rattle.rules.specs.Examples.{ledger}
+use Rattle.rules.specs.WrittenOrder.{WrittenOrder}
+use Rattle.rules.proofs.Opened.{opened}
+
+pub written-order : WrittenOrder
+unfolding opened ledger
+written-order =
+    record {
+      ordered = refl;
+      closed = refl;
+      noBytes = refl;
+    }

@@ -1,0 +1,528 @@
+//! What the generated files met: refusals, ends of ranges, and features of
+//! settled months. A comparison proves little about what it never met.
+
+use second::book::{self, Book};
+use second::bytes::{self, Command, Contract, Instruction, Read};
+use second::rows::Room;
+use second::rules::{self, *};
+use second::settle::{self, Rate, Stage, Statement};
+use second::switches::Switch;
+use std::collections::BTreeMap;
+use std::ops::RangeInclusive;
+
+/// The refusals that a file can meet.
+pub const REFUSALS: [u8; 19] = [
+    1, 2, 3, 4, 5, 12, 13, 14, 15, 16, 17, 18, 19, 20, 21, 22, 23, 24, 25,
+];
+
+const FEATURES: [&str; 70] = [
+    "settled, generator",
+    "settled, demand reducer",
+    "settled, committed",
+    "settled, flexible",
+    "no line",
+    "line, ramp up",
+    "line, steady",
+    "line, ramp down",
+    "line, utilisation rate",
+    "line, optional rate",
+    "line, delivered below 0",
+    "line, delivered above expected",
+    "line, pence below 0",
+    "line, half a kWh above 0",
+    "line, half a kWh below 0",
+    "line, half a penny above 0",
+    "line, half a penny below 0",
+    "as many lines as the days hold",
+    "windows touch",
+    "window rejected",
+    "window excluded",
+    "window excluded, committed",
+    "window starts at f",
+    "window starts at f + 1",
+    "window starts at f + recovery + response - 1",
+    "window starts at f + recovery + response",
+    "window excluded, instruction in it",
+    "window partly paid",
+    "window not paid",
+    "period of half a penny",
+    "instruction across periods",
+    "instruction issued at 3",
+    "instruction issued at last end + recovery",
+    "instruction ends with the span",
+    "cease = e",
+    "U = response",
+    "V = 240",
+    "base load in an earlier instruction",
+    "base load in its own ramp up",
+    "ramp up paid by e alone",
+    "ramp up in a window, e outside",
+    "ramp down paid by cease - 1 alone",
+    "ramp down in a window, cease - 1 outside",
+    "default 1 1",
+    "default 1 2",
+    "default 1 3",
+    "default 2 1",
+    "default 2 2",
+    "default 2 3",
+    "default 3 1",
+    "default 3 2",
+    "default 3 3",
+    "default 4 1",
+    "default 4 2",
+    "default 4 3",
+    "default in a window that is not live",
+    "P from 1 to 29",
+    "P 30",
+    "more than 30 faulted windows",
+    "table full",
+    "reading below 0",
+    "minutes without a reading",
+    "31 days",
+    "31 days, every table full",
+    "31 days, a reading in every minute",
+    "31 days, 1679 lines",
+    "written, empty",
+    "written, open",
+    "written, closed",
+    "written, in another order",
+];
+
+/// Features that start like this are met in whole months alone, and must be
+/// met by a comparison on them.
+const WHOLE_MONTH: &str = "31 days";
+/// Features that start like this are met where files are written.
+const WRITTEN: &str = "written";
+/// No month has more lines.
+const MOST_LINES: i64 = 1_679;
+
+#[derive(Default)]
+pub struct Coverage {
+    pub files: usize,
+    pub bytes: usize,
+    pub longest: usize,
+    /// Whether some program had memory for whole months.
+    whole_months: bool,
+    /// Whether some program had less.
+    short_months: bool,
+    /// Whether some program listed files, or wrote them.
+    listed: bool,
+    written: bool,
+    lines: usize,
+    windows: usize,
+    refused: usize,
+    refusals: BTreeMap<u8, usize>,
+    features: BTreeMap<&'static str, usize>,
+    /// For each operand: just below, lowest, highest, just above. None where
+    /// the operand's bytes hold no such number.
+    ends: BTreeMap<&'static str, [Option<usize>; 4]>,
+}
+
+impl Coverage {
+    /// Counts what a file meets under the right rules when it is listed.
+    pub fn add_listed(&mut self, file: &[u8], room: Room) {
+        self.listed = true;
+        let (taken, book, meter) = self.add(file, room);
+        let settled = taken.and_then(|()| settle::settle(&book, &meter, room.lines, Switch::RIGHT));
+        match settled {
+            Err(number) => self.count_refusal(number),
+            Ok(statement) => self.count_statement(&book, &meter, &statement),
+        }
+    }
+
+    /// The same when its book is written: `written` is the file of it.
+    pub fn add_written(&mut self, file: &[u8], room: Room, written: &[u8]) {
+        self.written = true;
+        let (taken, book, _) = self.add(file, room);
+        if let Err(number) = taken {
+            self.count_refusal(number);
+            return;
+        }
+        let empty = book.contract.is_none();
+        self.met("written, empty", empty);
+        self.met("written, open", !empty && !book.closed);
+        self.met("written, closed", book.closed);
+        self.met("written, in another order", written != file);
+    }
+
+    /// Counts what entering a file meets; its answer, the book and the
+    /// readings.
+    fn add(&mut self, file: &[u8], room: Room) -> (Result<(), u8>, Book, Vec<i32>) {
+        self.files += 1;
+        self.bytes += file.len();
+        self.longest = self.longest.max(file.len());
+        let whole = room.minutes as i64 >= DAYS.end() * DAY;
+        self.whole_months |= whole;
+        self.short_months |= !whole;
+        let mut book = Book::default();
+        let mut meter = vec![NO_READING; room.minutes];
+        let entered = book::enter_file(file, &mut book, &mut meter, true, Switch::RIGHT);
+        // What stands behind a refusal is not looked at, and so not met.
+        for command in &entered {
+            self.count_operands(file, command.offset);
+        }
+        let taken = entered.last().map_or(Ok(()), |last| last.answer);
+        (taken, book, meter)
+    }
+
+    fn count_refusal(&mut self, number: u8) {
+        self.refused += 1;
+        *self.refusals.entry(number).or_default() += 1;
+    }
+
+    /// The refusals that may be met with the programs and the memory that
+    /// there were.
+    fn refusals_to_meet(&self) -> impl Iterator<Item = u8> + '_ {
+        REFUSALS
+            .into_iter()
+            .filter(|number| self.short_months || *number != 15)
+            .filter(|number| self.listed || *number < 24)
+    }
+
+    /// The features that may be met with the programs and the memory that
+    /// there were.
+    fn features_to_meet(&self) -> impl Iterator<Item = &'static str> + '_ {
+        FEATURES
+            .into_iter()
+            .filter(|feature| self.whole_months || !feature.starts_with(WHOLE_MONTH))
+            .filter(|feature| match feature.starts_with(WRITTEN) {
+                true => self.written,
+                false => self.listed,
+            })
+    }
+
+    /// All that is counted and was never met.
+    pub fn missing(&self) -> Vec<String> {
+        let refusals = self
+            .refusals_to_meet()
+            .filter(|number| !self.refusals.contains_key(number))
+            .map(|number| format!("refusal {number}"));
+        let features = self
+            .features_to_meet()
+            .filter(|feature| !self.features.contains_key(feature))
+            .map(str::to_string);
+        let places = ["just below", "lowest", "highest", "just above"];
+        let ends = self.ends.iter().flat_map(|(name, counts)| {
+            places
+                .into_iter()
+                .zip(counts)
+                .filter(|(_, count)| **count == Some(0))
+                .map(move |(place, _)| format!("{name}, {place}"))
+        });
+        refusals.chain(features).chain(ends).collect()
+    }
+
+    fn end(&mut self, name: &'static str, range: RangeInclusive<i64>, value: i64) {
+        let points = [
+            range.start() - 1,
+            *range.start(),
+            *range.end(),
+            range.end() + 1,
+        ];
+        // Only a range that starts at 0 has nothing just below it: no sign there.
+        let below = (*range.start() != 0).then_some(0);
+        let none_yet = [below, Some(0), Some(0), Some(0)];
+        let counts = self.ends.entry(name).or_insert(none_yet);
+        for (point, count) in points.into_iter().zip(counts) {
+            if let (Some(count), true) = (count, point == value) {
+                *count += 1;
+            }
+        }
+    }
+
+    /// Counts the operands of the command at an offset, if there is one.
+    fn count_operands(&mut self, file: &[u8], offset: usize) {
+        if let Read::Command(command, _) = bytes::read(file, offset, Switch::RIGHT) {
+            match command {
+                Command::Contract(c) => {
+                    self.end("days", DAYS, c.days);
+                    self.end("kind", EITHER, c.kind);
+                    self.end("service", EITHER, c.service);
+                    self.end("contracted kW", CONTRACTED_KW, c.kw);
+                    self.end("ramp up", RAMP, c.ramp_up);
+                    self.end("ramp down", RAMP, c.ramp_down);
+                    self.end("response", RESPONSE, c.response);
+                    self.end("recovery", RECOVERY, c.recovery);
+                    self.end("availability rate", RATE, c.availability_rate);
+                    self.end("utilisation rate", RATE, c.utilisation_rate);
+                    self.end("optional rate", RATE, c.optional_rate);
+                }
+                Command::Window(w) => {
+                    self.end("window start", MINUTE, w.start);
+                    self.end("window end", MINUTE, w.end);
+                    self.end("window state", EITHER, w.rejected);
+                }
+                Command::Instruction(i) => {
+                    self.end("issue", ISSUE, i.issue);
+                    self.end("cease", MINUTE, i.cease);
+                }
+                Command::Default(d) => {
+                    self.end("default minute", MINUTE, d.minute);
+                    self.end("default kind", DEFAULT_KIND, d.kind);
+                    self.end("default reach", DEFAULT_REACH, d.reach);
+                }
+                Command::Reading(r) => {
+                    self.end("reading minute", MINUTE, r.minute);
+                    self.end("reading kW", READING, r.kw);
+                }
+                Command::Close => {}
+            }
+        }
+    }
+
+    fn met(&mut self, feature: &'static str, condition: bool) {
+        assert!(FEATURES.contains(&feature), "{feature}: not in the list");
+        if condition {
+            *self.features.entry(feature).or_default() += 1;
+        }
+    }
+
+    fn count_statement(&mut self, book: &Book, meter: &[i32], statement: &Statement) {
+        let Some(contract) = book.contract else {
+            return;
+        };
+        self.lines += statement.lines.len();
+        self.windows += statement.windows.len();
+        self.met("settled, generator", contract.kind == 0);
+        self.met("settled, demand reducer", contract.kind == 1);
+        self.met("settled, committed", contract.service == 0);
+        self.met("settled, flexible", contract.service == 1);
+        let full = [
+            book.windows.len() == WINDOWS,
+            book.instructions.len() == INSTRUCTIONS,
+            book.defaults.len() == DEFAULTS,
+        ];
+        self.met("table full", full.contains(&true));
+        let month = contract.days == *DAYS.end();
+        self.met("31 days", month);
+        self.met("31 days, every table full", month && !full.contains(&false));
+        let span = &meter[..rules::span(&contract) as usize];
+        let readings = span
+            .iter()
+            .filter(|&&kw| READING.contains(&i64::from(kw)))
+            .count();
+        self.met("minutes without a reading", readings < span.len());
+        let all_read = month && readings == span.len();
+        self.met("31 days, a reading in every minute", all_read);
+        let below = span.iter().any(|&kw| kw != NO_READING && kw < 0);
+        self.met("reading below 0", below);
+        self.count_lines(&contract, book, statement);
+        self.count_windows(&contract, book, statement);
+        self.count_instructions(&contract, book);
+        self.count_defaults(&contract, book);
+        self.count_halves(&contract, book, meter, statement);
+    }
+
+    fn count_lines(&mut self, contract: &Contract, book: &Book, statement: &Statement) {
+        self.met("no line", statement.lines.is_empty());
+        let most = 48 * contract.days - 1 + 3 * book.instructions.len() as i64;
+        let lines = statement.lines.len() as i64;
+        self.met("as many lines as the days hold", lines == most);
+        self.met("31 days, 1679 lines", lines == MOST_LINES);
+        for line in &statement.lines {
+            self.met("line, ramp up", line.stage == Stage::RampUp);
+            self.met("line, steady", line.stage == Stage::Steady);
+            self.met("line, ramp down", line.stage == Stage::RampDown);
+            self.met("line, utilisation rate", line.rate == Rate::Utilisation);
+            self.met("line, optional rate", line.rate == Rate::Optional);
+            self.met("line, delivered below 0", line.delivered < 0);
+            let above = line.delivered > line.expected;
+            self.met("line, delivered above expected", above);
+            self.met("line, pence below 0", line.pence < 0);
+            let price = match line.rate {
+                Rate::Utilisation => contract.utilisation_rate,
+                Rate::Optional => contract.optional_rate,
+            };
+            let half = (line.capped * price).rem_euclid(1_000) == 500;
+            self.met("line, half a penny above 0", half && line.capped > 0);
+            self.met("line, half a penny below 0", half && line.capped < 0);
+        }
+    }
+
+    fn count_windows(&mut self, contract: &Contract, book: &Book, statement: &Statement) {
+        let touch = book
+            .windows
+            .windows(2)
+            .any(|two| two[0].end == two[1].start);
+        self.met("windows touch", touch);
+        for (window, pay) in book.windows.iter().zip(&statement.windows) {
+            let excluded = settle::excluded(book, contract, window, Switch::RIGHT);
+            self.met("window rejected", window.rejected == 1);
+            self.met("window excluded", excluded);
+            self.met(
+                "window excluded, committed",
+                excluded && contract.service == 0,
+            );
+            let periods = (window.end - window.start) / PERIOD;
+            self.met("window not paid", pay.paid_periods == 0);
+            let partly = 0 < pay.paid_periods && pay.paid_periods < periods;
+            self.met("window partly paid", partly);
+            for instruction in &book.instructions {
+                let f = instruction_end(contract, instruction, Switch::RIGHT);
+                let reach = contract.recovery + contract.response;
+                let recovers = contract.recovery >= 1;
+                let after = window.start - f;
+                self.met("window starts at f", recovers && after == 0);
+                self.met("window starts at f + 1", recovers && after == 1);
+                self.met(
+                    "window starts at f + recovery + response - 1",
+                    recovers && after == reach - 1,
+                );
+                self.met(
+                    "window starts at f + recovery + response",
+                    recovers && after == reach,
+                );
+                let inside = (instruction.issue..f).any(|m| holds(window, m, Switch::RIGHT));
+                self.met("window excluded, instruction in it", excluded && inside);
+            }
+        }
+        let p = settle::penalty(book, contract, Switch::RIGHT);
+        let exact = contract.kw * contract.availability_rate * (100 - p);
+        self.met(
+            "period of half a penny",
+            exact.rem_euclid(200_000) == 100_000,
+        );
+    }
+
+    fn count_instructions(&mut self, contract: &Contract, book: &Book) {
+        let up = ramp_up_minutes(contract, Switch::RIGHT);
+        let down = ramp_down_minutes(contract, Switch::RIGHT);
+        let live: Vec<_> = book
+            .windows
+            .iter()
+            .filter(|window| settle::live(book, contract, window, Switch::RIGHT))
+            .collect();
+        let in_live = |minute: i64| live.iter().any(|w| holds(w, minute, Switch::RIGHT));
+        let mut last: Option<&Instruction> = None;
+        for instruction in &book.instructions {
+            let e = response_expires(contract, instruction);
+            let f = instruction.cease + down;
+            let first = e - up;
+            self.met(
+                "instruction across periods",
+                period_of(first) != period_of(f - 1),
+            );
+            self.met("instruction issued at 3", instruction.issue == 3);
+            self.met("instruction ends with the span", f == book.span());
+            self.met("cease = e", instruction.cease == e);
+            self.met("U = response", up == contract.response);
+            self.met("V = 240", down == 240);
+            self.met("base load in its own ramp up", first <= instruction.issue);
+            if let Some(last) = last {
+                let end = last.cease + down;
+                let ready = end + contract.recovery;
+                self.met(
+                    "instruction issued at last end + recovery",
+                    instruction.issue == ready,
+                );
+                let earlier = instruction.issue - 3 < end;
+                self.met("base load in an earlier instruction", earlier);
+            }
+            last = Some(instruction);
+            let ups: Vec<bool> = (first..e).map(in_live).collect();
+            let downs: Vec<bool> = (instruction.cease..f).map(in_live).collect();
+            let at_e = in_live(e);
+            let at_last = in_live(instruction.cease - 1);
+            self.met("ramp up paid by e alone", at_e && ups.contains(&false));
+            self.met(
+                "ramp up in a window, e outside",
+                !at_e && ups.contains(&true),
+            );
+            self.met(
+                "ramp down paid by cease - 1 alone",
+                at_last && downs.contains(&false),
+            );
+            self.met(
+                "ramp down in a window, cease - 1 outside",
+                !at_last && downs.contains(&true),
+            );
+        }
+    }
+
+    fn count_defaults(&mut self, contract: &Contract, book: &Book) {
+        let mut faulted = 0;
+        for window in &book.windows {
+            let live = settle::live(book, contract, window, Switch::RIGHT);
+            let mut counts = false;
+            for default in &book.defaults {
+                if !holds(window, default.minute, Switch::RIGHT) {
+                    continue;
+                }
+                self.met("default in a window that is not live", !live);
+                if live {
+                    let name = format!("default {} {}", default.kind, default.reach);
+                    let known = FEATURES.iter().find(|feature| **feature == name);
+                    self.met(known.expect("kinds and reaches are listed"), true);
+                    counts |= default.kind != 4;
+                }
+            }
+            faulted += i64::from(counts);
+        }
+        self.met("P from 1 to 29", (1..30).contains(&faulted));
+        self.met("P 30", faulted == 30);
+        self.met("more than 30 faulted windows", faulted > 30);
+    }
+
+    /// Segments whose delivered quarters lie just between two kWh.
+    fn count_halves(
+        &mut self,
+        contract: &Contract,
+        book: &Book,
+        meter: &[i32],
+        statement: &Statement,
+    ) {
+        for line in &statement.lines {
+            let instruction = &book.instructions[line.instruction as usize - 1];
+            let base: i64 = settle::base_minutes(instruction)
+                .into_iter()
+                .map(|minute| i64::from(meter[minute as usize]))
+                .sum();
+            let quarters: i64 = settle::active_minutes(contract, instruction, Switch::RIGHT)
+                .into_iter()
+                .filter(|(minute, stage)| *stage == line.stage && period_of(*minute) == line.period)
+                .map(|(minute, _)| 4 * i64::from(meter[minute as usize]) - base)
+                .map(|up| if contract.kind == 0 { up } else { -up })
+                .sum();
+            let half = quarters.rem_euclid(240) == 120;
+            self.met("line, half a kWh above 0", half && quarters > 0);
+            self.met("line, half a kWh below 0", half && quarters < 0);
+        }
+    }
+
+    pub fn print(&self) {
+        println!(
+            "files {}, bytes {}, longest {}",
+            self.files, self.bytes, self.longest
+        );
+        let taken = self.files - self.refused;
+        match self.listed {
+            true => println!(
+                "rows  L {}  A {}  T {taken}  R {}",
+                self.lines, self.windows, self.refused
+            ),
+            false => println!("taken {taken}, refused {}", self.refused),
+        }
+        print!("refusals");
+        for number in self.refusals_to_meet() {
+            print!("  {number}: {}", self.refusals.get(&number).unwrap_or(&0));
+        }
+        println!("\nends of ranges (just below, lowest, highest, just above)");
+        for (name, counts) in &self.ends {
+            println!("  {name:<20} {}", ends_shown(*counts));
+        }
+        println!("features of settled and written files");
+        for feature in self.features_to_meet() {
+            let count = self.features.get(feature).unwrap_or(&0);
+            let mark = if *count == 0 { "  (never met)" } else { "" };
+            println!("  {feature:<46} {count:>7}{mark}");
+        }
+    }
+}
+
+fn ends_shown(counts: [Option<usize>; 4]) -> String {
+    let shown = counts.map(|count| match count {
+        Some(count) => format!("{count:>6}"),
+        None => format!("{:>6}", '-'),
+    });
+    shown.join(" ")
+}

@@ -1,0 +1,318 @@
+//! Every command of the program as it is started: what it prints, its exit
+//! status, and what it says to words that it does not know.
+
+use std::io::Write;
+use std::path::{Path, PathBuf};
+use std::process::{Command, Stdio};
+
+const APPENDIX_2: &[u8] = include_bytes!("../../../examples/appendix2.unit");
+const APPENDIX_2_TEXT: &str = include_str!("../../../examples/appendix2.txt");
+const APPENDIX_2_ROWS: &str = include_str!("../../../examples/appendix2.rows");
+
+const USAGE: &str = "usage: stor list|write|pack|show|help ..\n";
+const LIST_USAGE: &str = "usage: stor list [--explain] [FILE..]\n";
+const WRITE_USAGE: &str = "usage: stor write [FILE]\n";
+const PACK_USAGE: &str = "usage: stor pack < TEXT > FILE\n";
+const SHOW_USAGE: &str = "usage: stor show < FILE > TEXT\n";
+const HELP_USAGE: &str = "usage: stor help [COMMAND]\n";
+
+/// What a run gave: exit status, standard output and standard error.
+#[derive(PartialEq, Eq, Debug)]
+struct Run {
+    status: i32,
+    out: Vec<u8>,
+    said: String,
+}
+
+impl Run {
+    fn text(&self) -> &str {
+        std::str::from_utf8(&self.out).expect("text")
+    }
+}
+
+/// The program with words and standard input.
+fn stor(words: &[&str], input: &[u8]) -> Run {
+    let mut child = Command::new(env!("CARGO_BIN_EXE_stor"))
+        .args(words)
+        .stdin(Stdio::piped())
+        .stdout(Stdio::piped())
+        .stderr(Stdio::piped())
+        .spawn()
+        .expect("the program starts");
+    let mut pipe = child.stdin.take().expect("asked for above");
+    let input = input.to_vec();
+    // A program that reads no input may have ended before all is written.
+    let writer = std::thread::spawn(move || pipe.write_all(&input).unwrap_or(()));
+    let output = child.wait_with_output().expect("the program ends");
+    writer.join().expect("writing does not panic");
+    Run {
+        status: output.status.code().expect("no signal ends it"),
+        out: output.stdout,
+        said: String::from_utf8(output.stderr).expect("text"),
+    }
+}
+
+fn done(out: impl AsRef<[u8]>) -> Run {
+    Run {
+        status: 0,
+        out: out.as_ref().to_vec(),
+        said: String::new(),
+    }
+}
+
+fn refused_words(usage: &str) -> Run {
+    Run {
+        status: 2,
+        out: Vec::new(),
+        said: usage.to_string(),
+    }
+}
+
+fn failed(said: &str) -> Run {
+    Run {
+        status: 1,
+        out: Vec::new(),
+        said: said.to_string(),
+    }
+}
+
+/// A folder of a test's own, gone with it.
+struct Place(PathBuf);
+
+impl Place {
+    fn new(name: &str) -> Place {
+        let place = std::env::temp_dir().join(format!("stor-{}-{name}", std::process::id()));
+        std::fs::create_dir_all(&place).expect("a temporary folder");
+        Place(place)
+    }
+
+    fn file(&self, name: &str, contents: &[u8]) -> String {
+        let path = self.0.join(name);
+        std::fs::write(&path, contents).expect("a temporary file");
+        path.to_str().expect("a plain name").to_string()
+    }
+}
+
+impl Drop for Place {
+    fn drop(&mut self) {
+        std::fs::remove_dir_all(&self.0).unwrap_or(());
+    }
+}
+
+fn example(name: &str) -> String {
+    let path = Path::new(env!("CARGO_MANIFEST_DIR")).join("../../examples");
+    format!("{}/{name}.unit", path.display())
+}
+
+#[test]
+fn list_prints_the_rows_of_a_file() {
+    let rows = done(APPENDIX_2_ROWS);
+    assert_eq!(stor(&["list", &example("appendix2")], b""), rows);
+    assert_eq!(stor(&["list"], APPENDIX_2), rows);
+    assert_eq!(stor(&["list", "-"], APPENDIX_2), rows);
+}
+
+#[test]
+fn list_answers_a_refusal_with_its_row() {
+    assert_eq!(stor(&["list"], b"?"), done("R 1 0\n"));
+    assert_eq!(stor(&["list"], b""), done("R 24 0\n"));
+}
+
+#[test]
+fn list_puts_names_before_the_rows_of_several_files() {
+    let place = Place::new("several");
+    let one = place.file("one", APPENDIX_2);
+    let two = place.file("two", b"?");
+    let listed = format!("# {one}\n{APPENDIX_2_ROWS}# -\nR 24 0\n# {two}\nR 1 0\n");
+    assert_eq!(stor(&["list", &one, "-", &two], b""), done(listed));
+}
+
+#[test]
+fn list_goes_on_after_a_file_that_cannot_be_read() {
+    let place = Place::new("unreadable");
+    let two = place.file("two", b"?");
+    let run = stor(&["list", "/no/such/file", &two], b"");
+    assert_eq!(run.status, 1);
+    assert_eq!(run.text(), format!("# {two}\nR 1 0\n"));
+    assert!(
+        run.said.starts_with("stor: /no/such/file: "),
+        "{}",
+        run.said
+    );
+    assert_eq!(run.said.lines().count(), 1);
+    // A folder is no file.
+    assert_eq!(stor(&["list", "/"], b"").status, 1);
+}
+
+#[test]
+fn list_explains_a_refusal() {
+    let window = "R 5 32\n\
+                  # a window does not start before it ends, or not at whole periods\n\
+                  # window start 31, end 60, state accepted\n\
+                  # where to look: multiples of 30\n";
+    let words = ["list", "--explain", &example("refusal-05")];
+    assert_eq!(stor(&words, b""), done(window));
+    let instruction = "R 20 37\n\
+                       # an issue comes before the last instruction's end plus recovery\n\
+                       # instruction issue 150, cease 200\n";
+    // Options may stand behind files.
+    let words = ["list", &example("refusal-20"), "--explain"];
+    assert_eq!(stor(&words, b""), done(instruction));
+    // No command is refused where the month cannot be settled.
+    let open = "R 24 0\n# the file was not closed\n";
+    assert_eq!(stor(&["list", "--explain"], b""), done(open));
+}
+
+#[test]
+fn list_explains_bytes_that_are_no_command() {
+    let strange = "R 1 0\n\
+                   # a byte that starts no command\n\
+                   # byte 3F\n\
+                   # where to look: the byte at the offset\n";
+    assert_eq!(stor(&["list", "--explain"], b"?"), done(strange));
+    let cut = "R 2 0\n\
+               # the file ends inside a command\n\
+               # reading, 3 of its 7 bytes\n\
+               # where to look: the last command\n";
+    assert_eq!(stor(&["list", "--explain"], b"M\0\0"), done(cut));
+}
+
+#[test]
+fn list_explains_a_statement() {
+    let totals =
+        "# capped 12.800 MWh; utilisation 3840.00, availability 324.00, all 4164.00 pounds\n";
+    let listed = format!("{APPENDIX_2_ROWS}{totals}");
+    assert_eq!(stor(&["list", "--explain"], APPENDIX_2), done(listed));
+}
+
+#[test]
+fn list_refuses_other_options() {
+    for words in [&["list", "-x"][..], &["list", "--explain", "--", "x"]] {
+        assert_eq!(stor(words, b""), refused_words(LIST_USAGE));
+    }
+}
+
+#[test]
+fn write_puts_a_file_into_the_writers_order() {
+    let (contract, rest) = APPENDIX_2.split_at(32);
+    let (window, rest) = rest.split_at(6);
+    let (instruction, rest) = rest.split_at(5);
+    let (readings, close) = rest.split_at(rest.len() - 1);
+    let mixed = [contract, readings, instruction, window, close].concat();
+    let place = Place::new("write");
+    let file = place.file("mixed", &mixed);
+    assert_eq!(stor(&["write", &file], b""), done(APPENDIX_2));
+    assert_eq!(stor(&["write", "-"], &mixed), done(APPENDIX_2));
+    assert_eq!(stor(&["write"], APPENDIX_2), done(APPENDIX_2));
+}
+
+#[test]
+fn write_takes_open_and_empty_books() {
+    let open = &APPENDIX_2[..APPENDIX_2.len() - 1];
+    assert_eq!(stor(&["write"], open), done(open));
+    assert_eq!(stor(&["write"], b""), done(b""));
+}
+
+#[test]
+fn write_gives_no_bytes_of_a_refused_file() {
+    assert_eq!(stor(&["write"], b"Z"), failed("R 13 0\n"));
+    let twice = [APPENDIX_2, APPENDIX_2].concat();
+    let row = format!("R 12 {}\n", APPENDIX_2.len());
+    assert_eq!(stor(&["write"], &twice), failed(&row));
+}
+
+#[test]
+fn write_says_that_a_file_cannot_be_read() {
+    let run = stor(&["write", "/no/such/file"], b"");
+    assert_eq!((run.status, run.text()), (1, ""));
+    assert!(
+        run.said.starts_with("stor: /no/such/file: "),
+        "{}",
+        run.said
+    );
+}
+
+#[test]
+fn write_takes_one_file() {
+    for words in [&["write", "a", "b"][..], &["write", "--explain"]] {
+        assert_eq!(stor(words, b""), refused_words(WRITE_USAGE));
+    }
+}
+
+#[test]
+fn pack_turns_text_into_bytes() {
+    let packed = stor(&["pack"], APPENDIX_2_TEXT.as_bytes());
+    assert_eq!(packed, done(APPENDIX_2));
+}
+
+#[test]
+fn pack_names_a_wrong_line() {
+    let wrong = stor(&["pack"], b"close\nopen\n");
+    assert_eq!(wrong, failed("stor: line 2: no command open\n"));
+    let bytes = stor(&["pack"], b"\xFF");
+    assert_eq!(bytes, failed("stor: the text is not UTF-8\n"));
+}
+
+#[test]
+fn show_turns_bytes_into_text() {
+    let shown = stor(&["show"], b"W\0\0\0\x1E\0Z");
+    assert_eq!(shown, done("window 0 30 accepted\nclose\n"));
+    let shown = stor(&["show"], APPENDIX_2);
+    assert_eq!(stor(&["pack"], &shown.out), done(APPENDIX_2));
+}
+
+#[test]
+fn pack_and_show_take_no_words() {
+    for file in ["-", "FILE", "--explain"] {
+        assert_eq!(stor(&["pack", file], b""), refused_words(PACK_USAGE));
+        assert_eq!(stor(&["show", file], b""), refused_words(SHOW_USAGE));
+    }
+}
+
+#[test]
+fn help_names_every_command() {
+    let help = stor(&["help"], b"");
+    assert_eq!((help.status, help.said.as_str()), (0, ""));
+    for usage in [LIST_USAGE, WRITE_USAGE, PACK_USAGE, SHOW_USAGE, HELP_USAGE] {
+        let command = usage.trim_start_matches("usage: ").trim_end();
+        assert!(help.text().contains(command), "{command}");
+    }
+}
+
+#[test]
+fn help_has_a_page_for_each_command() {
+    for (name, usage) in [
+        ("list", LIST_USAGE),
+        ("write", WRITE_USAGE),
+        ("pack", PACK_USAGE),
+        ("show", SHOW_USAGE),
+        ("help", HELP_USAGE),
+    ] {
+        let page = stor(&["help", name], b"");
+        assert_eq!((page.status, page.said.as_str()), (0, ""));
+        assert!(page.text().starts_with(usage), "{name}");
+        assert!(page.text().lines().count() > 2, "{name}");
+    }
+}
+
+#[test]
+fn unknown_words_get_a_usage_line() {
+    for words in [&[][..], &["settle"], &["--help"], &["-"], &["List"]] {
+        assert_eq!(stor(words, b""), refused_words(USAGE));
+    }
+    for words in [&["help", "settle"][..], &["help", "list", "pack"]] {
+        assert_eq!(stor(words, b""), refused_words(HELP_USAGE));
+    }
+}
+
+#[test]
+fn output_that_cannot_be_written_is_a_failure() {
+    let full = std::fs::OpenOptions::new().write(true).open("/dev/full");
+    let status = Command::new(env!("CARGO_BIN_EXE_stor"))
+        .args(["list", &example("appendix2")])
+        .stdout(full.expect("a device that is always full"))
+        .stderr(Stdio::null())
+        .status()
+        .expect("the program starts");
+    assert_eq!(status.code(), Some(1));
+}

@@ -1,0 +1,28 @@
+//! What entering answers, and cells of meter memory.
+
+use crate::held::Held;
+use crate::line::Line;
+use second::rules::NO_READING;
+
+/// A command with its answer and what the book then holds.
+pub fn print_entry(line: &Line, answer: Result<(), u8>, after: &Held) {
+    let answer = answer.map_or_else(|number| number.to_string(), |()| "taken".to_string());
+    println!("{}: {answer} / {}", line.text, summary(after));
+}
+
+/// Contract, windows, instructions, defaults, closed.
+fn summary(held: &Held) -> String {
+    let [windows, instructions, defaults] = held.counts;
+    let agreed = u8::from(held.agreed);
+    let closed = u8::from(held.closed);
+    format!("{agreed} {windows} {instructions} {defaults} {closed}")
+}
+
+pub fn print_cell(line: &Line, kw: i32) {
+    let cell = match kw {
+        NO_READING => "marked".to_string(),
+        ..0 => "negative".to_string(),
+        _ => kw.to_string(),
+    };
+    println!("{}: {cell}", line.text);
+}

@@ -1,0 +1,250 @@
+//! The book: which commands it takes, and what it turns down under which
+//! number. The tests stand in the order of the numbers, so the first that
+//! holds is the lowest.
+
+use crate::bytes::{self, Command, Contract, DefaultEntry, Instruction, Read, Window};
+use crate::rules::{self, *};
+use crate::switches::{Switch, Wrong};
+
+#[derive(Clone, PartialEq, Eq, Debug, Default)]
+pub struct Book {
+    pub contract: Option<Contract>,
+    pub windows: Vec<Window>,
+    pub instructions: Vec<Instruction>,
+    pub defaults: Vec<DefaultEntry>,
+    pub closed: bool,
+}
+
+impl Book {
+    /// 0 without a contract.
+    pub fn span(&self) -> i64 {
+        self.contract.as_ref().map_or(0, rules::span)
+    }
+}
+
+/// A cell outside the reading range holds no reading.
+pub fn has_reading(meter: &[i32], minute: i64) -> bool {
+    READING.contains(&i64::from(meter[minute as usize]))
+}
+
+/// Enters a command into a book that commands alone have made, as those of a
+/// file are: 11 cannot hold of such a book.
+pub fn enter(
+    book: &mut Book,
+    meter: &mut [i32],
+    command: &Command,
+    switch: Switch,
+) -> Result<(), u8> {
+    refused_by_input(command, switch)?;
+    refused_by_state(book, meter, command, switch)?;
+    take(book, meter, command);
+    Ok(())
+}
+
+/// Enters a command into any book, also one that somebody made up.
+pub fn enter_any(
+    book: &mut Book,
+    meter: &mut [i32],
+    command: &Command,
+    switch: Switch,
+) -> Result<(), u8> {
+    refused_by_input(command, switch)?;
+    if !sound(book, switch) {
+        return Err(11);
+    }
+    refused_by_state(book, meter, command, switch)?;
+    take(book, meter, command);
+    Ok(())
+}
+
+/// Refuses under `number` if `condition` holds.
+fn refuse_if(condition: bool, number: u8) -> Result<(), u8> {
+    if condition {
+        Err(number)
+    } else {
+        Ok(())
+    }
+}
+
+/// Refusals 3 to 5, which look at the command alone.
+pub fn refused_by_input(command: &Command, switch: Switch) -> Result<(), u8> {
+    refuse_if(!in_range(command), 3)?;
+    match command {
+        Command::Contract(c) => {
+            let too_long = ramp_up_minutes(c, switch) > c.response
+                || ramp_down_minutes(c, switch) > MOST_RAMP_DOWN_MINUTES;
+            refuse_if(too_long, 4)
+        }
+        Command::Window(w) => {
+            let crooked = w.start >= w.end || w.start % PERIOD != 0 || w.end % PERIOD != 0;
+            refuse_if(crooked, 5)
+        }
+        _ => Ok(()),
+    }
+}
+
+fn in_range(command: &Command) -> bool {
+    match command {
+        Command::Contract(c) => {
+            DAYS.contains(&c.days)
+                && EITHER.contains(&c.kind)
+                && EITHER.contains(&c.service)
+                && CONTRACTED_KW.contains(&c.kw)
+                && RAMP.contains(&c.ramp_up)
+                && RAMP.contains(&c.ramp_down)
+                && RESPONSE.contains(&c.response)
+                && RECOVERY.contains(&c.recovery)
+                && RATE.contains(&c.availability_rate)
+                && RATE.contains(&c.utilisation_rate)
+                && RATE.contains(&c.optional_rate)
+        }
+        Command::Window(w) => {
+            MINUTE.contains(&w.start) && MINUTE.contains(&w.end) && EITHER.contains(&w.rejected)
+        }
+        Command::Instruction(i) => ISSUE.contains(&i.issue) && MINUTE.contains(&i.cease),
+        Command::Default(d) => {
+            MINUTE.contains(&d.minute)
+                && DEFAULT_KIND.contains(&d.kind)
+                && DEFAULT_REACH.contains(&d.reach)
+        }
+        Command::Reading(r) => MINUTE.contains(&r.minute) && READING.contains(&r.kw),
+        Command::Close => true,
+    }
+}
+
+/// Refusals 12 to 23, which look at the book and the meter memory too.
+fn refused_by_state(
+    book: &Book,
+    meter: &[i32],
+    command: &Command,
+    switch: Switch,
+) -> Result<(), u8> {
+    refuse_if(book.closed, 12)?;
+    if let Command::Contract(new) = command {
+        refuse_if(book.contract.is_some(), 14)?;
+        return refuse_if((meter.len() as i64) < rules::span(new), 15);
+    }
+    let Some(contract) = &book.contract else {
+        return Err(13);
+    };
+    let span = book.span();
+    refuse_if((meter.len() as i64) < span, 15)?;
+    match command {
+        Command::Contract(_) => unreachable!("answered above"),
+        Command::Window(w) => {
+            refuse_if(w.end > span, 16)?;
+            refuse_if(w.rejected == 1 && contract.service == 0, 17)?;
+            refuse_if(overlaps_last(book, w, switch), 18)?;
+            refuse_if(book.windows.len() == WINDOWS, 23)
+        }
+        Command::Instruction(i) => {
+            refuse_if(instruction_end(contract, i, switch) > span, 16)?;
+            refuse_if(i.cease < response_expires(contract, i), 19)?;
+            refuse_if(i.issue < recovered(book, contract, switch), 20)?;
+            refuse_if(book.instructions.len() == INSTRUCTIONS, 23)
+        }
+        Command::Default(d) => {
+            refuse_if(d.minute >= span, 16)?;
+            refuse_if(!in_some_window(book, d.minute, switch), 21)?;
+            refuse_if(book.defaults.len() == DEFAULTS, 23)
+        }
+        Command::Reading(r) => {
+            refuse_if(r.minute >= span, 16)?;
+            refuse_if(already_read(meter, r.minute, switch), 22)
+        }
+        Command::Close => Ok(()),
+    }
+}
+
+/// Touching is no overlap.
+fn overlaps_last(book: &Book, window: &Window, switch: Switch) -> bool {
+    book.windows.last().is_some_and(|last| {
+        let touches = window.start == last.end;
+        window.start < last.end || touches && switch.is(Wrong::TouchingRefused)
+    })
+}
+
+/// From when on the unit takes an instruction: the first one waits for nothing.
+fn recovered(book: &Book, contract: &Contract, switch: Switch) -> i64 {
+    match book.instructions.last() {
+        Some(last) => instruction_end(contract, last, switch) + contract.recovery,
+        None if switch.is(Wrong::RecoveryFromZero) => contract.recovery,
+        None => 0,
+    }
+}
+
+fn already_read(meter: &[i32], minute: i64, switch: Switch) -> bool {
+    if switch.is(Wrong::OnlyMarkEmpty) {
+        return meter[minute as usize] != NO_READING;
+    }
+    has_reading(meter, minute)
+}
+
+/// In a window entered, whether it is live or not.
+fn in_some_window(book: &Book, minute: i64, switch: Switch) -> bool {
+    book.windows.iter().any(|w| holds(w, minute, switch))
+}
+
+fn take(book: &mut Book, meter: &mut [i32], command: &Command) {
+    match *command {
+        Command::Contract(c) => {
+            meter[..rules::span(&c) as usize].fill(NO_READING);
+            book.contract = Some(c);
+        }
+        Command::Window(w) => book.windows.push(w),
+        Command::Instruction(i) => book.instructions.push(i),
+        Command::Default(d) => book.defaults.push(d),
+        Command::Reading(r) => meter[r.minute as usize] = r.kw as i32,
+        Command::Close => book.closed = true,
+    }
+}
+
+/// Whether some list of commands leaves this book (refusal 11 if not). The
+/// windows can always have come before the defaults, so the tables' order
+/// among each other does not matter. Meter memory of the longest span takes
+/// every contract, so the book is built again in such memory.
+pub fn sound(book: &Book, switch: Switch) -> bool {
+    let mut again = Book::default();
+    let mut meter = vec![NO_READING; (*DAYS.end() * DAY) as usize];
+    let mut commands = Vec::new();
+    commands.extend(book.contract.map(Command::Contract));
+    commands.extend(book.windows.iter().copied().map(Command::Window));
+    commands.extend(book.instructions.iter().copied().map(Command::Instruction));
+    commands.extend(book.defaults.iter().copied().map(Command::Default));
+    commands.extend(book.closed.then_some(Command::Close));
+    commands
+        .iter()
+        .all(|command| enter(&mut again, &mut meter, command, switch).is_ok())
+}
+
+/// What became of a file's command: where it starts, and its refusal if any.
+pub struct Entered {
+    pub offset: usize,
+    pub answer: Result<(), u8>,
+}
+
+/// Reads a file from its first byte and enters each command, going on past
+/// refused ones, up to the end, 1 or 2. With `stop` it ends at the first
+/// refusal of any kind.
+pub fn enter_file(
+    file: &[u8],
+    book: &mut Book,
+    meter: &mut [i32],
+    stop: bool,
+    switch: Switch,
+) -> Vec<Entered> {
+    let mut entered = Vec::new();
+    let mut offset = 0;
+    loop {
+        let (answer, next) = match bytes::read(file, offset, switch) {
+            Read::End => return entered,
+            Read::Refused(number) => (Err(number), None),
+            Read::Command(command, next) => (enter(book, meter, &command, switch), Some(next)),
+        };
+        entered.push(Entered { offset, answer });
+        match next {
+            Some(next) if answer.is_ok() || !stop => offset = next,
+            _ => return entered,
+        }
+    }
+}

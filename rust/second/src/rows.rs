@@ -1,0 +1,90 @@
+//! Rows as the lister prints them, and the lister itself.
+
+use crate::book::{self, Book};
+use crate::rules::NO_READING;
+use crate::settle::{self, Line, Rate, Stage, Statement};
+use crate::switches::Switch;
+use std::fmt::Write;
+
+/// The memory that a program lends.
+#[derive(Clone, Copy, PartialEq, Eq, Debug)]
+pub struct Room {
+    pub minutes: usize,
+    pub lines: usize,
+}
+
+fn line_row(line: &Line) -> String {
+    let stage = match line.stage {
+        Stage::RampUp => 'U',
+        Stage::Steady => 'S',
+        Stage::RampDown => 'D',
+    };
+    let rate = match line.rate {
+        Rate::Utilisation => 'C',
+        Rate::Optional => 'O',
+    };
+    format!(
+        "L {} {} {stage} {rate} {} {} {} {}\n",
+        line.instruction, line.period, line.expected, line.delivered, line.capped, line.pence
+    )
+}
+
+pub fn statement_rows(statement: &Statement) -> String {
+    let mut rows = String::new();
+    for line in &statement.lines {
+        rows.push_str(&line_row(line));
+    }
+    for (index, window) in statement.windows.iter().enumerate() {
+        let number = index + 1;
+        writeln!(rows, "A {number} {} {}", window.paid_periods, window.pence)
+            .expect("text takes every row");
+    }
+    writeln!(
+        rows,
+        "T {} {} {} {}",
+        statement.capped,
+        statement.utilisation_pence,
+        statement.availability_pence,
+        statement.all_pence
+    )
+    .expect("text takes every row");
+    rows
+}
+
+pub fn refusal_row(number: u8, offset: usize) -> String {
+    format!("R {number} {offset}\n")
+}
+
+/// What the lister prints for a file: it ends at the first refusal.
+pub fn list(file: &[u8], room: Room, switch: Switch) -> String {
+    let mut book = Book::default();
+    let mut meter = vec![NO_READING; room.minutes];
+    let entered = book::enter_file(file, &mut book, &mut meter, true, switch);
+    if let Some(last) = entered.last() {
+        if let Err(number) = last.answer {
+            return refusal_row(number, last.offset);
+        }
+    }
+    settlement_rows(file, &book, &meter, room, switch)
+}
+
+/// What became of each command of a file, and then the settlement.
+pub fn answers(file: &[u8], room: Room, switch: Switch) -> String {
+    let mut book = Book::default();
+    let mut meter = vec![NO_READING; room.minutes];
+    let mut rows = String::new();
+    for entered in book::enter_file(file, &mut book, &mut meter, false, switch) {
+        match entered.answer {
+            Ok(()) => rows.push_str("taken\n"),
+            Err(number) => writeln!(rows, "{number}").expect("text takes every row"),
+        }
+    }
+    rows + &settlement_rows(file, &book, &meter, room, switch)
+}
+
+fn settlement_rows(file: &[u8], book: &Book, meter: &[i32], room: Room, switch: Switch) -> String {
+    match settle::settle(book, meter, room.lines, switch) {
+        Ok(statement) => statement_rows(&statement),
+        Err(number) => refusal_row(number, file.len()),
+    }
+}

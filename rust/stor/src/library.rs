@@ -1,0 +1,164 @@
+//! The library's functions, with a slice in place of each pointer and length.
+//! All that is `unsafe` stands here. Programs use [`Memory`](crate::Memory);
+//! these are for those that own the lent memory themselves.
+//!
+//! Why these calls are sound: a pointer and its length come from one slice, so
+//! that many numbers may be read there, and also written where the slice is
+//! `&mut`; for as long as the call lasts nothing else reaches what is written,
+//! since `&mut` slices overlap with no other; every element is a number of
+//! which every bit pattern is a value; and the library keeps no pointer and
+//! has no state of its own. Its functions ask nothing more of a caller.
+
+extern "C" {
+    fn stor_enter_file(file: *const u8, file_len: usize, meter: *mut i32, meter_len: usize) -> u64;
+
+    fn stor_settle_file(
+        file: *const u8,
+        file_len: usize,
+        meter: *mut i32,
+        meter_len: usize,
+        lines: *mut i64,
+        lines_len: usize,
+        sums: *mut i64,
+        sums_len: usize,
+    ) -> u64;
+
+    fn stor_settle_tables(
+        contract: *const u32,
+        contract_len: usize,
+        windows: *const u32,
+        windows_len: usize,
+        instructions: *const u32,
+        instructions_len: usize,
+        defaults: *const u32,
+        defaults_len: usize,
+        meter: *const i32,
+        meter_len: usize,
+        lines: *mut i64,
+        lines_len: usize,
+        sums: *mut i64,
+        sums_len: usize,
+    ) -> u8;
+
+    fn stor_write_tables(
+        contract: *const u32,
+        contract_len: usize,
+        windows: *const u32,
+        windows_len: usize,
+        instructions: *const u32,
+        instructions_len: usize,
+        defaults: *const u32,
+        defaults_len: usize,
+        meter: *const i32,
+        meter_len: usize,
+        file: *mut u8,
+        file_len: usize,
+    ) -> u64;
+
+    fn stor_write_file(
+        file: *const u8,
+        file_len: usize,
+        meter: *mut i32,
+        meter_len: usize,
+        written: *mut u8,
+        written_len: usize,
+    ) -> u64;
+}
+
+/// The refusal's number, 0 for none, and 256 times the offset.
+pub fn enter_file(file: &[u8], meter: &mut [i32]) -> u64 {
+    // SAFETY: as said at the top.
+    unsafe { stor_enter_file(file.as_ptr(), file.len(), meter.as_mut_ptr(), meter.len()) }
+}
+
+/// The refusal's number, 0 for none, and 256 times the offset.
+pub fn settle_file(file: &[u8], meter: &mut [i32], lines: &mut [i64], sums: &mut [i64]) -> u64 {
+    // SAFETY: as said at the top.
+    unsafe {
+        stor_settle_file(
+            file.as_ptr(),
+            file.len(),
+            meter.as_mut_ptr(),
+            meter.len(),
+            lines.as_mut_ptr(),
+            lines.len(),
+            sums.as_mut_ptr(),
+            sums.len(),
+        )
+    }
+}
+
+/// The refusal's number, 0 for none.
+pub fn settle_tables(
+    contract: &[u32],
+    windows: &[u32],
+    instructions: &[u32],
+    defaults: &[u32],
+    meter: &[i32],
+    lines: &mut [i64],
+    sums: &mut [i64],
+) -> u8 {
+    // SAFETY: as said at the top.
+    unsafe {
+        stor_settle_tables(
+            contract.as_ptr(),
+            contract.len(),
+            windows.as_ptr(),
+            windows.len(),
+            instructions.as_ptr(),
+            instructions.len(),
+            defaults.as_ptr(),
+            defaults.len(),
+            meter.as_ptr(),
+            meter.len(),
+            lines.as_mut_ptr(),
+            lines.len(),
+            sums.as_mut_ptr(),
+            sums.len(),
+        )
+    }
+}
+
+/// The refusal's number, 0 for none, and 256 times the file's length.
+pub fn write_tables(
+    contract: &[u32],
+    windows: &[u32],
+    instructions: &[u32],
+    defaults: &[u32],
+    meter: &[i32],
+    file: &mut [u8],
+) -> u64 {
+    // SAFETY: as said at the top.
+    unsafe {
+        stor_write_tables(
+            contract.as_ptr(),
+            contract.len(),
+            windows.as_ptr(),
+            windows.len(),
+            instructions.as_ptr(),
+            instructions.len(),
+            defaults.as_ptr(),
+            defaults.len(),
+            meter.as_ptr(),
+            meter.len(),
+            file.as_mut_ptr(),
+            file.len(),
+        )
+    }
+}
+
+/// The refusal's number, 0 for none, and 256 times the offset, or the length
+/// of what was written.
+pub fn write_file(file: &[u8], meter: &mut [i32], written: &mut [u8]) -> u64 {
+    // SAFETY: as said at the top.
+    unsafe {
+        stor_write_file(
+            file.as_ptr(),
+            file.len(),
+            meter.as_mut_ptr(),
+            meter.len(),
+            written.as_mut_ptr(),
+            written.len(),
+        )
+    }
+}

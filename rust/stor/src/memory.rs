@@ -1,0 +1,122 @@
+//! The memory that calls are lent, and the calls over it.
+
+use crate::{
+    library, Failure, Refusal, Statement, LINE_NUMBERS, MONTH_BYTES, MONTH_LINES, MONTH_MINUTES,
+    NO_READING, SUMS,
+};
+
+/// A closed book in numbers, as the library takes it: each table's entries one
+/// after the other, their fields in the order of the unit file's operands.
+#[derive(Clone, PartialEq, Eq, Debug, Default)]
+pub struct Tables {
+    /// Days, kind, service, contracted kW, ramp up, ramp down, response,
+    /// recovery, availability, utilisation and optional rate.
+    pub contract: [u32; 11],
+    /// Start, end, and 0 for accepted or 1 for rejected.
+    pub windows: Vec<u32>,
+    /// Issue and cease.
+    pub instructions: Vec<u32>,
+    /// Minute, kind and reach.
+    pub defaults: Vec<u32>,
+}
+
+/// The memory that calls are lent: metering, line records and sums.
+pub struct Memory {
+    meter: Vec<i32>,
+    lines: Vec<i64>,
+    sums: [i64; SUMS],
+}
+
+impl Memory {
+    /// Enough for every month.
+    pub fn of_month() -> Memory {
+        Memory::with_room(MONTH_MINUTES, MONTH_LINES)
+    }
+
+    /// Shorter memory is refused under 15 or 26 where it does not do.
+    pub fn with_room(minutes: usize, line_records: usize) -> Memory {
+        Memory {
+            meter: vec![NO_READING; minutes],
+            lines: vec![0; LINE_NUMBERS * line_records],
+            sums: [0; SUMS],
+        }
+    }
+
+    /// The cells as the last call left them: for tables, put the readings
+    /// here.
+    pub fn meter(&mut self) -> &mut [i32] {
+        &mut self.meter
+    }
+
+    /// Enters a unit file's commands up to its end or the first refusal. The
+    /// readings taken are in the meter memory then.
+    pub fn enter_file(&mut self, file: &[u8]) -> Result<(), Refusal> {
+        taken(library::enter_file(file, &mut self.meter))
+    }
+
+    /// Enters and settles a whole unit file.
+    pub fn settle_file(&mut self, file: &[u8]) -> Result<Statement, Failure> {
+        let answer = library::settle_file(file, &mut self.meter, &mut self.lines, &mut self.sums);
+        taken(answer).map_err(Failure::Refused)?;
+        self.statement()
+    }
+
+    /// Settles a closed book over the readings in the meter memory.
+    pub fn settle_tables(&mut self, tables: &Tables) -> Result<Statement, Failure> {
+        let number = library::settle_tables(
+            &tables.contract,
+            &tables.windows,
+            &tables.instructions,
+            &tables.defaults,
+            &self.meter,
+            &mut self.lines,
+            &mut self.sums,
+        );
+        taken(u64::from(number)).map_err(Failure::Refused)?;
+        self.statement()
+    }
+
+    /// A closed book and the readings in the meter memory as a unit file.
+    pub fn write_tables(&self, tables: &Tables) -> Result<Vec<u8>, Refusal> {
+        let mut file = vec![0; MONTH_BYTES];
+        let answer = library::write_tables(
+            &tables.contract,
+            &tables.windows,
+            &tables.instructions,
+            &tables.defaults,
+            &self.meter,
+            &mut file,
+        );
+        shortened(file, answer)
+    }
+
+    /// Enters a unit file and writes its book, open, empty or closed, as a
+    /// unit file: the same book in the writer's order.
+    pub fn write_file(&mut self, file: &[u8]) -> Result<Vec<u8>, Refusal> {
+        let mut written = vec![0; MONTH_BYTES];
+        let answer = library::write_file(file, &mut self.meter, &mut written);
+        shortened(written, answer)
+    }
+
+    fn statement(&self) -> Result<Statement, Failure> {
+        Statement::of_numbers(&self.lines, &self.sums).ok_or(Failure::Malformed)
+    }
+}
+
+/// The bytes that were written, of all that were lent.
+fn shortened(mut file: Vec<u8>, answer: u64) -> Result<Vec<u8>, Refusal> {
+    taken(answer)?;
+    file.truncate((answer / 256) as usize);
+    Ok(file)
+}
+
+/// An answer taken apart: number and 256 times the offset, in one.
+fn taken(answer: u64) -> Result<(), Refusal> {
+    match answer.to_le_bytes()[0] {
+        0 => Ok(()),
+        number => Err(Refusal {
+            number,
+            offset: answer / 256,
+        }),
+    }
+}

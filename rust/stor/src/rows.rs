@@ -1,0 +1,57 @@
+//! A statement or a refusal as the lister prints it.
+
+use crate::{Line, Rate, Refusal, Stage, Statement};
+use std::fmt::Write;
+
+/// Its L, A and T rows.
+pub fn statement_rows(statement: &Statement) -> String {
+    let mut rows = String::new();
+    for line in &statement.lines {
+        line_row(&mut rows, line);
+    }
+    for (number, pay) in (1..).zip(&statement.windows) {
+        put(
+            &mut rows,
+            format_args!("A {number} {} {}", pay.paid_periods, pay.pence),
+        );
+    }
+    put(
+        &mut rows,
+        format_args!(
+            "T {} {} {} {}",
+            statement.capped,
+            statement.utilisation_pence,
+            statement.availability_pence,
+            statement.all_pence
+        ),
+    );
+    rows
+}
+
+/// Its R row.
+pub fn refusal_row(refusal: Refusal) -> String {
+    format!("R {} {}\n", refusal.number, refusal.offset)
+}
+
+fn line_row(rows: &mut String, line: &Line) {
+    let stage = match line.stage {
+        Stage::RampUp => 'U',
+        Stage::Steady => 'S',
+        Stage::RampDown => 'D',
+    };
+    let rate = match line.rate {
+        Rate::Utilisation => 'C',
+        Rate::Optional => 'O',
+    };
+    put(
+        rows,
+        format_args!(
+            "L {} {} {stage} {rate} {} {} {} {}",
+            line.instruction, line.period, line.expected, line.delivered, line.capped, line.pence
+        ),
+    );
+}
+
+fn put(rows: &mut String, row: std::fmt::Arguments) {
+    writeln!(rows, "{row}").expect("text takes every row");
+}
