@@ -1,7 +1,7 @@
 -- The book follows the commands taken: what it and meter memory hold is the ledger of those commands. Once for every command: one that is taken keeps the
 -- book sound and adds exactly its entry; one that is refused changes nothing.
 use mathlib.Core.Path.{_≡_, refl, sym, ap, ap₂, _∙_, subst, subst⁻¹}
-use mathlib.Core.Bool.{Bool, true, false, cond, not, _&&_, true≢false}
+use mathlib.Core.Bool.{Bool, true, false, cond, not, true≢false}
 use mathlib.Core.List.{List, [], _∷_, _++_}
 use mathlib.Core.Option.{Option, none, some}
 use Prim.Native.Nat.{ℕ, suc, _+_, _-_, _≤_, _<_}
@@ -12,7 +12,7 @@ use lib.IntN.{ℤ}
 use lib.Dec.{T, leb·suc-zero}
 use lib.ListN.{length, take, drop, set, getD, replicate, length-set, length-append, length-drop, length-replicate}
 use lib.Seq.{drop-cons, drop-set-lt}
-use Rattle.energy.specs.Lists.{all, any, pass, isEmpty, concatMap}
+use Rattle.energy.specs.Lists.{all, any, pass, concatMap}
 use Rattle.energy.proofs.Tests.{T-and}
 use Rattle.commands.specs.Command.{always}
 use Rattle.commands.proofs.ByKind.{contract-or-not, window-or-not, instruction-or-not, default-or-not}
@@ -20,7 +20,8 @@ use Rattle.rules.specs.Ledger.{Ledger, ledgerOf, isContract, spanOf, spanIn, ce
 use Rattle.rules.specs.Refusal.{refusal, joined, answerOf}
 use Rattle.rules.specs.Reached.{Reached, untouched, agreed, agreedTests}
 use Rattle.commands.specs.declared.entries.Command.{Command}
-use Rattle.commands.specs.declared.entries.Command.the-variants.{Contract as contractᶜ, Window as windowᶜ, Instruction as instructionᶜ, Default as defaultᶜ, Reading as readingᶜ, Close as closeᶜ}
+use Rattle.commands.specs.declared.entries.Command.the-variants.{Contract as contractᶜ, Window as windowᶜ, Instruction as instructionᶜ}
+use Rattle.commands.specs.declared.entries.Command.the-variants.{Default as defaultᶜ, Reading as readingᶜ, Close as closeᶜ}
 use Rattle.rules.proofs.Reached.{step, start}
 use Rattle.rules.proofs.Taken.{grown, ledgerOf-snoc, Allowed, allowed}
 use Rattle.rules.proofs.FileLength.{cells-fit}
@@ -31,9 +32,9 @@ use Rattle.book.specs.Sound.{sound, Shaped, tableTests, emptyTests}
 use Rattle.book.specs.Enter.{enterBook, enteredBy}
 use Rattle.book.specs.declared.Book.{Book}
 use Rattle.book_sound.proofs.Tables.{has-room}
-use Rattle.book.proofs.Tested.{Tables, contents, sound-parts, is-sound}
+use Rattle.book.proofs.SoundTests.{Tables, contents, sound-parts, is-sound}
 use Rattle.book.proofs.Month.{span-is, cells-is}
-pub use Rattle.book.proofs.Tested.{contract-is}
+pub use Rattle.book.proofs.SoundTests.{contract-is}
 use Rattle.book.proofs.Holds.{was-agreed, holds}
 
 -- ---- a book with a contract, and its ledger

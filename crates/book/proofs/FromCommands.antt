@@ -24,10 +24,10 @@ use Rattle.book.specs.Book.{emptyBook, bookSpan, bookCells, ledgerIn, pu
 use Rattle.book.specs.Sound.{sound, Shaped, FromCommands, Sound·theorem}
 use Rattle.book.specs.declared.Book.{Book}
 use Rattle.book.proofs.Holds.{none-below}
-use Rattle.book.proofs.Tested.{Tables, contents, sound-parts, contract-is, Empty, sound-empty}
+use Rattle.book.proofs.SoundTests.{Tables, contents, sound-parts, contract-is, Empty, sound-empty}
 use Rattle.book.proofs.Month.{span-is, cells-is, span-empty}
 use Rattle.book.proofs.Follow.{Follows, starts, put-follows}
-use Rattle.book.proofs.Determined.{determined}
+use Rattle.book.proofs.SameBook.{determined}
 
 -- ---- what commands leave is sound
 

@@ -17,7 +17,8 @@ use Rattle.commands.specs.Input.{from-to, isReading, mostMinute}
 use Rattle.commands.specs.declared.contract.Contract.{Contract}
 use Rattle.commands.specs.declared.entries.Reading.{Reading}
 use Rattle.commands.specs.declared.entries.Command.{Command}
-use Rattle.commands.specs.declared.entries.Command.the-variants.{Contract as contractᶜ, Window as windowᶜ, Instruction as instructionᶜ, Default as defaultᶜ, Reading as readingᶜ, Close as closeᶜ}
+use Rattle.commands.specs.declared.entries.Command.the-variants.{Contract as contractᶜ, Window as windowᶜ, Instruction as instructionᶜ}
+use Rattle.commands.specs.declared.entries.Command.the-variants.{Default as defaultᶜ, Reading as readingᶜ, Close as closeᶜ}
 use Rattle.commands.proofs.ByKind.{contract-or-not, window-or-not, instruction-or-not, default-or-not, close-or-not}
 use Rattle.rules.specs.Ledger.{Ledger, contractIn, windowIn, instructionIn, defaultIn, isClose, readingIn, spanOf}
 use Rattle.rules.proofs.Taken.{grown, Allowed}
@@ -26,7 +27,7 @@ use Rattle.book_sound.proofs.Tables.{has-room}
 use Rattle.book.specs.Book.{bookSpan, bookCells, ledgerIn, putBook}
 use Rattle.book.specs.Sound.{sound, Shaped}
 use Rattle.book.specs.declared.Book.{Book}
-use Rattle.book.proofs.Tested.{Tables, sound-parts}
+use Rattle.book.proofs.SoundTests.{Tables, sound-parts}
 use Rattle.book.proofs.Month.{span-cells, span-is, span-empty}
 
 -- ---- a book with a contract or without

@@ -1,11 +1,11 @@
-pub mod Tested
+pub mod SoundTests
 pub mod Month
 pub mod Refusals
-pub mod Entered
+pub mod EnteringByNumbers
 pub mod Holds
 pub mod Follow
-pub mod Determined
+pub mod SameBook
 pub mod FromCommands
-pub mod Kept
+pub mod StaysSound
 pub mod OpenSpan
 pub mod SoundBook

@@ -2,7 +2,7 @@
 use mathlib.Core.Path.{_≡_, refl, sym, ap, _∙_}
 use mathlib.Core.Bool.{Bool, true, false, cond}
 use mathlib.Core.List.{[], _∷_}
-use Prim.Native.Nat.{ℕ, _≤_}
+use Prim.Native.Nat.{_≤_}
 use native.Mathlib.Omega.{arith}
 use Rattle.book_memory.specs.Meter.{Memory}
 use Rattle.commands.specs.Input.{mostMinute}
@@ -12,7 +12,7 @@ use Rattle.commands.proofs.Terms.{Terms, terms}
 use Rattle.book.specs.Book.{bookSpan, bookCells, ledgerIn}
 use Rattle.book.specs.Sound.{sound}
 use Rattle.book.specs.declared.Book.{Book}
-use Rattle.book.proofs.Tested.{sound-used, contract-is, empty-contract}
+use Rattle.book.proofs.SoundTests.{sound-used, contract-is, empty-contract}
 
 -- each minute of the span has a cell
 pub span-cells : (b : Book) → bookSpan b ≤ bookCells b

@@ -19,9 +19,9 @@ use Rattle.book.specs.Readings.{openSpan}
 use Rattle.book.specs.Sound.{sound}
 use Rattle.book.specs.declared.Book.{Book}
 use Rattle.book.specs.declared.Entry.{Entry}
-use Rattle.book.proofs.Refusals.{anyOf, ownOf, reading-own}
-use Rattle.book.proofs.Entered.{own-takes}
-use Rattle.book_memory.proofs.Taking.{tests}
+use Rattle.book.proofs.Refusals.{anyOf, reading-own}
+use Rattle.book.proofs.EnteringByNumbers.{own-takes}
+use Rattle.book_memory.proofs.TakenReading.{tests}
 
 -- ---- the open span
 

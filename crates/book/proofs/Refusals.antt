@@ -21,7 +21,8 @@ use Rattle.commands.specs.declared.entries.Instruction.{Instruction}
 use Rattle.commands.specs.declared.entries.Default.{Default}
 use Rattle.commands.specs.declared.entries.Reading.{Reading}
 use Rattle.commands.specs.declared.entries.Command.{Command}
-use Rattle.commands.specs.declared.entries.Command.the-variants.{Contract as contractᶜ, Window as windowᶜ, Instruction as instructionᶜ, Default as defaultᶜ, Reading as readingᶜ, Close as closeᶜ}
+use Rattle.commands.specs.declared.entries.Command.the-variants.{Contract as contractᶜ, Window as windowᶜ, Instruction as instructionᶜ}
+use Rattle.commands.specs.declared.entries.Command.the-variants.{Default as defaultᶜ, Reading as readingᶜ, Close as closeᶜ}
 use Rattle.commands.proofs.ByKind.{contract-or-not}
 use Rattle.rules.specs.Ledger.{isContract, spanOf, expiry, endOf, within, noWindow, noInstruction}
 use Rattle.rules.specs.Refusal.{cellsFor, bookConditions, kindConditions, conditions, refusal, recovered}
@@ -32,7 +33,7 @@ use Rattle.book_sound.proofs.Walks.{recovered-last}
 use Rattle.book.specs.Book.{bookSpan, bookCells, ledgerIn}
 use Rattle.book.specs.Sound.{sound}
 use Rattle.book.specs.declared.Book.{Book}
-use Rattle.book.proofs.Tested.{contract-is}
+use Rattle.book.proofs.SoundTests.{contract-is}
 use Rattle.book.proofs.Month.{span-is, cells-is}
 
 -- ---- all conditions

@@ -26,7 +26,7 @@ use Rattle.book.specs.Book.{noWindow, noInstruction, noDefault, bookSpan
 use Rattle.book.specs.Sound.{sound}
 use Rattle.book.specs.declared.Book.{Book}
 use Rattle.book.proofs.Month.{cells-most}
-use Rattle.book.proofs.Tested.{sound-parts, sound-used, sound-empty}
+use Rattle.book.proofs.SoundTests.{sound-parts, sound-used, sound-empty}
 
 -- ---- the contract
 
@@ -39,7 +39,7 @@ pub record SoundContract (k : Contract) : Type 0 where
   pub availability : k .availability ≤ 1000000
   pub utilisation : k .utilisation ≤ 1000000
   pub optional : k .optional ≤ 1000000
-  pub rise : (1 ≤ upMinutes k) × (upMinutes k ≤ k .response .0)
+  pub rampStart : (1 ≤ upMinutes k) × (upMinutes k ≤ k .response .0)
   pub fall : downMinutes k ≤ 240
 
 contract-sound : (k : Contract) → T (inRange (contractᶜ k)) → T (not (rampTooLong (contractᶜ k))) → SoundContract k
@@ -55,7 +55,7 @@ contract-sound k operands ramps =
       availability = r .availability;
       utilisation = r .utilisation;
       optional = r .optional;
-      rise = t .up;
+      rampStart = t .up;
       fall = t .down .1;
     }
 

@@ -1,4 +1,4 @@
--- Readings, which need no book: of the book one that is taken asks no more than a span.
+-- Inner, and proved equal to the rules: readings, which need no book: of the book one that is taken asks no more than a span.
 use mathlib.Core.Bool.{not, _&&_, cond}
 use Prim.Native.Nat.{ℕ}
 use lib.Dec.{leb}

@@ -1,2 +1,3 @@
 pub mod Cells
-pub mod Taking
+pub mod TakenReading
+pub mod Examples

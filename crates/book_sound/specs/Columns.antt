@@ -1,4 +1,4 @@
--- Windows in order, their times as columns, and the place of a minute among them.
+-- Inner, and proved equal to the rules: windows in order, their times as columns, and the place of a minute among them.
 use mathlib.Core.List.{List}
 use Prim.Native.Nat.{ℕ, _≤_, _<_}
 use lib.ListN.{length, getD}

@@ -1,4 +1,4 @@
--- The tests for zeros: unused entries of the tables, and no contract.
+-- Inner, and proved equal to the rules: the tests for zeros: unused entries of the tables, and no contract.
 use mathlib.Core.Bool.{Bool, false, _&&_}
 use mathlib.Core.List.{List, [], _∷_}
 use lib.IntN.{ℤ, pos, negsuc}

@@ -9,7 +9,8 @@ use native.Mathlib.Omega.{arith}
 use lib.Dec.{eqb, leb}
 use borrow.Author.Tests.{le-leb, lt-leb}
 use Rattle.energy.specs.Lists.{later}
-use Rattle.commands.specs.Input.{from-to, inRange, rampTooLong, badWindow, Condition, _when_, inputConditions, lowest, inputRefusal, orZero, offerFor, offerOf}
+use Rattle.commands.specs.Input.{from-to, inRange, rampTooLong, badWindow, Condition, _when_, inputConditions, lowest, inputRefusal, orZero}
+use Rattle.commands.specs.Input.{offerFor, offerOf}
 use Rattle.commands.specs.declared.contract.Contract.{Contract}
 use Rattle.commands.specs.declared.contract.Offer.{Offer}
 use Rattle.commands.specs.declared.contract.Offer.the-variants.{Agreed, Refused}

@@ -8,9 +8,9 @@ use Rattle.book_memory.specs.Meter.{roomIn, lent}
 use Rattle.rules.specs.Ledger.{Ledger, ledgerOf}
 use Rattle.rules.specs.Refusal.{taken}
 use Rattle.rules.specs.Statement.{lines}
-use Rattle.rules.specs.Reread.{sayable, fit}
+use Rattle.rules.specs.Reread.{fitsBytes, fit}
 use Rattle.rules.specs.Examples.{appendix2, ledger}
-use Rattle.rules.proofs.Opened.{opened}
+use Rattle.rules.proofs.Definitions.{opened}
 use Rattle.rules.proofs.Figures.{figures}
 use Rattle.rules.proofs.Reread.{reread}
 use Rattle.demands.specs.Steps.{Step, read, settled, start, outcomes, readsTo}
@@ -21,7 +21,7 @@ use Rattle.demands.proofs.Demand3.{demand3}
 
 -- its bytes are its commands
 entered : readsTo bytes (length bytes) .commands ≡ appendix2
-unfolding bytes Demand3·theorem opened sayable fit
+unfolding bytes Demand3·theorem opened fitsBytes fit
 entered = demand3 bytes (lent []) [] .wholeFile ∙ reread .file appendix2 tt
 
 -- its book is closed and complete

@@ -11,8 +11,7 @@ use Rattle.rules.specs.File.{readAt, readOn, write, commandsFrom, commandsIn}
 use Rattle.rules.proofs.Taken.{concatMap-append}
 use Rattle.commands.specs.declared.entries.Command.{Command}
 use Rattle.rules.specs.declared.file.Read.{Read}
-use Rattle.rules.specs.declared.file.Read.the-variants.{Got, End}
-use Rattle.rules.specs.declared.file.Read.the-variants.{Refused as refusedʳ}
+use Rattle.rules.specs.declared.file.Read.the-variants.{Got, End, Refused as refusedʳ}
 use Rattle.file_read.proofs.Steps.{got-long}
 use Rattle.demands.specs.Steps.{enter, read, stop, readCall, Place, outset, onwards, placeFrom, readsTo}
 

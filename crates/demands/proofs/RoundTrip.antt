@@ -21,8 +21,7 @@ use Rattle.rules.specs.Rewritten.{Rewritten}
 use Rattle.commands.specs.declared.entries.Command.{Command}
 use Rattle.rules.specs.declared.answer.Answer.the-variants.{Taken}
 use Rattle.rules.specs.declared.file.Read.{Read}
-use Rattle.rules.specs.declared.file.Read.the-variants.{Got, End}
-use Rattle.rules.specs.declared.file.Read.the-variants.{Refused as refusedʳ}
+use Rattle.rules.specs.declared.file.Read.the-variants.{Got, End, Refused as refusedʳ}
 use Rattle.rules.proofs.Replay.{Accepted}
 use Rattle.rules.proofs.Rewritten.{rewritten, written-replay, file-commands}
 use Rattle.rules.proofs.Taken.{Clear, clear, ledgerOf-snoc}

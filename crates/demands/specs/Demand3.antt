@@ -69,7 +69,7 @@ pub record Demand3 (file : List ℕ) (memory : Memory) (steps : List Step) : Typ
   -- taken or turned down under its number, and a settlement is answered
   pub outcome : outcomes file (start memory) steps ≡ ruledFrom file (roomIn memory) outset steps
   -- the list leaves the reader behind the last command that it read, and the book and lent memory of the commands taken: that is the book of 11
-  -- (book/specs/Sound.Left)
+  -- (book/specs/Sound.FromCommands)
   pub left : afterAll file (start memory) steps ≡ leftAt memory (placeFrom file outset steps)
   -- every settlement, wherever it stands, has the outcome that is right for the commands taken before it
   pub settlements :

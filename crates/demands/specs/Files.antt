@@ -13,8 +13,7 @@ use Rattle.commands.specs.declared.entries.Command.{Command}
 use Rattle.rules.specs.declared.statement.Line.{Line}
 use Rattle.rules.specs.declared.answer.Answer.the-variants.{Taken}
 use Rattle.rules.specs.declared.file.Read.{Read}
-use Rattle.rules.specs.declared.file.Read.the-variants.{Got, End}
-use Rattle.rules.specs.declared.file.Read.the-variants.{Refused as refusedʳ}
+use Rattle.rules.specs.declared.file.Read.the-variants.{Got, End, Refused as refusedʳ}
 use Rattle.book.specs.Book.{emptyBook}
 use Rattle.settle.specs.Settle.{settleBook}
 use Rattle.file_load.specs.Load.{LoadedFile, load}

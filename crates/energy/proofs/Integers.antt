@@ -21,7 +21,7 @@ use mathlib.Core.Logic.{_⊎_, inl, inr}
 use mathlib.Core.Bool.{Bool, true, false, not, cond}
 use Prim.Native.Nat.{ℕ, zero, suc, _+_, _*_, _-_, _/_, _%_, _≤_, _<_, _^_}
 use native.Mathlib.Omega.{arith}
-use lib.Dec.{T, ltb, leb, leb→le, le→leb, ltb→lt, lt→ltb, nltb→le}
+use lib.Dec.{T, ltb, leb→le, le→leb, ltb→lt, lt→ltb, nltb→le}
 use lib.IntN.{ℤ, pos, negsuc, negℤ, natAbs, subℕ, _+ℤ_, _-ℤ_, _*ℤ_}
 use lib.Signed.{leZ, ltZ, nonNeg, quotZ, remZ, _≤ℤ_, _<ℤ_}
 use native.Mathlib.Nat.{zero-div, zero-mod, div-add-mod, div-le-self, mod-lt}

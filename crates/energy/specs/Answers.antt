@@ -1,5 +1,5 @@
--- "When a command or call is turned down": what the calls of this crate that take any numbers answer, a value or the number of the refusal. They meet
--- 3 alone, a number outside its range.
+-- Inner, and proved equal to the rules: "When a command or call is turned down": what the calls of this crate that take any numbers answer, a value
+-- or the number of the refusal. They meet 3 alone, a number outside its range.
 use mathlib.Core.Bool.{Bool, _&&_, cond}
 use mathlib.Core.Option.{Option, none, some}
 use Prim.Native.Nat.{ℕ}

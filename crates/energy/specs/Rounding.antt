@@ -1,4 +1,4 @@
--- "Energy and money": what rounding to the nearest, a half to the larger, promises for every number and every divisor from 1.
+-- Proved of the rules: "Energy and money": what rounding to the nearest, a half to the larger, promises for every number and every divisor from 1.
 use mathlib.Core.Path.{_≡_}
 use Prim.Native.Nat.{ℕ, _*_, _≤_}
 use lib.IntN.{ℤ, pos, natAbs, _-ℤ_, _*ℤ_}

@@ -11,7 +11,8 @@ use Rattle.energy.specs.Lists.{putAt}
 use Rattle.energy.proofs.Puts.{put-none, length-put, put-part, put-put}
 use Rattle.rules.specs.File.{table, widthsOf, total, bytesOf, byteOf, operandsOf, writeOperands, write}
 use Rattle.commands.specs.declared.entries.Command.{Command}
-use Rattle.commands.specs.declared.entries.Command.the-variants.{Contract as contractᶜ, Window as windowᶜ, Instruction as instructionᶜ, Default as defaultᶜ, Reading as readingᶜ, Close as closeᶜ}
+use Rattle.commands.specs.declared.entries.Command.the-variants.{Contract as contractᶜ, Window as windowᶜ, Instruction as instructionᶜ}
+use Rattle.commands.specs.declared.entries.Command.the-variants.{Default as defaultᶜ, Reading as readingᶜ, Close as closeᶜ}
 use Rattle.file_table.specs.Table.{padded, rowOf, rowIn, rowFor}
 use Rattle.file_table.proofs.Operands.{total-more}
 

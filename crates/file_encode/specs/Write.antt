@@ -1,4 +1,4 @@
--- "The writer puts out ..": one command into lent bytes, from a position on.
+-- Inner, and proved equal to the rules: "The writer puts out ..": one command into lent bytes, from a position on.
 use mathlib.Core.Bool.{cond}
 use mathlib.Core.List.{List}
 use Prim.Native.Nat.{ℕ, _+_}

@@ -1,4 +1,4 @@
 pub mod From
 pub mod Turns
-pub mod Near
+pub mod RaisedKw
 pub mod Runs

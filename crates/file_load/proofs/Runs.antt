@@ -11,13 +11,13 @@ use lib.ListN.{length, getD, drop}
 use Rattle.energy.specs.Lists.{else}
 use Rattle.energy.proofs.Tests.{on-and}
 use Rattle.commands.specs.declared.entries.Command.{Command}
-use Rattle.commands.specs.declared.entries.Command.the-variants.{Contract as contractᶜ, Window as windowᶜ, Instruction as instructionᶜ, Default as defaultᶜ, Reading as readingᶜ, Close as closeᶜ}
+use Rattle.commands.specs.declared.entries.Command.the-variants.{Contract as contractᶜ, Window as windowᶜ, Instruction as instructionᶜ}
+use Rattle.commands.specs.declared.entries.Command.the-variants.{Default as defaultᶜ, Reading as readingᶜ, Close as closeᶜ}
 use Rattle.rules.specs.File.{table, widthsOf, total, operands, byteOf, readAt}
 use Rattle.rules.specs.declared.file.Read.{Read}
-use Rattle.rules.specs.declared.file.Read.the-variants.{Got, End}
-use Rattle.rules.specs.declared.file.Read.the-variants.{Refused as refusedʳ}
+use Rattle.rules.specs.declared.file.Read.the-variants.{Got, End, Refused as refusedʳ}
 use Rattle.book_memory.specs.Meter.{takesReading, Memory}
-use Rattle.file_read.proofs.Found.{Found, ended, unknown, short, entire, found}
+use Rattle.file_read.proofs.Finds.{Found, ended, unknown, short, entire, found}
 use Rattle.file_read.proofs.Steps.{got-within, byte-back}
 use Rattle.file_load.specs.Turn.{Stand, standBy, standAt, stands, Run, wholeReading}
 

@@ -7,19 +7,19 @@ use native.Mathlib.Omega.{arith}
 use lib.ListN.{length, length-set}
 use Rattle.rules.specs.File.{readAt}
 use Rattle.commands.specs.declared.entries.Command.{Command}
-use Rattle.commands.specs.declared.entries.Command.the-variants.{Contract as contractᶜ, Window as windowᶜ, Instruction as instructionᶜ, Default as defaultᶜ, Reading as readingᶜ, Close as closeᶜ}
+use Rattle.commands.specs.declared.entries.Command.the-variants.{Contract as contractᶜ, Window as windowᶜ, Instruction as instructionᶜ}
+use Rattle.commands.specs.declared.entries.Command.the-variants.{Default as defaultᶜ, Reading as readingᶜ, Close as closeᶜ}
 use Rattle.commands.specs.declared.entries.Reading.{Reading}
 use Rattle.rules.specs.declared.answer.Answer.{Answer}
 use Rattle.rules.specs.declared.answer.Answer.the-variants.{Taken, Refused}
 use Rattle.rules.specs.declared.file.Read.{Read}
-use Rattle.rules.specs.declared.file.Read.the-variants.{Got, End}
-use Rattle.rules.specs.declared.file.Read.the-variants.{Refused as refusedʳ}
+use Rattle.rules.specs.declared.file.Read.the-variants.{Got, End, Refused as refusedʳ}
 use Rattle.book_memory.specs.Meter.{putMeter, takesReading, Memory, roomIn}
 use Rattle.book.specs.Enter.{enterBook, Entered}
 use Rattle.book.specs.Readings.{openSpan}
 use Rattle.book.specs.Sound.{sound}
 use Rattle.book.specs.declared.Book.{Book}
-use Rattle.book.proofs.Kept.{Kept, kept}
+use Rattle.book.proofs.StaysSound.{Kept, kept}
 use Rattle.book.proofs.OpenSpan.{reading-enters}
 use Rattle.file_read.proofs.Steps.{got-within}
 use Rattle.file_load.specs.Load.{LoadedFile, carriesOn, loadsOn}
@@ -44,7 +44,8 @@ module _ (s : List ℕ) (at : ℕ) (b : Book) (meter : Memory) where
       answered next Taken e = refl
       answered next (Refused n) e = refl
 
-      go : (r : Read) → loadsOn (λ next b m. from s next b m) at b meter r ≡ rest s (turnBy at b meter r .turn .going) (turnBy at b meter r .turn .loaded) (turnBy at b meter r .meter)
+      go : (r : Read) → loadsOn (λ next b m. from s next b m) at b meter r ≡ rest s (turnBy at b meter r .turn .going) (turnBy at b meter r .turn .loaded)
+          (turnBy at b meter r .meter)
       go (Got c next) = answered next (enterBook b meter c .entry .answer) (enterBook b meter c)
       go (refusedʳ n) = refl
       go End = refl

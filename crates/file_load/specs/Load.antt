@@ -7,8 +7,7 @@ use Rattle.rules.specs.File.{readAt}
 use Rattle.rules.specs.declared.answer.Answer.{Answer}
 use Rattle.rules.specs.declared.answer.Answer.the-variants.{Taken, Refused}
 use Rattle.rules.specs.declared.file.Read.{Read}
-use Rattle.rules.specs.declared.file.Read.the-variants.{Got, End}
-use Rattle.rules.specs.declared.file.Read.the-variants.{Refused as refusedʳ}
+use Rattle.rules.specs.declared.file.Read.the-variants.{Got, End, Refused as refusedʳ}
 use Rattle.book.specs.Enter.{enterBook, Entered}
 use Rattle.book.specs.declared.Book.{Book}
 use Rattle.file_load.specs.declared.file.Loaded.{Loaded}

@@ -1,4 +1,4 @@
--- One turn of the loop over a file: the command at a position is read and entered. What the loop's own functions promise.
+-- Inner, and proved equal to the rules: one turn of the loop over a file: the command at a position is read and entered. What the loop's own functions promise.
 use mathlib.Core.Path.{_≡_}
 use mathlib.Core.Bool.{Bool, true, false, cond, _&&_}
 use mathlib.Core.List.{List}
@@ -9,8 +9,7 @@ use Rattle.rules.specs.File.{readAt}
 use Rattle.rules.specs.declared.answer.Answer.{Answer}
 use Rattle.rules.specs.declared.answer.Answer.the-variants.{Taken, Refused}
 use Rattle.rules.specs.declared.file.Read.{Read}
-use Rattle.rules.specs.declared.file.Read.the-variants.{Got, End}
-use Rattle.rules.specs.declared.file.Read.the-variants.{Refused as refusedʳ}
+use Rattle.rules.specs.declared.file.Read.the-variants.{Got, End, Refused as refusedʳ}
 use Rattle.book_memory.specs.Meter.{putMeter, takesReading, Memory}
 use Rattle.book.specs.Enter.{enterBook}
 use Rattle.book.specs.declared.Book.{Book}

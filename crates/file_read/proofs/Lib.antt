@@ -1,3 +1,3 @@
-pub mod Found
+pub mod Finds
 pub mod Steps
 pub mod Pieces

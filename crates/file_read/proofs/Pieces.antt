@@ -1,18 +1,17 @@
 -- Laws for a file that arrives in pieces: what is read in a piece, and what it says of the whole file.
-use mathlib.Core.Path.{_≡_, refl, _∙_, ap}
+use mathlib.Core.Path.{_≡_, refl}
 use mathlib.Core.List.{List, [], _∷_, _++_}
 use mathlib.Core.Option.{some}
 use Prim.Native.Nat.{ℕ, _+_, _-_, _≤_, _<_}
 use native.Mathlib.Nat.{add-assoc}
 use native.Mathlib.Omega.{arith}
-use lib.ListN.{length, getD, take, drop, length-append, length-drop, take-append-drop, List·getD-append}
-use lib.Seq.{take-all, take-append-le, drop-append-le, drop-drop, getD-drop}
+use lib.ListN.{length, getD, drop, length-append, length-drop, List·getD-append}
+use lib.Seq.{take-append-le, drop-append-le, drop-drop, getD-drop}
 use Rattle.rules.specs.File.{table, widthsOf, total, operands, commandOf, readAt}
 use Rattle.commands.specs.declared.entries.Command.{Command}
 use Rattle.rules.specs.declared.file.Read.{Read}
 use Rattle.rules.specs.declared.file.Read.the-variants.{Got, Refused, End}
-use Rattle.file_table.proofs.Rows.{widths-most}
-use Rattle.file_read.proofs.Found.{Found, ended, unknown, short, entire, found, found-reads, found-at}
+use Rattle.file_read.proofs.Finds.{Found, ended, unknown, short, entire, found, found-reads, found-at}
 
 -- ---- a piece, and bytes after it
 

@@ -15,7 +15,7 @@ use Rattle.commands.specs.declared.entries.Command.the-variants.{Close as close
 use Rattle.rules.proofs.Operands.{write-long}
 use Rattle.file_table.proofs.Rows.{widths-most}
 use Rattle.rules.specs.declared.file.Read.the-variants.{Got, Refused}
-use Rattle.file_read.proofs.Found.{Found, unknown, short, entire, found-at}
+use Rattle.file_read.proofs.Finds.{Found, unknown, short, entire, found-at}
 
 -- a command that is read ends after where it begins, and within the bytes
 got-inside : {s : List ℕ} {at next : ℕ} {c : Command} → Found s at (Got c next) → (at < next) × (next ≤ length s)

@@ -1,4 +1,4 @@
--- "The reader carries the unit file's bytes and its position": what a reader finds, and where it stands after it.
+-- Inner, and proved equal to the rules: "The reader carries the unit file's bytes and its position": what a reader finds, and where it stands after it.
 use mathlib.Core.List.{List}
 use Prim.Native.Nat.{ℕ}
 use Rattle.rules.specs.File.{readAt}

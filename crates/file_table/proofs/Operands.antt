@@ -6,7 +6,7 @@ use native.Mathlib.Nat.{not-suc-le-zero, le-of-suc-le-suc, le-of-lt, add-assoc, 
 use native.Mathlib.Numerals.{add-one}
 use native.Mathlib.Omega.{arith}
 use lib.Dec.{lit<}
-use lib.ListN.{length, getD, take, drop, set, replicate, length-append, length-replicate}
+use lib.ListN.{length, getD, take, drop, set, replicate, length-append}
 use lib.Seq.{length-take-le, getD-drop, drop-drop, set-at}
 use Rattle.rules.specs.File.{total, wordFrom, operands, commandOf}
 use Rattle.file_table.specs.Table.{padded}
@@ -60,10 +60,6 @@ unfolding padded
 padded-more xs k x e h =
     let one : 11 - length xs ≡ suc (11 - (length xs + 1)) = omega arith in
     rw (one, set-at xs 0 (replicate (11 - (length xs + 1)) 0) x k e, length-append xs (x ∷ []), append-assoc)
-
-pub length-padded : (xs : List ℕ) → length xs ≤ 11 → length (padded xs) ≡ 11
-unfolding padded
-length-padded xs h = simp (length-append, length-replicate) (omega arith)
 
 getD-zeros : (n k : ℕ) → _≡_ {A = ℕ} (getD (replicate n 0) k 0) 0
 getD-zeros zero k = refl

@@ -2,7 +2,8 @@
 use mathlib.Core.Path.{_≡_, refl, sym, _∙_}
 use mathlib.Core.List.{List, [], _∷_, _++_}
 use Prim.Native.Nat.{ℕ, zero, suc, _+_, _-_, _*_, _/_, _%_, _^_, _≤_, _<_, zero-le}
-use native.Mathlib.Nat.{not-suc-le-zero, le-of-suc-le-suc, sub-self, sub-zero, div-one, pow-suc, pow-succ', mul-assoc, mul-le-mul-right, mul-le-mul-left, lt-of-lt-of-le, pow-le-pow-right, div-div-eq-div-mul}
+use native.Mathlib.Nat.{not-suc-le-zero, le-of-suc-le-suc, sub-self, sub-zero, div-one, pow-suc, pow-succ', mul-assoc, mul-le-mul-right}
+use native.Mathlib.Nat.{mul-le-mul-left, lt-of-lt-of-le, pow-le-pow-right, div-div-eq-div-mul}
 use native.Mathlib.Numerals.{add-one}
 use native.Mathlib.Omega.{arith}
 use lib.Dec.{lit<}

@@ -1,4 +1,4 @@
--- What a decoder and an encoder of operands ask of widths and numbers.
+-- Inner, and proved equal to the rules: what a decoder and an encoder of operands ask of widths and numbers.
 use mathlib.Core.List.{List}
 use Prim.Native.Nat.{ℕ, _^_, _≤_, _<_}
 use lib.ListN.{getD}

@@ -1,4 +1,4 @@
--- The rules' table as the code keeps it: rows of one shape, found by their command byte.
+-- Inner, and proved equal to the rules: the rules' table as the code keeps it: rows of one shape, found by their command byte.
 use mathlib.Core.List.{List, [], _++_}
 use mathlib.Core.Option.{Option, none, some}
 use Prim.Native.Nat.{ℕ, _-_}

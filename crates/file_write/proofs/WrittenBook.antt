@@ -15,11 +15,11 @@ use Rattle.rules.specs.File.{readingAt, written, fileOf}
 use Rattle.commands.specs.declared.contract.Contract.{Contract}
 use Rattle.rules.specs.declared.answer.Answer.the-variants.{Taken, Refused}
 use Rattle.commands.specs.declared.entries.Command.the-variants.{Contract as contractᶜ, Window as windowᶜ, Instruction as instructionᶜ, Default as defaultᶜ}
-use Rattle.book_memory.specs.Meter.{cellReading, missing, Memory, roomIn, kwAt}
+use Rattle.book_memory.specs.Meter.{cellReading, Memory, roomIn, kwAt}
 use Rattle.book.specs.Book.{bookSpan, bookCells, ledgerIn}
 use Rattle.book.specs.Sound.{sound, Shaped}
 use Rattle.book.specs.declared.Book.{Book}
-use Rattle.book.proofs.Tested.{sound-parts}
+use Rattle.book.proofs.SoundTests.{sound-parts}
 use Rattle.book.proofs.Month.{span-cells, span-sound, cells-sound, cells-most}
 use Rattle.file_write.specs.Laid.{fileBytes, Laid, readings, parts, Tabled, Kept}
 use Rattle.file_write.specs.Write.{writeConditions, writeBook}

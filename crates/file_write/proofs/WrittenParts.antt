@@ -17,7 +17,8 @@ use Rattle.commands.specs.Input.{isReading, mostMinute}
 use Rattle.rules.specs.File.{table, widthsOf, total, write, readingAt}
 use Rattle.commands.specs.declared.entries.Reading.{Reading}
 use Rattle.commands.specs.declared.entries.Command.{Command}
-use Rattle.commands.specs.declared.entries.Command.the-variants.{Contract as contractᶜ, Window as windowᶜ, Instruction as instructionᶜ, Default as defaultᶜ, Reading as readingᶜ, Close as closeᶜ}
+use Rattle.commands.specs.declared.entries.Command.the-variants.{Contract as contractᶜ, Window as windowᶜ, Instruction as instructionᶜ}
+use Rattle.commands.specs.declared.entries.Command.the-variants.{Default as defaultᶜ, Reading as readingᶜ, Close as closeᶜ}
 use Rattle.rules.proofs.Operands.{write-long}
 use Rattle.rules.proofs.Taken.{concatMap-append}
 use Rattle.book_memory.specs.Meter.{cellReading, Memory, kwAt}
@@ -87,7 +88,8 @@ entries-turns places n few = record { more = λ i h. rw (add-one i, take-suc pla
 
 -- ---- the readings
 
-pub cell-command : (z : ℤ) (m : ℕ) → readingAt (cellReading z) m ≡ cond (isReading z) (readingᶜ (record { minute = record { 0 = m }; kw = record { 0 = z } }) ∷ []) []
+pub cell-command : (z : ℤ) (m : ℕ) → readingAt (cellReading z) m ≡ cond (isReading z) (readingᶜ (record { minute = record { 0 = m }; kw = record { 0 = z } })
+    ∷ []) []
 cell-command z m = go (isReading z)
   where
     go : (b : Bool) → readingAt (cond b (some z) none) m ≡ cond b (readingᶜ (record { minute = record { 0 = m }; kw = record { 0 = z } }) ∷ []) []

@@ -1,4 +1,5 @@
--- Commands laid out one after another in lent bytes: what the parts of the writer promise each other. Nothing here is a rule of its own.
+-- Inner, and proved equal to the rules: commands laid out one after another in lent bytes: what the parts of the writer promise each other. Nothing
+-- here is a rule of its own.
 use mathlib.Core.Bool.{cond}
 use mathlib.Core.List.{List, [], _∷_, _++_, map}
 use Prim.Native.Nat.{ℕ, _+_, _≤_, _<_}
@@ -7,8 +8,9 @@ use Rattle.commands.specs.Input.{mostMinute}
 use Rattle.energy.specs.Lists.{concatMap, between, Laid as LaidBytes}
 use Rattle.rules.specs.File.{write, readingAt}
 use Rattle.commands.specs.declared.entries.Command.{Command}
-use Rattle.commands.specs.declared.entries.Command.the-variants.{Contract as contractᶜ, Window as windowᶜ, Instruction as instructionᶜ, Default as defaultᶜ, Close as closeᶜ}
-use Rattle.book_memory.specs.Meter.{cellReading, Memory, lent, kwAt}
+use Rattle.commands.specs.declared.entries.Command.the-variants.{Contract as contractᶜ, Window as windowᶜ, Instruction as instructionᶜ}
+use Rattle.commands.specs.declared.entries.Command.the-variants.{Default as defaultᶜ, Close as closeᶜ}
+use Rattle.book_memory.specs.Meter.{cellReading, Memory, kwAt}
 use Rattle.book.specs.Book.{bookSpan}
 use Rattle.book.specs.declared.Book.{Book}
 use Rattle.file_write.specs.declared.entries.Table.{Table}

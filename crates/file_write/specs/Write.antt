@@ -4,7 +4,7 @@ use mathlib.Core.List.{List, _++_}
 use mathlib.Core.Option.{Option, none, some}
 use Prim.Native.Nat.{ℕ}
 use lib.ListN.{length, drop}
-use Rattle.book_memory.specs.Meter.{Memory, lent, roomIn}
+use Rattle.book_memory.specs.Meter.{Memory, roomIn}
 use Rattle.commands.specs.Input.{lowest}
 use Rattle.rules.specs.Ledger.{Ledger}
 use Rattle.rules.specs.Refusal.{answerOf}

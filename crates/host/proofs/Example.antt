@@ -1,7 +1,7 @@
 -- The example of Appendix 2 through a call for hosts, by computation.
 use mathlib.Core.Path.{refl}
 use Rattle.rules.specs.Reached.{windowsSound, instructionsSound, agreedTests}
-use Rattle.rules.proofs.Opened.{opened}
+use Rattle.rules.proofs.Definitions.{opened}
 use Rattle.book.specs.Book.{bookSpan, bookCells, ledgerIn}
 use Rattle.book.specs.Sound.{noContractTests, emptyTests, tableTests, sound}
 use Rattle.settle_numbers.specs.Numbers.{numbersOf, numberBook}

@@ -18,7 +18,6 @@ use Rattle.commands.specs.Input.{_when_, lowest}
 use Rattle.rules.specs.Segment.{segments}
 use Rattle.rules.specs.Statement.{lines, settleConditions, settleRefusal, statementOf}
 use Rattle.rules.specs.declared.statement.Line.{Line}
-use Rattle.rules.specs.declared.answer.Answer.{Answer}
 use Rattle.rules.specs.declared.answer.Answer.the-variants.{Taken, Refused}
 use Rattle.rules.proofs.LineBound.{lines-segments}
 use Rattle.book.specs.Book.{ledgerIn}

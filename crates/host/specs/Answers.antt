@@ -1,4 +1,4 @@
--- What a call answers, as one number.
+-- Inner, and for hosts: what a call answers, as one number.
 use Prim.Native.Nat.{ℕ, _+_, _*_, min}
 use Rattle.rules.specs.declared.answer.Answer.{Answer}
 use Rattle.rules.specs.declared.answer.Answer.the-variants.{Taken, Refused}

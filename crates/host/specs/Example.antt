@@ -1,5 +1,5 @@
--- Appendix 2 through a call for hosts, to the number: its contract, window and instruction as tables, its readings in meter memory, and what the call
--- answers and leaves in line and sum memory; and which refusal is given where several hold.
+-- Proved of the rules: Appendix 2 through a call for hosts, to the number: its contract, window and instruction as tables, its readings in meter
+-- memory, and what the call answers and leaves in line and sum memory; and which refusal is given where several hold.
 use mathlib.Core.Path.{_≡_}
 use mathlib.Core.List.{List, [], _∷_, _++_, map}
 use Prim.Native.Nat.{ℕ, _*_}

@@ -1,8 +1,7 @@
--- A statement's sums as numbers, to the number: Appendix 2's, and a statement with two windows.
+-- Proved of the rules: a statement's sums as numbers, to the number: Appendix 2's, and a statement with two windows.
 use mathlib.Core.Path.{_≡_}
-use mathlib.Core.List.{List, [], _∷_, _++_, map}
-use Prim.Native.Nat.{ℕ}
-use lib.IntN.{ℤ, pos}
+use mathlib.Core.List.{[], _∷_, _++_, map}
+use lib.IntN.{pos}
 use lib.ListN.{length, replicate}
 use Rattle.rules.specs.Examples.{minus, appendix2, ledger, pays}
 use Rattle.rules.specs.Statement.{nothing, statementOf}

@@ -1,4 +1,4 @@
--- A statement as 262 numbers.
+-- Inner, and for hosts: a statement as 262 numbers.
 use mathlib.Core.List.{List, [], _∷_, _++_}
 use Prim.Native.Nat.{ℕ}
 use lib.IntN.{ℤ, pos}

@@ -1,12 +1,11 @@
--- One book in tables, to the number: which number of a row is which field, where tables end, and what becomes of a number that is too wide. All fields
--- of an entry differ, so no two can be read from one another's places.
+-- Proved of the rules: one book in tables, to the number: which number of a row is which field, where tables end, and what becomes of a number that
+-- is too wide. All fields of an entry differ, so no two can be read from one another's places.
 use mathlib.Core.Path.{_≡_}
 use mathlib.Core.Bool.{true, false}
 use mathlib.Core.List.{List, [], _∷_}
 use Prim.Native.Nat.{ℕ}
 use lib.IntN.{pos}
 use lib.ListN.{take}
-use Rattle.commands.specs.declared.contract.Contract.{Contract}
 use Rattle.commands.specs.declared.entries.Window.{Window}
 use Rattle.commands.specs.declared.entries.Instruction.{Instruction}
 use Rattle.commands.specs.declared.entries.Default.{Default}

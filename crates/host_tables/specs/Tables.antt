@@ -1,6 +1,6 @@
--- The book that a host's tables say: a contract, windows, instructions and defaults, each a row of numbers, its operands in the unit file's order. A
--- number past a table's end is 0, as in every unused place, and one that is too wide for its field stands as the field's largest value, which is in no
--- operand's range.
+-- Inner, and for hosts: the book that a host's tables say: a contract, windows, instructions and defaults, each a row of numbers, its operands in the
+-- unit file's order. A number past a table's end is 0, as in every unused place, and one that is too wide for its field stands as the field's largest
+-- value, which is in no operand's range.
 use mathlib.Core.Bool.{Bool, true, _&&_}
 use mathlib.Core.List.{List, map}
 use Prim.Native.Nat.{ℕ, _*_, _/_, _%_, min}

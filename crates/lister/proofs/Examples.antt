@@ -1,6 +1,6 @@
 -- The rows of the examples, computed.
 use mathlib.Core.Path.{refl}
-use Rattle.rules.proofs.Opened.{opened}
+use Rattle.rules.proofs.Definitions.{opened}
 use Rattle.book.specs.Book.{ledgerIn, emptyBook}
 use Rattle.book.specs.Sound.{sound, emptyTests, tableTests, noContractTests}
 use Rattle.settle.specs.Settle.{settleBook}

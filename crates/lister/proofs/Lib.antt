@@ -1,3 +1,3 @@
-pub mod Copied
+pub mod CopyToFront
 pub mod Refill
 pub mod Examples

@@ -1,7 +1,7 @@
 -- Pieces of the lister's input. A step over the bytes that were kept and those read behind them is entering all bytes together, by the theorem on pieces
 -- of a file; so the loop's invariant is that entering stands as all bytes so far say, and a full buffer moves the offset on, up to the most that is taken.
-use mathlib.Core.Path.{_≡_, refl, sym, ap, _∙_, subst, subst⁻¹}
-use mathlib.Core.Bool.{Bool, true, false, cond, not, _&&_, false≢true, true≢false}
+use mathlib.Core.Path.{_≡_, sym, ap, _∙_, subst, subst⁻¹}
+use mathlib.Core.Bool.{Bool, true, false, cond, _&&_, false≢true}
 use mathlib.Core.List.{List, [], _++_}
 use Prim.Native.Nat.{ℕ, _+_, _-_, _≤_, _<_}
 use native.Mathlib.Omega.{arith}
@@ -20,7 +20,7 @@ use Rattle.demands.specs.Pieces.{unfinished, Pieces·theorem}
 use Rattle.demands.proofs.Pieces.{pieces, inside, unread}
 use Rattle.demands.proofs.Files.{stops-within}
 use Rattle.lister.specs.Printed.{printed}
-use Rattle.lister.specs.Input.{Standing, standsAt, standing, step, listingOf, Steps, Steps·theorem, EntersPiece, ListedInput}
+use Rattle.lister.specs.Input.{Standing, standsAt, standing, step, listingOf, Steps·theorem, EntersPiece, ListedInput}
 use Rattle.lister.specs.declared.piece.Ended.{Ended}
 use Rattle.lister.specs.declared.piece.Piece.{Piece}
 

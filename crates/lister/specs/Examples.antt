@@ -1,4 +1,4 @@
--- "The lister": what is printed for a refusal, by example.
+-- Proved of the rules: "The lister": what is printed for a refusal, by example.
 use mathlib.Core.Path.{_≡_}
 use mathlib.Core.List.{[]}
 use Rattle.book_memory.specs.Meter.{Memory, lent}

@@ -11,6 +11,7 @@ use lister_rows::rows::refusal_row;
 use lister_rows::rows::totals_row;
 use lister_rows::rows::window_row;
 use rules::statement::Available;
+use rules::statement::LISTED_MOST;
 use rules::statement::Line;
 use rules::statement::Statement;
 
@@ -40,7 +41,7 @@ fn put_row(r: Row, out: &mut [u8], at: usize) -> usize
 }
 
 // The L rows of the first n lines.
-fn put_lines(lines: [Line; 719], n: usize, out: &mut [u8], at: usize) -> usize
+fn put_lines(lines: [Line; LISTED_MOST], n: usize, out: &mut [u8], at: usize) -> usize
     requires { ⌜ (n ≤ 719) × (at + 128 * n ≤ length (now out)) ⌝ }
     ensures { λ r. ⌜ Laid (concatMap lineRow (take n lines)) (now (out .entry)) at (now (out .exit)) r × (r ≤ at + 128 * n) ⌝ }
 {
@@ -70,11 +71,16 @@ fn put_windows(windows: [Available; 128], n: usize, out: &mut [u8], at: usize) -
 }
 
 // The listing of a statement with its lines, where so many windows were entered; its length.
-pub fn put_listing(s: Statement, lines: [Line; 719], windows: usize, out: &mut [u8; BYTES]) -> usize
+pub fn put_listing(
+    s: Statement,
+    lines: [Line; LISTED_MOST],
+    windows: usize,
+    out: &mut [u8; BYTES],
+) -> usize
     ensures { λ r. ⌜ Laid (listing s (take (s .lines) lines) windows) (now (out .entry)) 0 (now (out .exit)) r ⌝ }
 {
     let available = s.windows;
-    let after_lines = put_lines(lines, at_most(s.lines, 719), out, 0);
+    let after_lines = put_lines(lines, at_most(s.lines, LISTED_MOST), out, 0);
     let after_windows = put_windows(available, at_most(windows, 128), out, after_lines);
     put_row(totals_row(s), out, after_windows)
 }

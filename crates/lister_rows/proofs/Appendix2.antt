@@ -1,13 +1,11 @@
 -- Appendix 2's listing: its bytes are its commands, since what is written is read back; what the rules say of these is F1; and the rows are computed.
-use mathlib.Core.Path.{_≡_, refl, sym, ap, _∙_, subst⁻¹}
+use mathlib.Core.Path.{_≡_, refl}
 use lib.ListN.{length}
 use Rattle.energy.specs.Lists.{concatMap}
-use Rattle.rules.specs.Ledger.{Ledger}
-use Rattle.rules.specs.Refusal.{taken}
 use Rattle.rules.specs.File.{commandsIn}
-use Rattle.rules.specs.Reread.{sayable, fit}
+use Rattle.rules.specs.Reread.{fitsBytes, fit}
 use Rattle.rules.specs.Examples.{appendix2, ledger}
-use Rattle.rules.proofs.Opened.{opened}
+use Rattle.rules.proofs.Definitions.{opened}
 use Rattle.rules.proofs.Figures.{figures}
 use Rattle.rules.proofs.Reread.{reread}
 use Rattle.lister_rows.specs.Rows.{digitsIn, digits, signedDigits, fieldsOf, row, lineRow, windowRow, totalsRow, windowRows, listing}
@@ -16,7 +14,7 @@ use Rattle.lister_rows.specs.Appendix2.{bytes, takenOf, listingBy, Appen
 
 -- its bytes are its commands
 commands : commandsIn bytes ≡ appendix2
-unfolding bytes opened sayable fit
+unfolding bytes opened fitsBytes fit
 commands = reread .file appendix2 tt
 
 ledgers : takenOf bytes ≡ ledger appendix2

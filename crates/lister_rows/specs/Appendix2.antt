@@ -1,4 +1,4 @@
--- "The lister": the listing of Appendix 2's unit file, from its bytes by the rules to the rows.
+-- Proved of the rules: "The lister": the listing of Appendix 2's unit file, from its bytes by the rules to the rows.
 use mathlib.Core.Path.{_≡_}
 use mathlib.Core.Bool.{false}
 use mathlib.Core.List.{List, _++_}

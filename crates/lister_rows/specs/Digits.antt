@@ -1,4 +1,4 @@
--- "The lister": a number's digits are its decimal numeral.
+-- Proved of the rules: "The lister": a number's digits are its decimal numeral.
 use mathlib.Core.Path.{_≡_}
 use mathlib.Core.Bool.{Bool, true, false, not, _&&_}
 use mathlib.Core.List.{List, [], _∷_}

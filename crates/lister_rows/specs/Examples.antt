@@ -1,9 +1,9 @@
--- "The lister": rows by example, each named after what it pins.
+-- Proved of the rules: "The lister": rows by example, each named after what it pins.
 use mathlib.Core.Path.{_≡_}
 use mathlib.Core.List.{[], _∷_, _++_}
 use lib.IntN.{pos}
 use Rattle.rules.specs.Examples.{minus, row, pays}
-use Rattle.rules.specs.declared.statement.Stage.the-variants.{Up, Steady, Down}
+use Rattle.rules.specs.declared.statement.Stage.the-variants.{Steady, Down}
 use Rattle.rules.specs.declared.statement.Rate.the-variants.{Utilisation, Optional}
 use Rattle.lister_rows.specs.Rows.{lineRow, windowRows, refusalRow}
 use Rattle.lister_rows.specs.Text.{text}

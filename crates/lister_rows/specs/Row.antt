@@ -1,4 +1,4 @@
--- A row by value, and what appending to it does.
+-- Inner, and proved equal to the rules: a row by value, and what appending to it does.
 use mathlib.Core.Bool.{cond}
 use mathlib.Core.List.{List, [], _∷_, _++_}
 use mathlib.Core.Path.{_≡_}

@@ -1,4 +1,4 @@
--- Texts as the bytes that are printed, for the examples.
+-- Inner, and for the examples: texts as the bytes that are printed, for the examples.
 use mathlib.Core.List.{List, [], _∷_}
 use Prim.Native.Nat.{ℕ}
 use Prim.Native.Char.{code}

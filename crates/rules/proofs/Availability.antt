@@ -2,7 +2,7 @@
 use mathlib.Core.Path.{refl}
 use Rattle.rules.specs.Examples.{ledger}
 use Rattle.rules.specs.Availability.{PaidPeriods, Penalties}
-use Rattle.rules.proofs.Opened.{opened}
+use Rattle.rules.proofs.Definitions.{opened}
 
 pub paid-periods : PaidPeriods
 unfolding opened ledger

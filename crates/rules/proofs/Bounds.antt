@@ -14,7 +14,8 @@ use Rattle.energy.proofs.Integers.{distrib, abs-le, abs-parts, add-parts, diff-
 use Rattle.energy.proofs.Rounding.{nearest-error, lesser-nearest}
 use Rattle.rules.specs.Ledger.{Ledger, contractOf}
 use Rattle.rules.specs.Segment.{price, Segment, segments}
-use Rattle.rules.specs.Statement.{expectedOf, deliveredOf, lineOf, lines, statementOf, paidPeriods, periodExact, periodPence, availableOf, windowsPaid, exactOf, rateOf, exactEnergy, paidCount, exactAmount, allowance, Differ}
+use Rattle.rules.specs.Statement.{expectedOf, deliveredOf, lineOf, lines, statementOf, paidPeriods, periodExact, periodPence, availableOf}
+use Rattle.rules.specs.Statement.{windowsPaid, exactOf, rateOf, exactEnergy, paidCount, exactAmount, allowance, Differ}
 use Rattle.rules.specs.Bounds.{WithinHalves·theorem}
 use Rattle.commands.specs.declared.entries.Window.{Window}
 use Rattle.rules.specs.declared.statement.Line.{Line}

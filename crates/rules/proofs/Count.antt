@@ -9,7 +9,7 @@ use native.Mathlib.Decide.{decLe, decLt}
 use lib.Dec.{ltb}
 use lib.ListN.{length}
 use borrow.Author.Tests.{ltb-true, ltb-false, lt-ltb, le-ltb}
-use Rattle.rules.specs.Ledger.{expiry, rise, endOf}
+use Rattle.rules.specs.Ledger.{expiry, rampStart, endOf}
 use Rattle.rules.specs.Segment.{segmentsOf}
 use Rattle.commands.specs.declared.contract.Contract.{Contract}
 use Rattle.commands.specs.declared.entries.Instruction.{Instruction}
@@ -113,8 +113,8 @@ module _ (k : Contract) (n : ℕ) (i : Instruction) (t : Timed k i) where
       go false e rest = sym (left-none (expiry k i) (i .cease .0) (endOf k i) (t .steady) o′ m (ltb-false m (endOf k i) e))
 
   -- the number of segments
-  pub count-segments : 0 < expiry k i - rise k i
-      → length (segmentsOf k n i) ≡ touched (rise k i) (expiry k i) + touched (expiry k i) (i .cease .0) + touched (i .cease .0) (endOf k i)
+  pub count-segments : 0 < expiry k i - rampStart k i
+      → length (segmentsOf k n i) ≡ touched (rampStart k i) (expiry k i) + touched (expiry k i) (i .cease .0) + touched (i .cease .0) (endOf k i)
   count-segments h =
-      ap length (segments-cuts k n i t) ∙ count-go (endOf k i - rise k i) (rise k i) (omega arith)
-      ∙ up-left (expiry k i) (i .cease .0) (endOf k i) (t .steady) o′ (rise k i) (omega arith)
+      ap length (segments-cuts k n i t) ∙ count-go (endOf k i - rampStart k i) (rampStart k i) (omega arith)
+      ∙ up-left (expiry k i) (i .cease .0) (endOf k i) (t .steady) o′ (rampStart k i) (omega arith)

@@ -12,7 +12,7 @@ use lib.Dec.{T, ltb, eqb, eqb→eq}
 use borrow.Author.Tests.{ltb-true, ltb-false, eq-eqb, ne-eqb}
 use Rattle.energy.specs.Lists.{filter, between}
 use Rattle.energy.proofs.Sums.{between-split, between-cons}
-use Rattle.rules.specs.Ledger.{expiry, rise, endOf}
+use Rattle.rules.specs.Ledger.{expiry, rampStart, endOf}
 use Rattle.rules.specs.Cuts.{stageAt, stageEnd, cutOf}
 use Rattle.rules.specs.Segment.{periodOf, stageOf, sameStage, alike, heads, active, Segment, segmentsOf}
 use Rattle.commands.specs.declared.contract.Contract.{Contract}
@@ -203,11 +203,11 @@ alike-rank k i m n =
     go (no d) = let h : n ≤ m = omega (arith, d) in inr (omega arith, ix-mono (expiry k i) (i .cease .0) n m h)
 
 -- the heads of an instruction's segments are the first minutes of each rank
-pub heads-rank : (k : Contract) (i : Instruction) → heads k i ≡ filter (headTest (rankOf k i) (rise k i)) (active k i)
+pub heads-rank : (k : Contract) (i : Instruction) → heads k i ≡ filter (headTest (rankOf k i) (rampStart k i)) (active k i)
 unfolding heads headTest
 heads-rank k i =
-    filter-ext (λ m. eqb m (rise k i) || not (alike k i (m - 1) m)) (headTest (rankOf k i) (rise k i))
-    (λ m. ap (λ b. eqb m (rise k i) || not b) (alike-rank k i (m - 1) m)) (active k i)
+    filter-ext (λ m. eqb m (rampStart k i) || not (alike k i (m - 1) m)) (headTest (rankOf k i) (rampStart k i))
+    (λ m. ap (λ b. eqb m (rampStart k i) || not b) (alike-rank k i (m - 1) m)) (active k i)
 
 -- ---- the segments of an instruction are its cuts
 -- the end of the segment that begins at m
@@ -224,7 +224,7 @@ cutsFrom k n i (suc u) m = cond (ltb m (endOf k i)) (segmentAt k n i m ∷ cutsF
 
 -- what the book ensures of an instruction's times
 pub record Timed (k : Contract) (i : Instruction) : Type 0 where
-  pub starts : rise k i ≤ expiry k i
+  pub starts : rampStart k i ≤ expiry k i
   pub steady : expiry k i ≤ i .cease .0
 
 module _ (k : Contract) (n : ℕ) (i : Instruction) (t : Timed k i) where
@@ -235,40 +235,40 @@ module _ (k : Contract) (n : ℕ) (i : Instruction) (t : Timed k i) where
   r = rankOf k i
 
   abbrev Hd : ℕ → Type 0
-  Hd = Head r (cut k i) (rise k i) (endOf k i) R
+  Hd = Head r (cut k i) (rampStart k i) (endOf k i) R
 
   abbrev seg : ℕ → Segment
   seg m = record { number = n; instruction = i; head = m; minutes = filter (alike k i m) (active k i) }
 
-  seg-at : (m : ℕ) → rise k i ≤ m → m < endOf k i → Hd m → seg m ≡ segmentAt k n i m
+  seg-at : (m : ℕ) → rampStart k i ≤ m → m < endOf k i → Hd m → seg m ≡ segmentAt k n i m
   unfolding active
   seg-at m h l q = ap (λ (z : List ℕ). record { number = n; instruction = i; head = m; minutes = z })
-      (filter-ext (alike k i m) (λ x. eqb (r m) (r x)) (λ x. alike-rank k i m x) (between (rise k i) (endOf k i))
-      ∙ run-between r (cut k i) (rise k i) (endOf k i) R m h l q)
+      (filter-ext (alike k i m) (λ x. eqb (r m) (r x)) (λ x. alike-rank k i m x) (between (rampStart k i) (endOf k i))
+      ∙ run-between r (cut k i) (rampStart k i) (endOf k i) R m h l q)
 
   abbrev test : ℕ → Bool
-  test = headTest r (rise k i)
+  test = headTest r (rampStart k i)
 
-  cuts-go : (u m : ℕ) → endOf k i ≤ m + u → rise k i ≤ m → (m < endOf k i → Hd m) → map seg (filter test (between m (endOf k i))) ≡ cutsFrom k n i u m
+  cuts-go : (u m : ℕ) → endOf k i ≤ m + u → rampStart k i ≤ m → (m < endOf k i → Hd m) → map seg (filter test (between m (endOf k i))) ≡ cutsFrom k n i u m
   unfolding cutsFrom
   cuts-go zero m h l q = ap (map seg) (filter-none test m (endOf k i) (λ x a b. absurd (omega arith)))
   cuts-go (suc u) m h l q = go (ltb m (endOf k i)) refl (cuts-go u (cut k i m))
     where
       go : (b : Bool) → ltb m (endOf k i) ≡ b
-          → (endOf k i ≤ cut k i m + u → rise k i ≤ cut k i m → (cut k i m < endOf k i → Hd (cut k i m))
+          → (endOf k i ≤ cut k i m + u → rampStart k i ≤ cut k i m → (cut k i m < endOf k i → Hd (cut k i m))
           → map seg (filter test (between (cut k i m) (endOf k i))) ≡ cutsFrom k n i u (cut k i m))
           → map seg (filter test (between m (endOf k i))) ≡ cond b (segmentAt k n i m ∷ cutsFrom k n i u (cut k i m)) []
       go true e rest =
           let a : m < endOf k i = ltb-true m (endOf k i) e in
           let b : m < cut k i m = R .above m a in
-          ap (map seg) (heads-cons r (cut k i) (rise k i) (endOf k i) R m l a (q a))
-          ∙ ap₂ _∷_ (seg-at m l a (q a)) (rest (omega arith) (omega arith) (λ z. head-next r (cut k i) (rise k i) (endOf k i) R m a z))
+          ap (map seg) (heads-cons r (cut k i) (rampStart k i) (endOf k i) R m l a (q a))
+          ∙ ap₂ _∷_ (seg-at m l a (q a)) (rest (omega arith) (omega arith) (λ z. head-next r (cut k i) (rampStart k i) (endOf k i) R m a z))
       go false e rest = ap (map seg) (filter-none test m (endOf k i) (λ x a b. absurd (omega (arith, ltb-false m (endOf k i) e))))
 
   -- the segments of an instruction, one after the other
-  pub segments-cuts : segmentsOf k n i ≡ cutsFrom k n i (endOf k i - rise k i) (rise k i)
+  pub segments-cuts : segmentsOf k n i ≡ cutsFrom k n i (endOf k i - rampStart k i) (rampStart k i)
   unfolding segmentsOf active
-  segments-cuts = ap (map seg) (heads-rank k i) ∙ cuts-go (endOf k i - rise k i) (rise k i) (omega arith) (le-refl (rise k i)) (λ z. inl refl)
+  segments-cuts = ap (map seg) (heads-rank k i) ∙ cuts-go (endOf k i - rampStart k i) (rampStart k i) (omega arith) (le-refl (rampStart k i)) (λ z. inl refl)
 
 -- the stage is the same throughout a segment
 pub stage-flat : (e c f m n : ℕ) → m ≤ n → n < cutOf e c f m → stageAt e c n ≡ stageAt e c m

@@ -2,7 +2,7 @@
 use mathlib.Core.Path.{refl}
 use Rattle.rules.specs.Examples.{ledger}
 use Rattle.rules.specs.Figures.{Figures}
-use Rattle.rules.proofs.Opened.{opened}
+use Rattle.rules.proofs.Definitions.{opened}
 
 pub figures : Figures
 unfolding opened ledger

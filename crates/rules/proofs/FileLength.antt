@@ -1,5 +1,5 @@
 -- What a command that is taken costs in bytes it takes off the room that the ledger has left: for a contract, in its tables, in its minutes, and for a close.
-use mathlib.Core.Path.{_≡_, refl, sym, ap, _∙_, subst, subst⁻¹}
+use mathlib.Core.Path.{_≡_, refl, sym, ap, _∙_, subst}
 use mathlib.Core.Bool.{Bool, true, false, not, _&&_, or-false, false≢true}
 use mathlib.Core.List.{List, [], _∷_, _++_, append-nil}
 use mathlib.Core.Option.{Option, none, some}
@@ -7,10 +7,10 @@ use Prim.Native.Nat.{ℕ, zero, suc, _+_, _-_, _*_, _≤_, _<_}
 use native.Mathlib.Nat.{le-refl}
 use native.Mathlib.Omega.{arith}
 use borrow.Author.Tests.{eq-eqb, leb-false}
-use lib.Dec.{T, eqb, leb, leb→le}
+use lib.Dec.{T, leb, leb→le}
 use lib.IntN.{ℤ}
 use lib.ListN.{length, length-append}
-use Rattle.energy.specs.Lists.{concatMap, count, first, isEmpty, isSome, later, run, between, any}
+use Rattle.energy.specs.Lists.{concatMap, count, isEmpty, isSome, later, run, between, any}
 use Rattle.energy.proofs.Tests.{to-T}
 use Rattle.rules.specs.Ledger.{Ledger, ledgerOf, spanIn, cellsIn, readingIn, readingOf}
 use Rattle.rules.specs.Refusal.{refusal, joined, takenAfter, taken}
@@ -19,7 +19,8 @@ use Rattle.rules.specs.Reached.{Reached, untouched, agreed}
 use Rattle.rules.specs.FileLength.{FileLength·theorem, mostTaken}
 use Rattle.commands.specs.declared.entries.Reading.{Reading}
 use Rattle.commands.specs.declared.entries.Command.{Command}
-use Rattle.commands.specs.declared.entries.Command.the-variants.{Contract as contractᶜ, Window as windowᶜ, Instruction as instructionᶜ, Default as defaultᶜ, Reading as readingᶜ, Close as closeᶜ}
+use Rattle.commands.specs.declared.entries.Command.the-variants.{Contract as contractᶜ, Window as windowᶜ, Instruction as instructionᶜ}
+use Rattle.commands.specs.declared.entries.Command.the-variants.{Default as defaultᶜ, Reading as readingᶜ, Close as closeᶜ}
 use Rattle.rules.proofs.Reached.{step as keeps, start}
 use Rattle.rules.proofs.Operands.{write-long}
 use Rattle.rules.proofs.Span.{span-cells, cells-none}

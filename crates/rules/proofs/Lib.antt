@@ -7,11 +7,11 @@ pub mod Replay
 pub mod Cuts
 pub mod Count
 pub mod Partition
-pub mod Rising
-pub mod Steady
+pub mod LineOrder
+pub mod OneRate
 pub mod LineBound
-pub mod Busiest
-pub mod Opened
+pub mod MostLines
+pub mod Definitions
 pub mod Conditions
 pub mod Figures
 pub mod Minutes

@@ -7,7 +7,7 @@ use native.Mathlib.Omega.{arith}
 use lib.Dec.{T}
 use lib.ListN.{length, length-append, length-map}
 use Rattle.energy.specs.Lists.{sumℕ}
-use Rattle.rules.specs.Ledger.{Ledger, ledgerOf, contractOf, spanIn, expiry, rise, endOf}
+use Rattle.rules.specs.Ledger.{Ledger, ledgerOf, contractOf, spanIn, expiry, rampStart, endOf}
 use Rattle.rules.specs.Refusal.{taken}
 use Rattle.rules.specs.Segment.{segmentsOf, segmentsFrom, segments}
 use Rattle.rules.specs.Statement.{lineOf, lines}
@@ -25,7 +25,7 @@ use Rattle.rules.proofs.Reached.{parts-of, terms-of, reached}
 
 -- the periods that each stage of an instruction touches, together
 abbrev pub touches : Contract → Instruction → ℕ
-touches k i = touched (rise k i) (expiry k i) + touched (expiry k i) (i .cease .0) + touched (i .cease .0) (endOf k i)
+touches k i = touched (rampStart k i) (expiry k i) + touched (expiry k i) (i .cease .0) + touched (i .cease .0) (endOf k i)
 
 -- ---- the segments of one instruction
 
@@ -36,8 +36,8 @@ module _ (k : Contract) (span : ℕ) (t : Terms k) where
   count-of : (n : ℕ) {e : ℕ} (i : Instruction) → InstructionFits k span e i → length (segmentsOf k n i) ≡ touches k i
   count-of n i f = count-segments k n i (timed f) (omega arith)
 
-  touches-most : {e : ℕ} (i : Instruction) → InstructionFits k span e i → touches k i + rise k i / 30 ≤ 3 + (endOf k i - 1) / 30
-  touches-most i f = stages-most (rise k i) (expiry k i) (i .cease .0) (endOf k i) (omega arith) (f .ceased) (omega arith)
+  touches-most : {e : ℕ} (i : Instruction) → InstructionFits k span e i → touches k i + rampStart k i / 30 ≤ 3 + (endOf k i - 1) / 30
+  touches-most i f = stages-most (rampStart k i) (expiry k i) (i .cease .0) (endOf k i) (omega arith) (f .ceased) (omega arith)
 
   -- over all instructions after minute e: p is a minute before them, 0 or the last active one
   segments-most : (is : List Instruction) (n e p : ℕ) → T (instructionsSound k span e is) → p ≤ e → p < span
@@ -46,7 +46,7 @@ module _ (k : Contract) (span : ℕ) (t : Terms k) where
   segments-most [] n e p s h l = omega arith
   segments-most (i ∷ is) n e p s h l =
       let (f, s′) = instructions-cons k span e i is s in
-      let here : length (segmentsOf k n i) + rise k i / 30 ≤ 3 + (endOf k i - 1) / 30 = rw (count-of n i f) (touches-most i f) in
+      let here : length (segmentsOf k n i) + rampStart k i / 30 ≤ 3 + (endOf k i - 1) / 30 = rw (count-of n i f) (touches-most i f) in
       let rest : length (segmentsFrom k (suc n) is) + (endOf k i - 1) / 30 ≤ 3 * length is + (span - 1) / 30 =
       segments-most is (suc n) (endOf k i + k .recovery .0) (endOf k i - 1) s′ (omega arith) (omega arith) in
       omega (arith, length-append (segmentsOf k n i) (segmentsFrom k (suc n) is))

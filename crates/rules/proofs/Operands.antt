@@ -12,7 +12,8 @@ use Rattle.energy.proofs.Tests.{T-and}
 use Rattle.rules.specs.File.{table, widthsOf, total, wordFrom, bytesOf, operands, writeOperands, widthsFor, write}
 use Rattle.rules.specs.Reread.{fit}
 use Rattle.commands.specs.declared.entries.Command.{Command}
-use Rattle.commands.specs.declared.entries.Command.the-variants.{Contract as contractᶜ, Window as windowᶜ, Instruction as instructionᶜ, Default as defaultᶜ, Reading as readingᶜ, Close as closeᶜ}
+use Rattle.commands.specs.declared.entries.Command.the-variants.{Contract as contractᶜ, Window as windowᶜ, Instruction as instructionᶜ}
+use Rattle.commands.specs.declared.entries.Command.the-variants.{Default as defaultᶜ, Reading as readingᶜ, Close as closeᶜ}
 
 length-bytes : (w n : ℕ) → length (bytesOf w n) ≡ w
 unfolding bytesOf

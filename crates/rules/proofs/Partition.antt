@@ -13,7 +13,7 @@ use lib.ListN.{getElem?}
 use borrow.Author.Tests.{eq-eqb, ne-eqb}
 use Rattle.energy.specs.Lists.{count, filter, run, between}
 use Rattle.energy.proofs.Tests.{to-T}
-use Rattle.rules.specs.Ledger.{Ledger, contractOf, rise, endOf}
+use Rattle.rules.specs.Ledger.{Ledger, contractOf, rampStart, endOf}
 use Rattle.rules.specs.Segment.{periodOf, stageOf, sameStage, alike, heads, active, Segment, segmentsOf, segmentsFrom, segments}
 use Rattle.rules.specs.Statement.{lineOf, lines}
 use Rattle.rules.specs.Lines.{belongs, Active, MinuteOf, Partition·theorem}
@@ -88,14 +88,14 @@ module _ (f : ℕ → ℕ) (mono : (x y : ℕ) → x ≤ y → f x ≤ f y) (A v
           count-no starts A (run (suc A) n) (starts-no A d) ∙ count-once n A m (le-refl A) (omega (arith, d)) (omega arith) (omega arith) e
 
 -- exactly one segment's first minute is like an active minute m
-heads-once : (k : Contract) (i : Instruction) (m : ℕ) → rise k i ≤ m → m < endOf k i → count (λ h. alike k i h m) (heads k i) ≡ 1
+heads-once : (k : Contract) (i : Instruction) (m : ℕ) → rampStart k i ≤ m → m < endOf k i → count (λ h. alike k i h m) (heads k i) ≡ 1
 unfolding active between starts
 heads-once k i m h l =
     ap (count (λ x. alike k i x m)) (heads-rank k i)
-    ∙ count-filter (λ x. alike k i x m) (headTest (rankOf k i) (rise k i)) (run (rise k i) (endOf k i - rise k i))
-    ∙ count-ext (λ x. headTest (rankOf k i) (rise k i) x && alike k i x m) (starts (rankOf k i) (rank-mono k i) (rise k i) (rankOf k i m))
-    (run (rise k i) (endOf k i - rise k i)) (λ x. ap (λ b. headTest (rankOf k i) (rise k i) x && b) (alike-rank k i x m))
-    ∙ count-starts (rankOf k i) (rank-mono k i) (rise k i) (rankOf k i m) (endOf k i - rise k i) m h (omega arith) refl
+    ∙ count-filter (λ x. alike k i x m) (headTest (rankOf k i) (rampStart k i)) (run (rampStart k i) (endOf k i - rampStart k i))
+    ∙ count-ext (λ x. headTest (rankOf k i) (rampStart k i) x && alike k i x m) (starts (rankOf k i) (rank-mono k i) (rampStart k i) (rankOf k i m))
+    (run (rampStart k i) (endOf k i - rampStart k i)) (λ x. ap (λ b. headTest (rankOf k i) (rampStart k i) x && b) (alike-rank k i x m))
+    ∙ count-starts (rankOf k i) (rank-mono k i) (rampStart k i) (rankOf k i m) (endOf k i - rampStart k i) m h (omega arith) refl
 
 -- ---- over all instructions
 
@@ -107,7 +107,7 @@ hit k n i m s = eqb (s .number) n && eqb (periodOf (s .head)) (periodOf m) && sa
 abbrev pub segmentFrom : Contract → ℕ → Instruction → ℕ → Segment
 segmentFrom k n i x = record { number = n; instruction = i; head = x; minutes = filter (alike k i x) (active k i) }
 
-hits-of : (k : Contract) (n : ℕ) (i : Instruction) (m : ℕ) → rise k i ≤ m → m < endOf k i → count (hit k n i m) (segmentsOf k n i) ≡ 1
+hits-of : (k : Contract) (n : ℕ) (i : Instruction) (m : ℕ) → rampStart k i ≤ m → m < endOf k i → count (hit k n i m) (segmentsOf k n i) ≡ 1
 unfolding segmentsOf hit
 hits-of k n i m h l =
     count-map (hit k n i m) (segmentFrom k n i) (heads k i)
@@ -130,7 +130,7 @@ hits-later k n n′ i (i′ ∷ is) m h =
     count-append (hit k n i m) (segmentsOf k n′ i′) (segmentsFrom k (suc n′) is)
     ∙ ap₂ _+_ (hits-other k n n′ i i′ m (λ e. omega arith)) (hits-later k n (suc n′) i is m (omega arith))
 
-hits-from : (k : Contract) (is : List Instruction) (n j : ℕ) (i : Instruction) (m : ℕ) → getElem? is j ≡ some i → rise k i ≤ m → m < endOf k i
+hits-from : (k : Contract) (is : List Instruction) (n j : ℕ) (i : Instruction) (m : ℕ) → getElem? is j ≡ some i → rampStart k i ≤ m → m < endOf k i
     → count (hit k (n + j) i m) (segmentsFrom k n is) ≡ 1
 unfolding segmentsFrom
 hits-from k [] n j i m e h l = absurd (Option·none-ne-some i e)
@@ -179,11 +179,13 @@ segment-from k (i ∷ is) n s h = ⊎-elim here (λ q. go (segment-from k is (su
         record { place = suc (f .place); given = f .given; same = f .same ∙ ap (λ a. segmentFrom k a (s .instruction) (s .head)) z; isHead = f .isHead }
 
 -- a head is an active minute, and the first of its rank
-pub head-active : (k : Contract) (i : Instruction) (m : ℕ) → List·Memᴰ m (heads k i) → (rise k i ≤ m) × (m < endOf k i) × T (headTest (rankOf k i) (rise k i) m)
+pub head-active : (k : Contract) (i : Instruction) (m : ℕ) → List·Memᴰ m (heads k i) → (rampStart k i ≤ m) × (m < endOf k i) × T
+    (headTest (rankOf k i) (rampStart k i) m)
 unfolding active between
 head-active k i m h =
-    let q = kept-was (headTest (rankOf k i) (rise k i)) (run (rise k i) (endOf k i - rise k i)) (subst (λ l. List·Memᴰ m l) (heads-rank k i) h) in
-    let r = in-run (endOf k i - rise k i) (rise k i) m (q .0) in
+    let q = kept-was (headTest (rankOf k i) (rampStart k i)) (run (rampStart k i) (endOf k i - rampStart k i))
+    (subst (λ l. List·Memᴰ m l) (heads-rank k i) h) in
+    let r = in-run (endOf k i - rampStart k i) (rampStart k i) m (q .0) in
     (r .0, omega (arith, r .0, r .1), q .1)
 
 nonempty : (g : Ledger) (l : Line) → List·Memᴰ l (lines g) → MinuteOf g l

@@ -12,7 +12,8 @@ use borrow.Author.Tests.{leb-false, ltb-false}
 use Rattle.energy.specs.Lists.{all, any, concatMap, first, isEmpty, later, pass}
 use Rattle.energy.proofs.Tests.{T-and, and-T, to-T, off-T, off-not, passes, passed, all-snoc}
 use Rattle.commands.specs.Input.{from-to, inRange, rampTooLong, isReading, mostMinute}
-use Rattle.rules.specs.Ledger.{Ledger, ledgerOf, contractOf, noContract, contractIn, windowIn, instructionIn, defaultIn, readingIn, readingOf, isContract, spanOf, spanIn, cellsIn, within}
+use Rattle.rules.specs.Ledger.{Ledger, ledgerOf, contractOf, noContract, contractIn, windowIn, instructionIn, defaultIn, readingIn, readingOf}
+use Rattle.rules.specs.Ledger.{isContract, spanOf, spanIn, cellsIn, within}
 use Rattle.rules.specs.Refusal.{refusal, joined, takenAfter, taken}
 use Rattle.rules.specs.Reached.{windowsSound, instructionsSound, defaultSound, agreedTests, Untouched, Agreed, Reached, Reached·theorem}
 use Rattle.rules.specs.Reached.Reached.{untouched, agreed}
@@ -22,7 +23,8 @@ use Rattle.commands.specs.declared.entries.Instruction.{Instruction}
 use Rattle.commands.specs.declared.entries.Default.{Default}
 use Rattle.commands.specs.declared.entries.Reading.{Reading}
 use Rattle.commands.specs.declared.entries.Command.{Command}
-use Rattle.commands.specs.declared.entries.Command.the-variants.{Contract as contractᶜ, Window as windowᶜ, Instruction as instructionᶜ, Default as defaultᶜ, Reading as readingᶜ, Close as closeᶜ}
+use Rattle.commands.specs.declared.entries.Command.the-variants.{Contract as contractᶜ, Window as windowᶜ, Instruction as instructionᶜ}
+use Rattle.commands.specs.declared.entries.Command.the-variants.{Default as defaultᶜ, Reading as readingᶜ, Close as closeᶜ}
 use Rattle.commands.proofs.Terms.{Terms, terms}
 use Rattle.rules.proofs.Taken.{grown, ledgerOf-snoc, Allowed, allowed}
 use Rattle.rules.proofs.Span.{span-kept, cells-kept, cells-new}

@@ -15,10 +15,12 @@ use borrow.Author.Tests.{lt-ltb, le-ltb, le-leb, lt-leb}
 use Rattle.energy.specs.Lists.{all, concatMap, isSome}
 use Rattle.energy.proofs.Tests.{T-and, and-T}
 use Rattle.commands.specs.Input.{inRange, isReading, from-to, from-toℤ, mostMinute}
-use Rattle.rules.specs.File.{table, widthsOf, total, signedOf, unsignedOf, operands, commandOf, readAs, readBody, readAt, byteOf, operandsOf, writeOperands, widthsFor, write, readOn, commandsFrom, commandsIn}
-use Rattle.rules.specs.Reread.{fit, signFits, sayable, Reread}
+use Rattle.rules.specs.File.{table, widthsOf, total, signedOf, unsignedOf, operands, commandOf, readAs, readBody, readAt, byteOf, operandsOf}
+use Rattle.rules.specs.File.{writeOperands, widthsFor, write, readOn, commandsFrom, commandsIn}
+use Rattle.rules.specs.Reread.{fit, signFits, fitsBytes, Reread}
 use Rattle.commands.specs.declared.entries.Command.{Command}
-use Rattle.commands.specs.declared.entries.Command.the-variants.{Contract as contractᶜ, Window as windowᶜ, Instruction as instructionᶜ, Default as defaultᶜ, Reading as readingᶜ, Close as closeᶜ}
+use Rattle.commands.specs.declared.entries.Command.the-variants.{Contract as contractᶜ, Window as windowᶜ, Instruction as instructionᶜ}
+use Rattle.commands.specs.declared.entries.Command.the-variants.{Default as defaultᶜ, Reading as readingᶜ, Close as closeᶜ}
 use Rattle.rules.specs.declared.file.Read.{Read}
 use Rattle.rules.specs.declared.file.Read.the-variants.{Got, End, Refused}
 use Rattle.rules.proofs.Operands.{operands-back, length-operands, write-long}
@@ -58,8 +60,8 @@ reading-says (negsuc n) t =
     let h : n ≤ 499999 = leb→le n 499999 (T-and (leb n 499999) true t .0) in
     (and-T (leb n 2147483647) true (le→leb n 2147483647 (omega arith)) tt, omega arith)
 
-ranged : (c : Command) → T (inRange c) → T (sayable c)
-unfolding sayable fit widthsOf table
+ranged : (c : Command) → T (inRange c) → T (fitsBytes c)
+unfolding fitsBytes fit widthsOf table
 ranged (contractᶜ k) t =
     let r = ranges k t in
     rw (
@@ -121,9 +123,9 @@ read-layout pre rest b ws v e h =
     rw (lt-leb (length s) (length pre) (omega arith), byte, e, le-ltb (length s - length pre) (1 + total ws) (omega arith), ops)
     (ap (λ x. readAs (commandOf x v) (length pre + (1 + total ws))) byte)
 
-module _ (c : Command) (t : T (sayable c)) where
+module _ (c : Command) (t : T (fitsBytes c)) where
   says : T (signFits c) × T (fit (widthsFor c) (operandsOf c))
-  unfolding sayable
+  unfolding fitsBytes
   says = T-and (signFits c) (fit (widthsFor c) (operandsOf c)) t
 
   read-one : (before after : List ℕ) → readAt (before ++ write c ++ after) (length before) ≡ Got c (length before + length (write c))
@@ -143,14 +145,14 @@ unfolding commandsFrom
 none-left zero s at h = refl
 none-left (suc fuel) s at h = rw (at-end s at h)
 
-read-all : (fuel : ℕ) (before : List ℕ) (cs : List Command) → T (all sayable cs) → length (concatMap write cs) ≤ fuel
+read-all : (fuel : ℕ) (before : List ℕ) (cs : List Command) → T (all fitsBytes cs) → length (concatMap write cs) ≤ fuel
     → commandsFrom fuel (before ++ concatMap write cs) (length before) ≡ cs
 unfolding all concatMap commandsFrom
 read-all fuel before [] t h = none-left fuel (before ++ []) (length before) (rw (append-nil before) (le-refl (length before)))
 read-all zero before (c ∷ cs) t h =
     absurd (omega (arith, length-append (write c) (concatMap write cs), write-long c))
 read-all (suc fuel) before (c ∷ cs) t h =
-    let q = T-and (sayable c) (all sayable cs) t in
+    let q = T-and (fitsBytes c) (all fitsBytes cs) t in
     let rest : List ℕ = concatMap write cs in
     let n : length rest ≤ fuel = omega (arith, length-append (write c) rest, write-long c) in
     rw (sym (append-assoc before (write c) rest), read-one c (q .0) before rest, sym (length-append before (write c)))
@@ -196,7 +198,8 @@ same-fuel (suc f) (suc h) s at p q = go (readAt s at) (forward s at) (λ next a 
 known : (b : ℕ) (v : List ℕ) → isSome (commandOf b v) ≡ isSome (widthsOf b table)
 unfolding isSome commandOf widthsOf table
 known b v =
-    both (eqb 0x43 b) _ _ _ _ (both (eqb 0x57 b) _ _ _ _ (both (eqb 0x49 b) _ _ _ _ (both (eqb 0x44 b) _ _ _ _ (both (eqb 0x4D b) _ _ _ _ (both (eqb 0x5A b) _ _ none none refl)))))
+    both (eqb 0x43 b) _ _ _ _ (both (eqb 0x57 b) _ _ _ _ (both (eqb 0x49 b) _ _ _ _ (both (eqb 0x44 b) _ _ _ _
+    (both (eqb 0x4D b) _ _ _ _ (both (eqb 0x5A b) _ _ none none refl)))))
   where
     -- one byte more
     both : (t : Bool) (c : Command) (ws : List ℕ) (o : Option Command) (p : Option (List ℕ)) → isSome o ≡ isSome p

@@ -18,7 +18,7 @@ use Rattle.rules.specs.Refusal.{conditions, refusal, taken}
 use Rattle.rules.specs.Reached.{Untouched, Agreed, Reached}
 use Rattle.rules.specs.Reached.Reached.{untouched, agreed}
 use Rattle.rules.specs.File.{readingAt, written, fileOf, commandsIn}
-use Rattle.rules.specs.Reread.{sayable}
+use Rattle.rules.specs.Reread.{fitsBytes}
 use Rattle.rules.specs.Rewritten.{Rewritten·theorem}
 use Rattle.commands.specs.declared.contract.Contract.{Contract}
 use Rattle.commands.specs.declared.entries.Command.{Command}
@@ -28,7 +28,8 @@ use Rattle.rules.proofs.Taken.{later-none, grown, allowed}
 use Rattle.rules.proofs.Reached.{Parts, parts-of, terms-of}
 use Rattle.rules.proofs.Span.{span-cells, cells-most, span-same, cells-same}
 use Rattle.rules.proofs.Reread.{reread}
-use Rattle.rules.proofs.Replay.{Accepted, all-taken, ledger-grown, Replays, replay-none, replay-cons, replay-append, held, unread, agreedOn, contract-replay, windows-replay, instructions-replay, defaults-replay}
+use Rattle.rules.proofs.Replay.{Accepted, all-taken, ledger-grown, Replays, replay-none, replay-cons, replay-append, held, unread, agreedOn}
+use Rattle.rules.proofs.Replay.{contract-replay, windows-replay, instructions-replay, defaults-replay}
 
 -- ---- readings before a minute
 
@@ -187,11 +188,11 @@ rewritten size g r =
 -- ---- in bytes
 
 -- commands that are all taken are in range, so that bytes can say them
-pub accepted-sayable : (size : ℕ) (g : Ledger) (cs : List Command) → Accepted size g cs → T (all sayable cs)
+pub accepted-sayable : (size : ℕ) (g : Ledger) (cs : List Command) → Accepted size g cs → T (all fitsBytes cs)
 unfolding Accepted all
 accepted-sayable size g [] h = tt
 accepted-sayable size g (c ∷ cs) h =
-    and-T (sayable c) (all sayable cs) (reread .ranged c (allowed size g c (h .0) .input .operands)) (accepted-sayable size (grown g c) cs (h .1))
+    and-T (fitsBytes c) (all fitsBytes cs) (reread .ranged c (allowed size g c (h .0) .input .operands)) (accepted-sayable size (grown g c) cs (h .1))
 
 -- the file that a ledger is written as has its commands
 pub file-commands : (size : ℕ) (g : Ledger) → Reached size g → commandsIn (fileOf g) ≡ written g

@@ -1,7 +1,7 @@
 -- The span of a ledger, and the cells that meter memory must have for it.
 use mathlib.Core.Path.{_≡_, ap, _∙_}
-use mathlib.Core.List.{List, [], _∷_, _++_, append-nil}
-use Prim.Native.Nat.{ℕ, _≤_}
+use mathlib.Core.List.{[], _∷_, _++_, append-nil}
+use Prim.Native.Nat.{_≤_}
 use native.Mathlib.Omega.{arith}
 use Rattle.commands.specs.Input.{mostMinute}
 use Rattle.energy.specs.Lists.{first}

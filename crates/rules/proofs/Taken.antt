@@ -9,7 +9,8 @@ use Rattle.energy.specs.Lists.{any, concatMap, isEmpty, later}
 use Rattle.energy.proofs.Tests.{off-not}
 use Rattle.commands.specs.Input.{Condition, lowest, inRange, rampTooLong, badWindow, inputConditions}
 use Rattle.rules.specs.Ledger.{Ledger, ledgerOf, contractIn, windowIn, instructionIn, defaultIn, isClose, isContract, readingIn, readingOf}
-use Rattle.rules.specs.Refusal.{bookConditions, kindConditions, conditions, refusal, cellsFor, beyondSpan, rejectedCommitted, windowOverlaps, ceaseEarly, issueEarly, outsideWindows, hasReading, tableFull}
+use Rattle.rules.specs.Refusal.{bookConditions, kindConditions, conditions, refusal, cellsFor, beyondSpan, rejectedCommitted, windowOverlaps}
+use Rattle.rules.specs.Refusal.{ceaseEarly, issueEarly, outsideWindows, hasReading, tableFull}
 use Rattle.commands.specs.declared.entries.Command.{Command}
 
 -- ---- the ledger of one command more

@@ -1,12 +1,12 @@
--- "Energy and money" by example: a statement's totals, the exact sums, and what they may differ by.
+-- Proved of the rules: "Energy and money" by example: a statement's totals, the exact sums, and what they may differ by.
 use mathlib.Core.Path.{_≡_}
 use mathlib.Core.List.{List, [], _∷_, _++_, map}
-use Prim.Native.Nat.{ℕ}
-use lib.IntN.{ℤ, pos}
+use lib.IntN.{pos}
 use lib.ListN.{set, replicate}
 use Rattle.rules.specs.Ledger.{Ledger}
 use Rattle.rules.specs.Statement.{lines, windowsPaid, statementOf, exactEnergy, exactAmount, allowance}
-use Rattle.rules.specs.Examples.{agree, guide, service, contracted, availability, flexible, accepted, rejected, offer, call, fault, readings, periods, generated, month, ledger, pays}
+use Rattle.rules.specs.Examples.{agree, guide, service, contracted, availability, flexible, accepted, rejected, offer, call, defaulted, readings}
+use Rattle.rules.specs.Examples.{periods, generated, month, ledger, pays}
 use Rattle.commands.specs.declared.entries.Command.{Command}
 use Rattle.commands.specs.declared.entries.Command.the-variants.{Close as closeᶜ}
 use Rattle.rules.specs.declared.statement.Line.{Line}
@@ -38,4 +38,4 @@ pub record Amounts : Type 0 where
   -- 31.5 pence: half a penny for each line and the period, and half a kWh for each line at 30 pence
   pub allowed : allowance (ledger brief) (lines (ledger brief)) ≡ 37800000
   -- a period that is not paid allows for nothing: half a penny for one of two
-  pub unpaidNotAllowed : allowance (ledger (agree guide ∷ offer 0 60 accepted ∷ fault 0 4 1 ∷ [])) [] ≡ 600000
+  pub unpaidNotAllowed : allowance (ledger (agree guide ∷ offer 0 60 accepted ∷ defaulted 0 4 1 ∷ [])) [] ≡ 600000

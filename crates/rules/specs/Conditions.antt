@@ -1,5 +1,5 @@
--- "When a command or call is turned down": the numbers of the conditions that each call meets, in their order, and that the lowest number that applies is
--- given, whenever one applies.
+-- Proved of the rules: "When a command or call is turned down": the numbers of the conditions that each call meets, in their order, and that the
+-- lowest number that applies is given, whenever one applies.
 use mathlib.Core.Path.{_≡_}
 use mathlib.Core.Bool.{Bool, true}
 use mathlib.Core.List.{List, [], _∷_, _++_, map, List·Memᴰ}

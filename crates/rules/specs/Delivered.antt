@@ -1,4 +1,4 @@
--- "Energy and money" by example: what a segment delivers over its base load.
+-- Proved of the rules: "Energy and money" by example: what a segment delivers over its base load.
 use mathlib.Core.Path.{_≡_}
 use mathlib.Core.List.{List, [], _∷_, _++_}
 use Prim.Native.Nat.{ℕ}

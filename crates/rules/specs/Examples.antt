@@ -1,5 +1,5 @@
--- What the examples are made of: commands by their operands, the guide's Appendices 2 and 3, a unit file with one command of each kind, and what is
--- asked of a ledger.
+-- Inner, and for the examples: what the examples are made of: commands by their operands, the guide's Appendices 2 and 3, a unit file with one
+-- command of each kind, and what is asked of a ledger.
 use mathlib.Core.List.{List, [], _∷_, _++_, map}
 use Prim.Native.Nat.{ℕ, zero, suc, _+_, _*_}
 use lib.IntN.{ℤ, pos, negℤ}
@@ -9,7 +9,8 @@ use Rattle.rules.specs.Refusal.{taken}
 use Rattle.rules.specs.Statement.{lines, windowsPaid}
 use Rattle.rules.specs.File.{contractFrom}
 use Rattle.commands.specs.declared.entries.Command.{Command}
-use Rattle.commands.specs.declared.entries.Command.the-variants.{Contract as contractᶜ, Window as windowᶜ, Instruction as instructionᶜ, Default as defaultᶜ, Reading as readingᶜ, Close as closeᶜ}
+use Rattle.commands.specs.declared.entries.Command.the-variants.{Contract as contractᶜ, Window as windowᶜ, Instruction as instructionᶜ}
+use Rattle.commands.specs.declared.entries.Command.the-variants.{Default as defaultᶜ, Reading as readingᶜ, Close as closeᶜ}
 use Rattle.rules.specs.declared.statement.Stage.{Stage}
 use Rattle.rules.specs.declared.statement.Rate.{Rate}
 use Rattle.rules.specs.declared.statement.Line.{Line}
@@ -93,8 +94,8 @@ abbrev pub call : ℕ → ℕ → Command
 call a b = instructionᶜ (record { issue = record { 0 = a }; cease = record { 0 = b } })
 
 -- a default: minute, kind, reach
-abbrev pub fault : ℕ → ℕ → ℕ → Command
-fault m k r = defaultᶜ (record { minute = record { 0 = m }; kind = k; reach = r })
+abbrev pub defaulted : ℕ → ℕ → ℕ → Command
+defaulted m k r = defaultᶜ (record { minute = record { 0 = m }; kind = k; reach = r })
 
 -- a reading: minute, kW
 abbrev pub metered : ℕ → ℤ → Command
@@ -113,7 +114,7 @@ periods (suc n) m = offer m (m + 30) accepted ∷ periods n (m + 30)
 -- a default of kind 1 in each of n periods, from minute m
 abbrev pub faults : ℕ → ℕ → List Command
 faults zero m = []
-faults (suc n) m = fault m 1 1 ∷ faults n (m + 30)
+faults (suc n) m = defaulted m 1 1 ∷ faults n (m + 30)
 
 -- n instructions of Appendix 2's contract, each issued at the end of the one before, from minute m
 abbrev pub calls : ℕ → ℕ → List Command
@@ -167,7 +168,7 @@ ledger cs = ledgerOf (taken 1440 cs)
 
 -- a command of each kind: Appendix 2's contract, window and instruction, a default, a reading of −1 kW, a close
 abbrev pub sample : List Command
-sample = agree guide ∷ offer 0 180 accepted ∷ call 5 85 ∷ fault 31 4 1 ∷ metered 7 (minus 1) ∷ closeᶜ ∷ []
+sample = agree guide ∷ offer 0 180 accepted ∷ call 5 85 ∷ defaulted 31 4 1 ∷ metered 7 (minus 1) ∷ closeᶜ ∷ []
 
 -- their bytes
 abbrev pub sampleBytes : List ℕ

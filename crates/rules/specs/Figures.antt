@@ -4,7 +4,7 @@ use mathlib.Core.Bool.{true, false}
 use mathlib.Core.List.{List, [], _∷_, _++_, map}
 use mathlib.Core.Option.{none, some}
 use Prim.Native.Nat.{ℕ}
-use lib.IntN.{ℤ, pos}
+use lib.IntN.{pos}
 use lib.ListN.{length, set, replicate}
 use Rattle.energy.specs.Energy.{kwh, payment}
 use Rattle.energy.specs.Lists.{first}
@@ -14,7 +14,8 @@ use Rattle.rules.specs.Refusal.{refusal, taken}
 use Rattle.rules.specs.Segment.{live}
 use Rattle.rules.specs.Statement.{lines, statementOf, windowsPaid, penalty, periodPence, nothing, settleRefusal}
 use Rattle.rules.specs.File.{table, whole, bytesOf, wordFrom}
-use Rattle.rules.specs.Examples.{minus, agree, guide, service, recovery, rampup, rampdown, flexible, accepted, rejected, offer, call, fault, periods, faults, generated, opening, month, appendix2, appendix3, ledger, row, pays}
+use Rattle.rules.specs.Examples.{minus, agree, guide, service, recovery, rampup, rampdown, flexible, accepted, rejected, offer, call, defaulted}
+use Rattle.rules.specs.Examples.{periods, faults, generated, opening, month, appendix2, appendix3, ledger, row, pays}
 use Rattle.commands.specs.declared.entries.Command.{Command}
 use Rattle.rules.specs.declared.statement.Stage.the-variants.{Up, Steady, Down}
 use Rattle.rules.specs.declared.statement.Rate.the-variants.{Utilisation, Optional}
@@ -66,8 +67,8 @@ pub record Figures : Type 0 where
   -- F7: with none, neither is
   pub F7-live : map (live (ledger (afterwards 0))) (ledger (afterwards 0) .windows) ≡ true ∷ true ∷ []
   -- F8: P 1, and P 30 for 31 faulted windows, of 32
-  pub F8-one : penalty (ledger (opening ++ (fault 0 1 1 ∷ []))) ≡ 1
-  pub F8-pence : periodPence (ledger (opening ++ (fault 0 1 1 ∷ []))) ≡ pos 5346
+  pub F8-one : penalty (ledger (opening ++ (defaulted 0 1 1 ∷ []))) ≡ 1
+  pub F8-pence : periodPence (ledger (opening ++ (defaulted 0 1 1 ∷ []))) ≡ pos 5346
   pub F8-many : windowsPaid (ledger (agree guide ∷ (periods 32 0 ++ faults 31 0))) ≡ replicate 31 (pays 0 0) ++ (pays 1 3780 ∷ [])
   -- F9: high byte first
   pub F9-write : bytesOf 4 15000 ≡ 0x00 ∷ 0x00 ∷ 0x3A ∷ 0x98 ∷ []

@@ -1,4 +1,5 @@
--- How long a file can be whose commands are all taken: the contract, full tables, a reading in each minute that meter memory holds, and the close.
+-- Proved of the rules: how long a file can be whose commands are all taken: the contract, full tables, a reading in each minute that meter memory
+-- holds, and the close.
 use mathlib.Core.List.{List}
 use Prim.Native.Nat.{ℕ, _+_, _*_, _^_, _≤_, _<_}
 use lib.ListN.{length}

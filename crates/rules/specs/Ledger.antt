@@ -125,8 +125,8 @@ abbrev pub expiry : Contract → Instruction → ℕ
 expiry k i = i .issue .0 + k .response .0
 
 -- e − U: the ramp up starts
-abbrev pub rise : Contract → Instruction → ℕ
-rise k i = expiry k i - upMinutes k
+abbrev pub rampStart : Contract → Instruction → ℕ
+rampStart k i = expiry k i - upMinutes k
 
 -- f: the end
 abbrev pub endOf : Contract → Instruction → ℕ

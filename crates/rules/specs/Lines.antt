@@ -7,7 +7,7 @@ use Prim.Native.Nat.{ℕ, suc, _+_, _-_, _*_, _≤_, _<_}
 use lib.Dec.{T, eqb}
 use lib.ListN.{length, getElem?}
 use Rattle.energy.specs.Lists.{count}
-use Rattle.rules.specs.Ledger.{Ledger, ledgerOf, contractOf, rise, endOf}
+use Rattle.rules.specs.Ledger.{Ledger, ledgerOf, contractOf, rampStart, endOf}
 use Rattle.rules.specs.Refusal.{taken}
 use Rattle.rules.specs.Segment.{periodOf, stageOf, sameStage, rateAt, Segment, segments}
 use Rattle.rules.specs.Statement.{lines}
@@ -25,7 +25,7 @@ belongs k n i m l = eqb (l .instruction) n && eqb (l .period) (periodOf m) && sa
 -- minute m is an active one of the instruction at place n (from 0), whose number is n + 1
 pub record Active (g : Ledger) (n : ℕ) (i : Instruction) (m : ℕ) : Type 0 where
   pub given : getElem? (g .instructions) n ≡ some i
-  pub begun : rise (contractOf g) i ≤ m
+  pub begun : rampStart (contractOf g) i ≤ m
   pub before-end : m < endOf (contractOf g) i
 
 -- an active minute that belongs to a line
@@ -100,7 +100,7 @@ abbrev pub LineBound·theorem : Type 0
 LineBound·theorem = (size : ℕ) (cs : List Command) → LineBound (ledgerOf (taken size cs))
 
 -- commands, and meter memory of some size, that give a month of so many days so many lines
-pub record Busy (days most : ℕ) : Type 0 where
+pub record MonthWithLines (days most : ℕ) : Type 0 where
   pub size : ℕ
   pub commands : List Command
   pub month : contractOf (ledgerOf (taken size commands)) .days ≡ days
@@ -108,4 +108,4 @@ pub record Busy (days most : ℕ) : Type 0 where
 
 -- both bounds are met
 abbrev pub LinesMet·theorem : Type 0
-LinesMet·theorem = Busy 11 mostListed × Busy 31 mostLines
+LinesMet·theorem = MonthWithLines 11 mostListed × MonthWithLines 31 mostLines

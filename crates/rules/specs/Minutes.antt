@@ -1,6 +1,6 @@
--- "From instruction to segment" by example: which minutes an instruction needs, and which lines its active minutes give.
+-- Proved of the rules: "From instruction to segment" by example: which minutes an instruction needs, and which lines its active minutes give.
 use mathlib.Core.Path.{_≡_}
-use mathlib.Core.List.{List, [], _∷_, map}
+use mathlib.Core.List.{[], _∷_, map}
 use lib.IntN.{pos}
 use lib.ListN.{set}
 use Rattle.rules.specs.Segment.{needed}

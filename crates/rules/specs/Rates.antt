@@ -1,10 +1,11 @@
--- "From instruction to segment" by example: which windows are excluded, and at which rate each line is paid.
+-- Proved of the rules: "From instruction to segment" by example: which windows are excluded, and at which rate each line is paid.
 use mathlib.Core.Path.{_≡_}
 use mathlib.Core.List.{List, [], _∷_}
 use Prim.Native.Nat.{ℕ, _+_}
 use lib.ListN.{set}
 use Rattle.rules.specs.Statement.{windowsPaid}
-use Rattle.rules.specs.Examples.{agree, guide, kind, service, rampup, rampdown, response, recovery, reducer, flexible, accepted, rejected, offer, call, twoDays, pays, paying, rated}
+use Rattle.rules.specs.Examples.{agree, guide, kind, service, rampup, rampdown, response, recovery, reducer, flexible, accepted, rejected}
+use Rattle.rules.specs.Examples.{offer, call, twoDays, pays, paying, rated}
 use Rattle.commands.specs.declared.entries.Command.{Command}
 use Rattle.rules.specs.declared.statement.Stage.the-variants.{Up, Steady, Down}
 use Rattle.rules.specs.declared.statement.Rate.the-variants.{Utilisation, Optional}

@@ -1,4 +1,5 @@
--- The ledgers that commands leave: what the contract, windows, instructions and defaults taken always are, as a test that 11 asks of a book too.
+-- Inner, and proved equal to the rules: the ledgers that commands leave: what the contract, windows, instructions and defaults taken always are, as a
+-- test that 11 asks of a book too.
 use mathlib.Core.Path.{_≡_}
 use mathlib.Core.Bool.{Bool, true, false, not, _&&_}
 use mathlib.Core.List.{List, [], _∷_}

@@ -1,4 +1,4 @@
--- "The unit file", both ways: what is written reads back as itself.
+-- Proved of the rules: "The unit file", both ways: what is written reads back as itself.
 use mathlib.Core.Path.{_≡_}
 use mathlib.Core.Bool.{Bool, true, false, _&&_}
 use mathlib.Core.List.{List, [], _∷_, _++_}
@@ -30,8 +30,8 @@ signFits c =
     c
 
 -- a command that the operand bytes can say, in range or not
-unfoldable pub sayable : Command → Bool
-sayable c = signFits c && fit (widthsFor c) (operandsOf c)
+unfoldable pub fitsBytes : Command → Bool
+fitsBytes c = signFits c && fit (widthsFor c) (operandsOf c)
 
 pub record Reread : Type 0 where
   -- the table has the bytes that are commands, and no others
@@ -40,11 +40,11 @@ pub record Reread : Type 0 where
   pub size : (c : Command) → length (write c) ≡ 1 + total (widthsFor c)
   pub command :
       (before after : List ℕ) (c : Command)
-      → T (sayable c)
+      → T (fitsBytes c)
       → readAt (before ++ write c ++ after) (length before) ≡ Got c (length before + length (write c))
   -- commands written one after the other are the commands of their file
-  pub file : (cs : List Command) → T (all sayable cs) → commandsIn (concatMap write cs) ≡ cs
+  pub file : (cs : List Command) → T (all fitsBytes cs) → commandsIn (concatMap write cs) ≡ cs
   -- every command in range is one
-  pub ranged : (c : Command) → T (inRange c) → T (sayable c)
+  pub ranged : (c : Command) → T (inRange c) → T (fitsBytes c)
   -- the commands of a file end at an end, 1 or 2: no more are found by reading on
   pub enough : (s : List ℕ) (more : ℕ) → commandsFrom (length s + more) s 0 ≡ commandsIn s

@@ -1,4 +1,4 @@
--- "The book": what the rules leave is left again by the commands that it is written as.
+-- Proved of the rules: "The book": what the rules leave is left again by the commands that it is written as.
 use mathlib.Core.Path.{_≡_}
 use Prim.Native.Nat.{ℕ}
 use Rattle.rules.specs.Ledger.{Ledger, ledgerOf}

@@ -4,7 +4,7 @@ use mathlib.Core.List.{List, [], _∷_, _++_, map}
 use Prim.Native.Nat.{ℕ, suc, _+_, _-_, _/_}
 use lib.Dec.{eqb, leb, ltb}
 use Rattle.energy.specs.Lists.{any, all, filter, concatMap, between, isSome}
-use Rattle.rules.specs.Ledger.{Ledger, contractOf, expiry, rise, endOf, within}
+use Rattle.rules.specs.Ledger.{Ledger, contractOf, expiry, rampStart, endOf, within}
 use Rattle.commands.specs.declared.contract.Contract.{Contract}
 use Rattle.commands.specs.declared.entries.Window.{Window}
 use Rattle.commands.specs.declared.entries.Instruction.{Instruction}
@@ -21,7 +21,7 @@ periodOf m = m / 30 + 1
 
 -- the active minutes of an instruction: e − U to f − 1
 unfoldable pub active : Contract → Instruction → List ℕ
-active k i = between (rise k i) (endOf k i)
+active k i = between (rampStart k i) (endOf k i)
 
 -- the base minutes of an instruction: issue − 3 to issue
 unfoldable pub baseMinutes : Instruction → List ℕ
@@ -90,7 +90,7 @@ alike k i m n = eqb (periodOf m) (periodOf n) && sameStage (stageOf k i m) (stag
 
 -- the first minute of each segment: the first active one, and each that is not like the minute before it
 unfoldable pub heads : Contract → Instruction → List ℕ
-heads k i = filter (λ m. eqb m (rise k i) || not (alike k i (m - 1) m)) (active k i)
+heads k i = filter (λ m. eqb m (rampStart k i) || not (alike k i (m - 1) m)) (active k i)
 
 -- a segment: its instruction, with its number from 1, its first minute, and all its minutes
 pub record Segment : Type 0 where

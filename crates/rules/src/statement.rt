@@ -2,6 +2,11 @@
 use energy::units::Kwh;
 use energy::units::Pence;
 
+// The most lines that a month of 31 days gives, and those that 11 days give, for which the lister has records: `mostLines` and `mostListed` of the rules.
+pub const LINES_MOST: usize = 1679;
+
+pub const LISTED_MOST: usize = 719;
+
 // The stage of an active minute: ramp up, steady, ramp down.
 pub enum Stage {
     Up,

@@ -1,7 +1,7 @@
 -- Every example of what is taken and what is turned down, by computation.
 use mathlib.Core.Path.{refl}
 use Rattle.rules_refused.specs.Refused.{Refusals}
-use Rattle.rules.proofs.Opened.{opened}
+use Rattle.rules.proofs.Definitions.{opened}
 
 pub refusals : Refusals
 unfolding opened

@@ -12,7 +12,9 @@ use Rattle.rules.specs.Ledger.{ledgerOf, readingIn}
 use Rattle.rules.specs.Refusal.{refusal, answerOf, taken}
 use Rattle.rules.specs.Statement.{settleRefusal}
 use Rattle.rules.specs.File.{readAt, write}
-use Rattle.rules.specs.Examples.{minus, agree, guide, days, kind, service, contracted, rampup, rampdown, response, recovery, availability, utilisation, optional, flexible, accepted, rejected, offer, call, fault, metered, readings, periods, calls, opening, appendix2, sample, sampleBytes}
+use Rattle.rules.specs.Examples.{minus, agree, guide, days, kind, service, contracted, rampup, rampdown, response, recovery, availability}
+use Rattle.rules.specs.Examples.{utilisation, optional, flexible, accepted, rejected, offer, call, defaulted, metered, readings, periods, calls, opening}
+use Rattle.rules.specs.Examples.{appendix2, sample, sampleBytes}
 use Rattle.commands.specs.declared.entries.Command.{Command}
 use Rattle.commands.specs.declared.entries.Command.the-variants.{Contract as contractᶜ, Close as closeᶜ}
 use Rattle.rules.specs.declared.answer.Answer.{Answer}
@@ -107,7 +109,7 @@ called = over 2 (calls 63 3 ++ (call 1641 2874 ∷ []))
 
 -- n defaults in Appendix 2's window
 abbrev pub faulty : ℕ → Setting
-faulty n = day (opening ++ replicate n (fault 0 1 1))
+faulty n = day (opening ++ replicate n (defaulted 0 1 1))
 
 -- a reading in minute 7
 abbrev pub read : Setting
@@ -172,16 +174,16 @@ operandCases =
     ∷ begun enters call 5 0 gets Refused 19
     ∷ begun enters call 5 44640 gets Refused 16
     ∷ begun enters call 5 44641 gets Refused 3
-    ∷ begun enters fault 44640 1 1 gets Refused 16
-    ∷ begun enters fault 44641 1 1 gets Refused 3
-    ∷ begun enters fault 0 0 1 gets Refused 3
-    ∷ begun enters fault 0 1 0 gets Refused 3
-    ∷ begun enters fault 0 1 1 gets Taken
-    ∷ begun enters fault 0 2 2 gets Taken
-    ∷ begun enters fault 0 3 3 gets Taken
-    ∷ begun enters fault 0 4 1 gets Taken
-    ∷ begun enters fault 0 5 1 gets Refused 3
-    ∷ begun enters fault 0 1 4 gets Refused 3
+    ∷ begun enters defaulted 44640 1 1 gets Refused 16
+    ∷ begun enters defaulted 44641 1 1 gets Refused 3
+    ∷ begun enters defaulted 0 0 1 gets Refused 3
+    ∷ begun enters defaulted 0 1 0 gets Refused 3
+    ∷ begun enters defaulted 0 1 1 gets Taken
+    ∷ begun enters defaulted 0 2 2 gets Taken
+    ∷ begun enters defaulted 0 3 3 gets Taken
+    ∷ begun enters defaulted 0 4 1 gets Taken
+    ∷ begun enters defaulted 0 5 1 gets Refused 3
+    ∷ begun enters defaulted 0 1 4 gets Refused 3
     ∷ begun enters metered 44640 (pos 0) gets Refused 16
     ∷ begun enters metered 44641 (pos 0) gets Refused 3
     ∷ begun enters metered 0 (minus 500001) gets Refused 3
@@ -212,12 +214,12 @@ bookCases =
     shut begun enters agree guide gets Refused 12
     ∷ shut begun enters offer 180 210 accepted gets Refused 12
     ∷ shut begun enters call 5 85 gets Refused 12
-    ∷ shut begun enters fault 0 1 1 gets Refused 12
+    ∷ shut begun enters defaulted 0 1 1 gets Refused 12
     ∷ shut begun enters metered 0 (pos 0) gets Refused 12
     ∷ shut begun enters closeᶜ gets Refused 12
     ∷ empty enters offer 0 180 accepted gets Refused 13
     ∷ empty enters call 5 85 gets Refused 13
-    ∷ empty enters fault 0 1 1 gets Refused 13
+    ∷ empty enters defaulted 0 1 1 gets Refused 13
     ∷ empty enters metered 0 (pos 0) gets Refused 13
     ∷ empty enters closeᶜ gets Refused 13
     ∷ empty enters agree guide gets Taken
@@ -233,15 +235,15 @@ spanCases =
     ∷ lent 4319 empty enters agree (set guide days 3) gets Refused 15
     ∷ lent 1439 begun enters offer 180 210 accepted gets Refused 15
     ∷ lent 1439 begun enters call 5 85 gets Refused 15
-    ∷ lent 1439 begun enters fault 0 1 1 gets Refused 15
+    ∷ lent 1439 begun enters defaulted 0 1 1 gets Refused 15
     ∷ lent 1439 begun enters metered 0 (pos 0) gets Refused 15
     ∷ lent 1439 begun enters closeᶜ gets Refused 15
     ∷ begun enters offer 1410 1470 accepted gets Refused 16
     ∷ begun enters offer 1410 1440 accepted gets Taken
     ∷ begun enters call 5 1435 gets Refused 16
     ∷ begun enters call 5 1434 gets Taken
-    ∷ day (agree guide ∷ offer 1410 1440 accepted ∷ []) enters fault 1440 1 1 gets Refused 16
-    ∷ day (agree guide ∷ offer 1410 1440 accepted ∷ []) enters fault 1439 1 1 gets Taken
+    ∷ day (agree guide ∷ offer 1410 1440 accepted ∷ []) enters defaulted 1440 1 1 gets Refused 16
+    ∷ day (agree guide ∷ offer 1410 1440 accepted ∷ []) enters defaulted 1439 1 1 gets Taken
     ∷ begun enters metered 1440 (pos 0) gets Refused 16
     ∷ begun enters metered 1439 (pos 0) gets Taken
     ∷ []
@@ -263,23 +265,23 @@ orderCases =
 -- 21: a window's end is not in it, and a rejected or an excluded window counts. 22: a minute's second reading. 23: each table, by itself
 abbrev pub tableCases : List Case
 tableCases =
-    begun enters fault 180 1 1 gets Refused 21
-    ∷ begun enters fault 179 1 1 gets Taken
-    ∷ resting enters fault 149 1 1 gets Refused 21
-    ∷ resting enters fault 150 1 1 gets Taken
-    ∷ day (agree (set guide service flexible) ∷ offer 0 180 rejected ∷ []) enters fault 0 1 1 gets Taken
+    begun enters defaulted 180 1 1 gets Refused 21
+    ∷ begun enters defaulted 179 1 1 gets Taken
+    ∷ resting enters defaulted 149 1 1 gets Refused 21
+    ∷ resting enters defaulted 150 1 1 gets Taken
+    ∷ day (agree (set guide service flexible) ∷ offer 0 180 rejected ∷ []) enters defaulted 0 1 1 gets Taken
     ∷ read enters metered 7 (pos 1) gets Refused 22
     ∷ read enters metered 8 (pos 1) gets Taken
     ∷ windows 128 enters offer 3840 3870 accepted gets Refused 23
     ∷ windows 127 enters offer 3810 3840 accepted gets Taken
     ∷ over 2 (calls 64 3) enters call 1667 1687 gets Refused 23
     ∷ over 2 (calls 63 3) enters call 1641 1661 gets Taken
-    ∷ faulty 128 enters fault 0 1 1 gets Refused 23
-    ∷ faulty 127 enters fault 0 1 1 gets Taken
+    ∷ faulty 128 enters defaulted 0 1 1 gets Refused 23
+    ∷ faulty 127 enters defaulted 0 1 1 gets Taken
     -- one place is left in a table, and together with any other it would be full
-    ∷ over 3 (periods 127 0 ++ (call 3 23 ∷ fault 0 1 1 ∷ [])) enters offer 3810 3840 accepted gets Taken
-    ∷ over 2 (periods 64 0 ++ (fault 0 1 1 ∷ calls 63 3)) enters call 1641 1661 gets Taken
-    ∷ day (opening ++ (call 3 23 ∷ replicate 127 (fault 0 1 1))) enters fault 0 1 1 gets Taken
+    ∷ over 3 (periods 127 0 ++ (call 3 23 ∷ defaulted 0 1 1 ∷ [])) enters offer 3810 3840 accepted gets Taken
+    ∷ over 2 (periods 64 0 ++ (defaulted 0 1 1 ∷ calls 63 3)) enters call 1641 1661 gets Taken
+    ∷ day (opening ++ (call 3 23 ∷ replicate 127 (defaulted 0 1 1))) enters defaulted 0 1 1 gets Taken
     ∷ []
 
 -- ---- the lowest number is given: beside the number that each of these gets, the later ones of its group hold too
@@ -315,12 +317,12 @@ lowestCases =
     ∷ called enters call 2850 2874 gets Refused 20
     ∷ empty enters call 2 10 gets Refused 3
     -- a default: 3 12 15 16 21 23
-    ∷ lent 1439 (shut (faulty 128)) enters fault 44641 1 1 gets Refused 3
-    ∷ lent 1439 (shut (faulty 128)) enters fault 1440 1 1 gets Refused 12
-    ∷ lent 1439 (faulty 128) enters fault 1440 1 1 gets Refused 15
-    ∷ faulty 128 enters fault 1440 1 1 gets Refused 16
-    ∷ faulty 128 enters fault 180 1 1 gets Refused 21
-    ∷ empty enters fault 0 0 1 gets Refused 3
+    ∷ lent 1439 (shut (faulty 128)) enters defaulted 44641 1 1 gets Refused 3
+    ∷ lent 1439 (shut (faulty 128)) enters defaulted 1440 1 1 gets Refused 12
+    ∷ lent 1439 (faulty 128) enters defaulted 1440 1 1 gets Refused 15
+    ∷ faulty 128 enters defaulted 1440 1 1 gets Refused 16
+    ∷ faulty 128 enters defaulted 180 1 1 gets Refused 21
+    ∷ empty enters defaulted 0 0 1 gets Refused 3
     -- a reading: 3 12 15 22, and 16 in a minute past the span
     ∷ lent 1439 (shut read) enters metered 7 (pos 500001) gets Refused 3
     ∷ lent 1439 (shut read) enters metered 7 (pos 0) gets Refused 12
@@ -390,7 +392,7 @@ findings =
     sampleBytes at 0 gets Got (agree guide) 32
     ∷ sampleBytes at 32 gets Got (offer 0 180 accepted) 38
     ∷ sampleBytes at 38 gets Got (call 5 85) 43
-    ∷ sampleBytes at 43 gets Got (fault 31 4 1) 48
+    ∷ sampleBytes at 43 gets Got (defaulted 31 4 1) 48
     ∷ sampleBytes at 48 gets Got (metered 7 (minus 1)) 55
     ∷ sampleBytes at 55 gets Got closeᶜ 56
     ∷ sampleBytes at 56 gets End

@@ -136,9 +136,9 @@ module _ (b : Book) (times : List ℕ) (readings : Memory) (G : Grounds b times 
   span-held = omega (arith, span-cells b, G .room)
 
   -- ---- the tables
-  calls-are : b .ninstructions ≡ length (g .instructions)
+  instructions-are : b .ninstructions ≡ length (g .instructions)
   unfolding ledgerIn
-  calls-are = sym (length-take-le (b .ninstructions) (b .instructions) (omega (arith, S .counts .1, G .shape .instructions)))
+  instructions-are = sym (length-take-le (b .ninstructions) (b .instructions) (omega (arith, S .counts .1, G .shape .instructions)))
 
   windows-are : b .nwindows ≡ length (g .windows)
   unfolding ledgerIn
@@ -166,9 +166,9 @@ module _ (b : Book) (times : List ℕ) (readings : Memory) (G : Grounds b times 
   cease-is : (j : ℕ) → j < b .ninstructions → ceaseOf times j ≡ instructionAt g j .cease .0
   cease-is j h = G .timed .cease j (omega (arith, S .counts .1)) ∙ ap (λ (i : Instruction). i .cease .0) (instruction-is j h)
 
-  call-sound : (j : ℕ) → j < b .ninstructions → SoundCall k span (instructionAt g j)
+  instruction-sound : (j : ℕ) → j < b .ninstructions → SoundCall k span (instructionAt g j)
   unfolding ledgerIn
-  call-sound j h = S .calls .call j (omega (arith, calls-are))
+  instruction-sound j h = S .calls .call j (omega (arith, instructions-are))
 
   window-sound : (i : ℕ) → i < b .nwindows → SoundWindow span (getD (g .windows) i noWindow)
   unfolding ledgerIn
@@ -193,7 +193,7 @@ module _ (b : Book) (times : List ℕ) (readings : Memory) (G : Grounds b times 
   laid-at : (j : ℕ) → j < b .ninstructions → LaidAt t times meter j
   unfolding termsOf
   laid-at j h =
-      let q = call-sound j h in
+      let q = instruction-sound j h in
       record {
         three = omega (arith, issue-is j h, q .three);
         steady = omega (arith, issue-is j h, cease-is j h, q .steady);
@@ -206,8 +206,8 @@ module _ (b : Book) (times : List ℕ) (readings : Memory) (G : Grounds b times 
   laid =
       record {
         response = S .contract .response .1;
-        ramp = S .contract .rise .1;
-        some = S .contract .rise .0;
+        ramp = S .contract .rampStart .1;
+        some = S .contract .rampStart .0;
         few = S .counts .1;
         table = omega (arith, G .timed .size);
         each = laid-at;
@@ -220,10 +220,10 @@ module _ (b : Book) (times : List ℕ) (readings : Memory) (G : Grounds b times 
         response = sym (ap (λ (c : Contract). c .response .0) contract-is);
         up = sym (ap upMinutes contract-is);
         down = sym (ap downMinutes contract-is);
-        count = calls-are;
+        count = instructions-are;
         issue = issue-is;
         cease = cease-is;
-        spanned = λ j h. omega (arith, cease-is j h, call-sound j h .inside, span-is);
+        spanned = λ j h. omega (arith, cease-is j h, instruction-sound j h .inside, span-is);
       }
 
   pub surveyed : Surveyed g t times meter
@@ -247,7 +247,7 @@ module _ (b : Book) (times : List ℕ) (readings : Memory) (G : Grounds b times 
         few = S .counts .1;
         table = omega (arith, G .timed .size);
         near = omega (arith, S .contract .recovery, S .contract .response);
-        small = λ j h. omega (arith, cease-is j h, call-sound j h .inside, span-small);
+        small = λ j h. omega (arith, cease-is j h, instruction-sound j h .inside, span-small);
       }
 
   pub windows-fit : Windows (b .windows) (b .nwindows) 1490
@@ -343,7 +343,7 @@ module _ (b : Book) (times : List ℕ) (readings : Memory) (G : Grounds b times 
           let q = laid-at j h in
           let r = read-to t times meter (b .ninstructions) done j h in
           record {
-            ramp = S .contract .rise;
+            ramp = S .contract .rampStart;
             three = q .three;
             steady = q .steady;
             inside = q .inside;
@@ -356,7 +356,7 @@ module _ (b : Book) (times : List ℕ) (readings : Memory) (G : Grounds b times 
 
       in-order : (j : ℕ) → j + 1 < b .ninstructions → ceaseOf times j + downMinutes k ≤ issueOf times (j + 1)
       unfolding ledgerIn
-      in-order j h = omega (arith, S .calls .order j (omega (arith, calls-are)), cease-is j (omega arith), issue-is (j + 1) h)
+      in-order j h = omega (arith, S .calls .order j (omega (arith, instructions-are)), cease-is j (omega arith), issue-is (j + 1) h)
 
       pub tied : Tied g t times live meter
       unfolding termsOf reads else

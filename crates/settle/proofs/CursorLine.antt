@@ -6,7 +6,6 @@ use Prim.Native.Nat.{ℕ, _+_, _-_, _*_, _≤_, _<_}
 use native.Mathlib.Omega.{arith}
 use lib.Dec.{leb, ltb}
 use lib.IntN.{ℤ, pos, natAbs, _*ℤ_, pos-*ℤ-pos}
-use lib.ListN.{length, getD}
 use borrow.Author.Tests.{le-leb, lt-leb}
 use Rattle.energy.specs.Energy.{cell, steadyQuarters, rampQuarters, delivers, expectedIn, deliveredIn}
 use Rattle.energy.specs.Lists.{sum, between}
@@ -28,8 +27,7 @@ use Rattle.settle_terms.specs.declared.Terms.{Terms}
 use Rattle.settle_lines.specs.declared.cursor.Active.{Active}
 use Rattle.settle_lines.specs.declared.cursor.Cursor.{Cursor}
 use Rattle.settle_terms.specs.Terms.{issueOf, ceaseOf}
-use Rattle.settle_lines.specs.Cursor.{liveAt}
-use Rattle.settle_lines.specs.Cursor.{activeOf, rateBy, priceBy, steadyAt, lineBy, cutBy, Planned, Plan, Ready}
+use Rattle.settle_lines.specs.Cursor.{liveAt, activeOf, rateBy, priceBy, steadyAt, lineBy, cutBy, Planned, Plan, Ready}
 use Rattle.settle_lines.proofs.Step.{Next, next}
 use Rattle.settle.proofs.LedgerTables.{TermsOf, instructionAt}
 

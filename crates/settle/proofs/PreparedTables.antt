@@ -1,6 +1,6 @@
 -- The two tables that settling prepares, as lists: the times are the instructions' issues and then their ceases, and each place of the table of live
 -- periods has the number of the rules' live window. Two lists of one length are equal where they agree at every place.
-use mathlib.Core.Path.{_≡_, refl, sym, _∙_, ap, ap₂, subst}
+use mathlib.Core.Path.{_≡_, refl, sym, _∙_, ap, ap₂}
 use mathlib.Core.Bool.{Bool, cond, _&&_}
 use mathlib.Core.List.{List, [], _∷_, _++_, map}
 use Prim.Native.Nat.{ℕ, zero, suc, _+_, _-_, _≤_, _<_}
@@ -15,7 +15,7 @@ use Rattle.rules.specs.Segment.{live}
 use Rattle.rules.proofs.Folds.{length-first}
 use Rattle.commands.specs.declared.entries.Instruction.{Instruction}
 use Rattle.commands.specs.declared.entries.Window.{Window}
-use Rattle.book.specs.Book.{noInstruction, noWindow}
+use Rattle.book.specs.Book.{noInstruction}
 use Rattle.settle_terms.specs.Terms.{Timed}
 use Rattle.settle_live.specs.Live.{covers, numberTo, LiveTable}
 use Rattle.settle.specs.Prepared.{timesOf, liveOf}

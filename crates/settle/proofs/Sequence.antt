@@ -16,7 +16,7 @@ use Rattle.energy.specs.Lists.{sum, run, between}
 use Rattle.energy.specs.Number.{Within}
 use Rattle.energy.proofs.Integers.{add-parts}
 use Rattle.energy.proofs.Sums.{sum-append}
-use Rattle.rules.specs.Ledger.{Ledger, contractOf, rise, endOf}
+use Rattle.rules.specs.Ledger.{Ledger, contractOf, rampStart, endOf}
 use Rattle.rules.specs.Segment.{Segment, segmentsFrom, segments}
 use Rattle.rules.specs.Statement.{lineOf, lines}
 use Rattle.commands.specs.declared.contract.Contract.{Contract}
@@ -103,13 +103,13 @@ module _ (g : Ledger) (t : Terms) (times live : List ℕ) (meter : List ℤ) (T 
                   pence = omega
                       (arith, p, q);
                 };
-            fuel = endOf k i - rise k i;
+            fuel = endOf k i - rampStart k i;
             enough = omega (arith, T .terms .issue (c .at) h, T .terms .response, T .terms .up);
             rest =
                 ap (segmentsFrom k (suc (c .at))) (drop-cons (g .instructions) (c .at) noInstruction l)
                 ∙ ap₂ _++_
                 (segments-cuts k (suc (c .at)) i (timed (c .at) h)
-                ∙ ap₂ (λ n m. cutsFrom k n i (endOf k i - rise k i) m) (sym (add-one (c .at)))
+                ∙ ap₂ (λ n m. cutsFrom k n i (endOf k i - rampStart k i) m) (sym (add-one (c .at)))
                 (omega (arith, T .terms .issue (c .at) h, T .terms .response, T .terms .up)))
                 (ap (λ n. segmentsFrom k (suc n) (drop n (g .instructions))) (sym (add-one (c .at))));
           })

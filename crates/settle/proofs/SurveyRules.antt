@@ -10,7 +10,7 @@ use lib.ListN.{length, take, length-append}
 use lib.Seq.{take-suc, take-length}
 use Rattle.energy.specs.Lists.{all, concatMap, between, isSome}
 use Rattle.energy.proofs.Sums.{all-append, all-ext}
-use Rattle.rules.specs.Ledger.{Ledger, contractOf, spanIn, expiry, rise, endOf}
+use Rattle.rules.specs.Ledger.{Ledger, contractOf, spanIn, expiry, rampStart, endOf}
 use Rattle.rules.specs.Segment.{baseMinutes, active, needed, complete, segmentsOf, segmentsFrom, segments}
 use Rattle.commands.specs.declared.contract.Contract.{Contract}
 use Rattle.commands.specs.declared.entries.Instruction.{Instruction}
@@ -86,7 +86,7 @@ module _ (g : Ledger) (t : Terms) (times : List ℕ) (meter : List ℤ) (S : Sur
       let q = S .laid .each n h in
       let timed : Timed k i = record { starts = omega arith; steady = omega (arith, q, S .terms .issue n h, S .terms .cease n h, S .terms .response) } in
       let e₁ : issueOf times n + t .response .0 ≡ expiry k i = omega (arith, S .terms .issue n h, S .terms .response) in
-      let e₂ : issueOf times n + t .response .0 - t .upminutes .0 ≡ rise k i = omega (arith, S .terms .issue n h, S .terms .response, S .terms .up) in
+      let e₂ : issueOf times n + t .response .0 - t .upminutes .0 ≡ rampStart k i = omega (arith, S .terms .issue n h, S .terms .response, S .terms .up) in
       let e₃ : ceaseOf times n ≡ i .cease .0 = S .terms .cease n h in
       let e₄ : ceaseOf times n + t .downminutes .0 ≡ endOf k i = omega (arith, S .terms .cease n h, S .terms .down) in
       let one : length (segmentsOf k (1 + length (take n is)) i)

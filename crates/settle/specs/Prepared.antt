@@ -1,5 +1,5 @@
--- What settling has before the first record is written: the answer without the lines' sums, the number of lines, and the tables that the lines are
--- calculated from. A refusal has no line and no instruction.
+-- Inner, and proved equal to the rules: what settling has before the first record is written: the answer without the lines' sums, the number of
+-- lines, and the tables that the lines are calculated from. A refusal has no line and no instruction.
 use mathlib.Core.Path.{_≡_}
 use mathlib.Core.Bool.{not}
 use mathlib.Core.List.{List, _++_, map}

@@ -21,6 +21,7 @@ use settle_lines::cursor::Cursor;
 use settle_live::mark_live;
 use settle_survey::survey_all;
 use settle_terms::Terms;
+use settle_terms::minutes::PLACES;
 use settle_terms::no_terms;
 use settle_terms::terms_of;
 use settle_terms::times::times_of;
@@ -31,7 +32,7 @@ pub struct Prepared {
     pub lines: usize,
     pub terms: Terms,
     pub times: [u16; 128],
-    pub live: [u8; 1490],
+    pub live: [u8; PLACES],
 }
 
 // The statement of n lines without their sums.
@@ -70,7 +71,7 @@ fn refuse(n: u8) -> Prepared
     };
     let terms = no_terms();
     let times = [0; 128];
-    let live = [0; 1490];
+    let live = [0; PLACES];
     Prepared {
         settlement: settlement,
         lines: 0,
@@ -90,7 +91,7 @@ fn lay_out(b: Book, t: Terms, times: [u16; 128], n: usize) -> Prepared
     let defaults = b.defaults;
     let recovery = k.recovery;
     let kw = t.kw;
-    let mut live = [0; 1490];
+    let mut live = [0; PLACES];
     mark_live(&mut live, windows, b.nwindows, &times, t, recovery);
     let e = availability(
         &live,
@@ -135,12 +136,12 @@ fn check_lines(b: Book, meter: &[i32], room: usize) -> Prepared
     lay_out(b, t, times, n)
 }
 
-// 11, 15, 24, and then the others: `left` says whether some list of commands leaves the book.
-fn check_book(b: Book, left: bool, meter: &[i32], room: usize) -> Prepared
-    requires { ⌜ left ≡ sound b ⌝ }
+// 11, 15, 24, and then the others: `soundness` says whether some list of commands leaves the book.
+fn check_book(b: Book, soundness: bool, meter: &[i32], room: usize) -> Prepared
+    requires { ⌜ soundness ≡ sound b ⌝ }
     ensures { λ r. ⌜ Prepares b (lent (now (meter .entry))) room r ⌝ }
 {
-    if !left {
+    if !soundness {
         return refuse(11);
     }
     if meter.len() < b.cells() {
@@ -157,8 +158,8 @@ fn check_book(b: Book, left: bool, meter: &[i32], room: usize) -> Prepared
 pub fn prepare(b: Book, meter: &[i32], room: usize) -> Prepared
     ensures { λ r. ⌜ Prepares b (lent (now (meter .entry))) room r ⌝ }
 {
-    let left = b.sound();
-    check_book(b, left, meter, room)
+    let soundness = b.sound();
+    check_book(b, soundness, meter, room)
 }
 
 // The answer with the sums of the lines.

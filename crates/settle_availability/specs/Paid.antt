@@ -1,5 +1,5 @@
--- Paid periods, P and the entries of the windows, over the table of live periods. Each default is gone through once: it marks the periods that it
--- reaches, and its window where it counts for P.
+-- Inner, and proved equal to the rules: paid periods, P and the entries of the windows, over the table of live periods. Each default is gone through
+-- once: it marks the periods that it reaches, and its window where it counts for P.
 use mathlib.Core.Path.{_≡_}
 use mathlib.Core.Bool.{Bool, false, cond, not, _&&_, _||_}
 use mathlib.Core.List.{List}

@@ -20,6 +20,7 @@ use energy::units::Pence;
 use rules::statement::Available;
 use settle_live::table::mark;
 use settle_live::table::number_at;
+use settle_terms::minutes::PLACES;
 use settle_terms::minutes::place_of;
 
 // The entries of the windows, and their pence.
@@ -244,7 +245,7 @@ pub fn availability(
     requires { ⌜ Upto 500000 (kw .0) × (rate ≤ 1000000) ⌝ }
     ensures { λ r. ⌜ (r ≡ availabilityBy (now (live .entry)) windows n defaults d (natAbs (kw .0)) rate) × Within 100000000000000 (r .pence .0) ⌝ }
 {
-    let mut reached = [0; 1490];
+    let mut reached = [0; PLACES];
     let mut counted = [0; 128];
     mark_defaults(&mut reached, &mut counted, live, windows, defaults, d);
     let p = penalty(&counted, n);

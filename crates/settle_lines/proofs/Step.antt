@@ -14,7 +14,6 @@ use Rattle.energy.specs.Energy.{cell, Readable, kwh, capped, payment, expectedI
 use Rattle.energy.specs.Lists.{sum, between, run}
 use Rattle.energy.specs.Number.{Within}
 use Rattle.energy.proofs.Sums.{sum-within}
-use Rattle.rules.specs.Segment.{periodOf}
 use Rattle.rules.specs.declared.statement.Line.{Line}
 use Rattle.rules.specs.declared.statement.Stage.{Stage}
 use Rattle.rules.specs.declared.statement.Rate.{Rate}
@@ -25,7 +24,7 @@ use Rattle.settle_lines.specs.declared.cursor.Active.{Active}
 use Rattle.settle_lines.specs.declared.cursor.Cursor.{Cursor}
 use Rattle.settle_lines.specs.declared.cursor.Stepped.{Stepped}
 use Rattle.settle_terms.specs.Terms.{issueOf, ceaseOf}
-use Rattle.settle_lines.specs.Cursor.{liveAt, activeOf, rateBy, priceBy, steadyAt, lineBy, enterOf, moved, cutBy, stepOf, stored, Plan, Ready}
+use Rattle.settle_lines.specs.Cursor.{activeOf, rateBy, priceBy, steadyAt, lineBy, enterOf, moved, cutBy, stepOf, stored, Plan, Ready}
 use Rattle.rules.proofs.Folds.{length-first, first-snoc}
 
 -- an instruction under way, from its times, its base load and the places of its two anchors in the table of live periods

@@ -1,4 +1,4 @@
--- A line from the numbers that settling holds, and the cursor that goes from segment to segment.
+-- Inner, and proved equal to the rules: a line from the numbers that settling holds, and the cursor that goes from segment to segment.
 use mathlib.Core.Path.{_≡_}
 use mathlib.Core.Bool.{Bool, true, false, cond, not, _&&_, _||_}
 use mathlib.Core.List.{List}

@@ -91,7 +91,8 @@ fn segment_end(a: Active, m: Minutes) -> Minutes
     ensures { λ r. ⌜ r .0 ≡ cutOf (a .expiry .0) (a .cease .0) (a .end .0) (m .0) ⌝ }
 {
     let s = stage_end(a, m);
-    let p = Contract::PERIOD.0 * (m.0 / Contract::PERIOD.0) + Contract::PERIOD.0;
+    let length = Contract::PERIOD.0;
+    let p = length * (m.0 / length) + length;
     if s.0 < p {
         return s;
     }

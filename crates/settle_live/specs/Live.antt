@@ -1,4 +1,5 @@
--- Live windows, as a table with a byte for each period: the number of the live window that it is in, from 1, and 0 in none.
+-- Inner, and proved equal to the rules: live windows, as a table with a byte for each period: the number of the live window that it is in, from 1,
+-- and 0 in none.
 use mathlib.Core.Path.{_≡_}
 use mathlib.Core.Bool.{Bool, false, cond, not, _&&_, _||_}
 use mathlib.Core.List.{List}

@@ -1,4 +1,4 @@
--- Lines as numbers, to the number: Appendix 2's L rows, each field in its place, and what stages and rates are as numbers.
+-- Proved of the rules: lines as numbers, to the number: Appendix 2's L rows, each field in its place, and what stages and rates are as numbers.
 use mathlib.Core.Path.{_≡_}
 use mathlib.Core.List.{List, [], _∷_, _++_, map}
 use Prim.Native.Nat.{ℕ}
@@ -6,9 +6,7 @@ use lib.IntN.{ℤ, pos}
 use Rattle.energy.specs.Lists.{concatMap}
 use Rattle.rules.specs.Statement.{lines}
 use Rattle.rules.specs.Examples.{minus, appendix2, ledger, row}
-use Rattle.rules.specs.declared.statement.Stage.{Stage}
 use Rattle.rules.specs.declared.statement.Stage.the-variants.{Up, Steady, Down}
-use Rattle.rules.specs.declared.statement.Rate.{Rate}
 use Rattle.rules.specs.declared.statement.Rate.the-variants.{Utilisation, Optional}
 use Rattle.settle_numbers.specs.Numbers.{stageNumber, rateNumber, numbersOf}
 

@@ -1,5 +1,5 @@
--- The statement's lines for a host that cannot hold records of enums: each line as the eight numbers of its row, in memory the caller lends, and what
--- settling answers: both by one equation over the rules, refusals included.
+-- Inner, and for hosts: the statement's lines for a host that cannot hold records of enums: each line as the eight numbers of its row, in memory the
+-- caller lends, and what settling answers: both by one equation over the rules, refusals included.
 use mathlib.Core.Bool.{not}
 use mathlib.Core.List.{List, [], _∷_, _++_}
 use mathlib.Core.Option.{Option, none, some}

@@ -1,4 +1,4 @@
--- Settling into records of its own: what a caller gets that lends none.
+-- Inner, and proved equal to the rules: settling into records of its own: what a caller gets that lends none.
 use lib.IntN.{pos}
 use lib.ListN.{replicate}
 use Rattle.book_memory.specs.Meter.{Memory}

@@ -1,4 +1,5 @@
 // Settling a book into records of lines: records that the caller lends, or its own.
+use rules::statement::LISTED_MOST;
 use rules::statement::Line;
 use settle::Settlement;
 
@@ -8,5 +9,5 @@ pub mod listed;
 // A settlement with line memory of its own.
 pub struct Listing {
     pub settlement: Settlement,
-    pub lines: [Line; 719],
+    pub lines: [Line; LISTED_MOST],
 }

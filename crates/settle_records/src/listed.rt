@@ -7,6 +7,7 @@ use crate::lent::settle;
 use book::Book;
 use energy::units::Kwh;
 use energy::units::Pence;
+use rules::statement::LISTED_MOST;
 use rules::statement::Line;
 use rules::statement::Rate;
 use rules::statement::Stage;
@@ -29,11 +30,11 @@ pub fn blank() -> Line
     }
 }
 
-// Settles a book over meter memory into 719 records, the most that 11 days give.
+// Settles a book over meter memory into as many records as 11 days give lines at most.
 pub fn listed(b: Book, meter: &[i32]) -> Listing
     ensures { λ r. ⌜ r ≡ listBook b (lent (now (meter .entry))) ⌝ }
 {
-    let mut lines = [blank(); 719];
+    let mut lines = [blank(); LISTED_MOST];
     let settlement = settle(b, meter, &mut lines);
     Listing {
         settlement: settlement,

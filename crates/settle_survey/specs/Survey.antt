@@ -1,4 +1,5 @@
--- 25, and the number of lines, before a line is written: instruction by instruction, over the table of times and the cells of meter memory.
+-- Inner, and proved equal to the rules: 25, and the number of lines, before a line is written: instruction by instruction, over the table of times
+-- and the cells of meter memory.
 use mathlib.Core.Bool.{Bool, true, _&&_}
 use mathlib.Core.List.{List}
 use Prim.Native.Nat.{ℕ, zero, suc, _+_, _-_, _≤_, _<_}

@@ -1,4 +1,4 @@
--- What settling reads off a book once: the contract's figures, and the times of its instructions in one table of numbers.
+-- Inner, and proved equal to the rules: what settling reads off a book once: the contract's figures, and the times of its instructions in one table of numbers.
 use mathlib.Core.Path.{_≡_}
 use mathlib.Core.List.{List}
 use Prim.Native.Nat.{ℕ, _+_, _<_}

@@ -6,6 +6,8 @@ ghost use Rattle.test_script.specs.Month.{monthOf};
 use book::Book;
 use energy::units::Kwh;
 use energy::units::Pence;
+use rules::statement::LINES_MOST;
+use rules::statement::LISTED_MOST;
 use rules::statement::Line;
 use rules::statement::Rate;
 use rules::statement::Stage;
@@ -16,7 +18,7 @@ use settle_records::listed::listed;
 
 pub(crate) struct Month {
     pub(crate) settlement: Settlement,
-    pub(crate) lines: [Line; 1679],
+    pub(crate) lines: [Line; LINES_MOST],
 }
 
 // What every record holds before: no line has such an instruction.
@@ -40,7 +42,7 @@ pub(crate) fn settle_into(b: Book, meter: &[i32], n: usize, before: Line) -> Mon
     requires { ⌜ n ≤ 1679 ⌝ }
     ensures { λ r. ⌜ r ≡ monthOf b (lent (now (meter .entry))) n before ⌝ }
 {
-    let mut lines = [before; 1679];
+    let mut lines = [before; LINES_MOST];
     let settlement = settle(b, meter, &mut lines[..n]);
     Month {
         settlement: settlement,
@@ -53,9 +55,9 @@ pub(crate) fn settle_listed(b: Book, meter: &[i32]) -> Month {
     let got = listed(b, meter);
     let made = got.lines;
     let settlement = got.settlement;
-    let mut lines = [blank(); 1679];
+    let mut lines = [blank(); LINES_MOST];
     let mut i = 0;
-    while i < 719 {
+    while i < LISTED_MOST {
         let l = made[i];
         lines[i] = l;
         i += 1;

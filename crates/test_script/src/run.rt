@@ -23,6 +23,8 @@ use crate::text::u16_after;
 use crate::text::usize_after;
 use book::Book;
 use book::Entry;
+use rules::statement::LINES_MOST;
+use rules::statement::LISTED_MOST;
 use settle_records::listed::blank;
 
 // How many cells and records are lent, and whether what is taken goes unprinted.
@@ -91,7 +93,7 @@ fn book_after(b: Book, s: Setting, letter: u8, line: &[u8], meter: &mut [i32]) -
 // A settlement into the records lent.
 fn settle_lent(b: Book, s: Setting, line: &[u8], meter: &[i32]) {
     let n = lent(meter, s.cells);
-    let records = at_most(s.records, 1679);
+    let records = at_most(s.records, LINES_MOST);
     let before = mark();
     let m = settle_into(b, &meter[..n], records, before);
     print_month(m, b.nwindows, u16_after(line, 1), records, before);
@@ -101,7 +103,7 @@ fn settle_lent(b: Book, s: Setting, line: &[u8], meter: &[i32]) {
 fn settle_own(b: Book, s: Setting, line: &[u8], meter: &[i32]) {
     let n = lent(meter, s.cells);
     let m = settle_listed(b, &meter[..n]);
-    print_month(m, b.nwindows, u16_after(line, 1), 719, blank());
+    print_month(m, b.nwindows, u16_after(line, 1), LISTED_MOST, blank());
 }
 
 fn put_cells(line: &[u8], meter: &mut [i32]) {

@@ -10,6 +10,7 @@ use lister_rows::rows::totals_row;
 use lister_rows::rows::window_row;
 use rules::answer::Answer;
 use rules::statement::Available;
+use rules::statement::LINES_MOST;
 use rules::statement::Line;
 use rules::statement::Rate;
 use rules::statement::Stage;
@@ -31,9 +32,9 @@ fn falls_on(place: usize, step: u16) -> bool {
 }
 
 // Of the first n records, the first and each `step` on.
-fn print_lines(lines: [Line; 1679], n: usize, step: u16) {
+fn print_lines(lines: [Line; LINES_MOST], n: usize, step: u16) {
     let mut i = 0;
-    while i < 1679 {
+    while i < LINES_MOST {
         if (i < n) & falls_on(i, step) {
             let l = lines[i];
             print_row(line_row(l));
@@ -96,10 +97,10 @@ fn one_if(b: bool) -> u64
 }
 
 // How many of the first n records hold what they held before.
-fn kept(lines: [Line; 1679], n: usize, before: Line) -> u64 {
+fn kept(lines: [Line; LINES_MOST], n: usize, before: Line) -> u64 {
     let mut count: u64 = 0;
     let mut i = 0;
-    while i < 1679 {
+    while i < LINES_MOST {
         let l = lines[i];
         count += one_if((i < n) & same(l, before));
         i += 1;

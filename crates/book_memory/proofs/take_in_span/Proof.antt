@@ -2,7 +2,7 @@
 use borrow.Author.Needs.{needs}
 use mathlib.Core.Path.{refl, sym, ap, _∙_}
 use Rattle.book_memory.specs.Meter.{lent}
-use Rattle.book_memory.proofs.Taking.{taken-fits}
+use Rattle.book_memory.proofs.TakenReading.{taken-fits}
 use Rattle.book_memory.proofs.take_in_span.Statement.{statement}
 use Rattle.book_memory.proofs.take_in_span.Tie as tie
 

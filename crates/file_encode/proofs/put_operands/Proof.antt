@@ -71,21 +71,5 @@ returns c =
 pub put-operands-spec : {M : Type 1} → statement M
 put-operands-spec =
     tie.close
-    (tie.spec
-    Inv-loop
-    μ-loop
-    loop-holds
-    (λ c. search needs)
-    (λ c. search needs)
-    add-next
-    (λ c. search needs)
-    (λ c. search needs)
-    sub-put-number
-    (λ c. search needs)
-    part-put-number-end
-    (λ c κs. search needs)
-    (λ c. search needs)
-    (λ c. search needs)
-    loop-again
-    same-length
-    returns)
+    (tie.spec Inv-loop μ-loop loop-holds (λ c. search needs) (λ c. search needs) add-next (λ c. search needs) (λ c. search needs) sub-put-number
+    (λ c. search needs) part-put-number-end (λ c κs. search needs) (λ c. search needs) (λ c. search needs) loop-again same-length returns)

@@ -59,7 +59,8 @@ row-is : (c : tie.After-row-of) → c .row-of .result ≡ rowFor (byteOf (c .bef
 row-is c = c .row-of .ensures ∙ ap rowFor (c .before .byte-of .ensures)
 
 room : (c : tie.Else1)
-    → leb (c .before .before .before .before .before .before .args .at + c .before .before .before .row-of .result .length) (length (c .before .before .before .before .before .before .args .out .now)) ≡ true
+    → leb (c .before .before .before .before .before .before .args .at + c .before .before .before .row-of .result .length)
+    (length (c .before .before .before .before .before .before .args .out .now)) ≡ true
 room c = sym (c .before .room-for .ensures) ∙ not-false _ (c .if1 .left)
 
 ends : (c : tie.Else1)
@@ -107,17 +108,5 @@ returns-2 c =
 pub write-at-spec : {M : Type 1} → statement M
 write-at-spec =
     tie.close
-    (tie.spec
-    (λ c κs. search needs)
-    (λ c κs. search needs)
-    (λ c. search needs)
-    (λ c κs. search needs)
-    returns
-    (λ c κs. search needs)
-    slice-write-out
-    add-put-operands
-    (λ c. search needs)
-    put-operands-requires
-    add-t10
-    same-length
-    returns-2)
+    (tie.spec (λ c κs. search needs) (λ c κs. search needs) (λ c. search needs) (λ c κs. search needs) returns (λ c κs. search needs) slice-write-out
+    add-put-operands (λ c. search needs) put-operands-requires add-t10 same-length returns-2)

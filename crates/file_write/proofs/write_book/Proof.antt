@@ -79,16 +79,5 @@ returns-4 c =
 pub write-book-spec : {M : Type 1} → statement M
 write-book-spec =
     tie.close
-    (tie.spec
-    (λ c κs. search needs)
-    (λ c κs. search needs)
-    returns
-    (λ c κs. search needs)
-    (λ c κs. search needs)
-    returns-2
-    file-length-requires
-    (λ c κs. search needs)
-    returns-3
-    put-book-requires
-    (λ c. search needs)
-    returns-4)
+    (tie.spec (λ c κs. search needs) (λ c κs. search needs) returns (λ c κs. search needs) (λ c κs. search needs) returns-2 file-length-requires
+    (λ c κs. search needs) returns-3 put-book-requires (λ c. search needs) returns-4)

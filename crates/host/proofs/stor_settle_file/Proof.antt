@@ -8,7 +8,7 @@ use Rattle.book_memory.specs.Meter.{Memory, lent}
 use Rattle.rules.specs.declared.answer.Answer.{Answer}
 use Rattle.rules.specs.declared.answer.Answer.the-variants.{Taken, Refused}
 use Rattle.book.specs.Book.{emptyBook}
-use Rattle.book.proofs.Tested.{sound-parts}
+use Rattle.book.proofs.SoundTests.{sound-parts}
 use Rattle.file_load.specs.Load.{LoadedFile, load}
 use Rattle.file_load.specs.declared.file.Loaded.{Loaded}
 use Rattle.host.specs.Answers.{packed}
@@ -67,16 +67,5 @@ returns-2 c =
 pub stor-settle-file-spec : {M : Type 1} → statement M
 stor-settle-file-spec =
     tie.close
-    (tie.spec
-    (λ c κs. search needs)
-    (λ c. search needs)
-    settle-book-requires
-    (λ c κs. search needs)
-    (λ c. search needs)
-    (λ c κs. search needs)
-    (λ c. search needs)
-    (λ c. search needs)
-    (λ c. search needs)
-    returns
-    (λ c. search needs)
-    returns-2)
+    (tie.spec (λ c κs. search needs) (λ c. search needs) settle-book-requires (λ c κs. search needs) (λ c. search needs) (λ c κs. search needs)
+    (λ c. search needs) (λ c. search needs) (λ c. search needs) returns (λ c. search needs) returns-2)

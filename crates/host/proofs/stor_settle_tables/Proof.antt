@@ -57,11 +57,4 @@ returns-2 c =
 pub stor-settle-tables-spec : {M : Type 1} → statement M
 stor-settle-tables-spec =
     tie.close
-    (tie.spec
-    (λ c κs. search needs)
-    returns
-    (λ c κs. search needs)
-    settle-book-requires
-    (λ c. search needs)
-    (λ c. search needs)
-    returns-2)
+    (tie.spec (λ c κs. search needs) returns (λ c κs. search needs) settle-book-requires (λ c. search needs) (λ c. search needs) returns-2)

@@ -97,23 +97,6 @@ returns c =
 pub put-entries-spec : {M : Type 1} → statement M
 put-entries-spec =
     tie.close
-    (tie.spec
-    Inv-loop
-    μ-loop
-    loop-holds
-    (λ c. search needs)
-    (λ c. search needs)
-    (λ c. search needs)
-    (λ c. search needs)
-    (λ c. search needs)
-    (λ c. search needs)
-    slice-set-from-sums
-    (λ c. search needs)
-    (λ c. search needs)
-    (λ c. search needs)
-    slice-set-from-pence
-    (λ c. search needs)
-    (λ c. search needs)
-    loop-again
-    same-length
-    returns)
+    (tie.spec Inv-loop μ-loop loop-holds (λ c. search needs) (λ c. search needs) (λ c. search needs) (λ c. search needs) (λ c. search needs)
+    (λ c. search needs) slice-set-from-sums (λ c. search needs) (λ c. search needs) (λ c. search needs) slice-set-from-pence (λ c. search needs)
+    (λ c. search needs) loop-again same-length returns)

@@ -39,14 +39,5 @@ returns c =
 pub put-totals-spec : {M : Type 1} → statement M
 put-totals-spec =
     tie.close
-    (tie.spec
-    (λ c. search needs)
-    (λ c. search needs)
-    (λ c. search needs)
-    (λ c. simp length-set (omega arith))
-    (λ c. simp length-set (omega arith))
-    (λ c. simp length-set (omega arith))
-    (λ c. simp length-set (omega arith))
-    (λ c. search needs)
-    (λ c. simp length-set refl)
-    returns)
+    (tie.spec (λ c. search needs) (λ c. search needs) (λ c. search needs) (λ c. simp length-set (omega arith)) (λ c. simp length-set (omega arith))
+    (λ c. simp length-set (omega arith)) (λ c. simp length-set (omega arith)) (λ c. search needs) (λ c. simp length-set refl) returns)

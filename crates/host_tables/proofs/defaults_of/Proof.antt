@@ -4,7 +4,7 @@ use Prim.Native.Nat.{_≤_, _-_}
 use native.Mathlib.Omega.{arith}
 use borrow.Author.Needs.{needs}
 use Rattle.host_tables.specs.Tables.{entryAt, defaultIn, defaultNumbers}
-use Rattle.host_tables.proofs.Filled.{Rows, filled-none, rows-next, rows-all}
+use Rattle.host_tables.proofs.FilledTables.{Rows, filled-none, rows-next, rows-all}
 use Rattle.host_tables.proofs.defaults_of.Statement.{statement}
 use Rattle.host_tables.proofs.defaults_of.Tie as tie
 
@@ -33,20 +33,5 @@ returns c =
 pub defaults-of-spec : {M : Type 1} → statement M
 defaults-of-spec =
     tie.close
-    (tie.spec
-    Inv-loop
-    μ-loop
-    (λ c κs. search needs)
-    loop-holds
-    (λ c. search needs)
-    (λ c. search needs)
-    (λ c. search needs)
-    (λ c. search needs)
-    (λ c. search needs)
-    (λ c κs. search needs)
-    (λ c. search needs)
-    (λ c. search needs)
-    (λ c. search needs)
-    (λ c. search needs)
-    loop-again
-    returns)
+    (tie.spec Inv-loop μ-loop (λ c κs. search needs) loop-holds (λ c. search needs) (λ c. search needs) (λ c. search needs) (λ c. search needs)
+    (λ c. search needs) (λ c κs. search needs) (λ c. search needs) (λ c. search needs) (λ c. search needs) (λ c. search needs) loop-again returns)

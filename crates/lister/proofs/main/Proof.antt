@@ -18,11 +18,5 @@ slice-aggregate-write-all c =
 pub main-spec : {M : Type 1} → statement M
 main-spec =
     tie.close
-    (tie.spec
-    (λ c. search needs)
-    (λ c. search needs)
-    (λ c κs. search needs)
-    array-share-prefix-rows
-    slice-aggregate-write-all
-    (λ c κs. search needs)
+    (tie.spec (λ c. search needs) (λ c. search needs) (λ c κs. search needs) array-share-prefix-rows slice-aggregate-write-all (λ c κs. search needs)
     (λ c. search needs))

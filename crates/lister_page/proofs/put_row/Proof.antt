@@ -59,16 +59,5 @@ returns c =
 pub put-row-spec : {M : Type 1} → statement M
 put-row-spec =
     tie.close
-    (tie.spec
-    Inv-loop
-    μ-loop
-    loop-holds
-    array-read-out
-    (λ c. search needs)
-    slice-write-out
-    (λ c. search needs)
-    (λ c. search needs)
-    loop-again
-    (λ c. search needs)
-    same-length
-    returns)
+    (tie.spec Inv-loop μ-loop loop-holds array-read-out (λ c. search needs) slice-write-out (λ c. search needs) (λ c. search needs) loop-again
+    (λ c. search needs) same-length returns)

@@ -1,13 +1,13 @@
 -- `settle_live::excluded` meets its contract. The invariant: the test so far is that of the first i instructions. Assumes nothing.
 use mathlib.Core.Path.{_≡_, refl, sym, _∙_, ap, ap₂}
 use mathlib.Core.Bool.{_&&_, _||_}
-use Prim.Native.Nat.{ℕ, _+_, _-_, _≤_}
+use Prim.Native.Nat.{_+_, _-_, _≤_}
 use native.Mathlib.Numerals.{add-one}
 use native.Mathlib.Omega.{arith}
 use lib.Dec.{ltb}
 use borrow.Author.Needs.{needs}
 use Rattle.settle_terms.specs.Terms.{ceaseOf}
-use Rattle.settle_live.specs.Live.{excludesAt, excludedTo}
+use Rattle.settle_live.specs.Live.{excludedTo}
 use Rattle.settle_live.proofs.excluded.Statement.{statement}
 use Rattle.settle_live.proofs.excluded.Tie as tie
 
@@ -64,15 +64,5 @@ returns c =
 pub excluded-spec : {M : Type 1} → statement M
 excluded-spec =
     tie.close
-    (tie.spec
-    Inv-loop
-    μ-loop
-    loop-holds
-    cease-at-requires
-    end-of-requires
-    add-hit
-    add-hit-2
-    (λ c. search needs)
-    (λ c. search needs)
-    loop-again
+    (tie.spec Inv-loop μ-loop loop-holds cease-at-requires end-of-requires add-hit add-hit-2 (λ c. search needs) (λ c. search needs) loop-again
     returns)

@@ -11,7 +11,7 @@ use Rattle.energy.specs.Lists.{concatMap, run, between}
 use Rattle.settle_lines.specs.declared.cursor.Stepped.{Stepped}
 use Rattle.settle_lines.specs.Cursor.{Ready, cursorAt, stepOf, steppedLine}
 use Rattle.settle_numbers.specs.Numbers.{numbersOf}
-use Rattle.settle_numbers.proofs.Numbered.{numbersTo, put-next, same-size}
+use Rattle.settle_numbers.proofs.LinesAsNumbers.{numbersTo, put-next, same-size}
 use Rattle.settle_numbers.proofs.fill_numbers.Statement.{statement}
 use Rattle.settle_numbers.proofs.fill_numbers.Tie as tie
 
@@ -77,16 +77,5 @@ returns c =
 pub fill-numbers-spec : {M : Type 1} → statement M
 fill-numbers-spec =
     tie.close
-    (tie.spec
-    Inv-loop
-    μ-loop
-    first-requires
-    loop-holds
-    step-requires
-    (λ c. search needs)
-    put-requires
-    (λ c. search needs)
-    (λ c. search needs)
-    loop-again
-    same-length
-    returns)
+    (tie.spec Inv-loop μ-loop first-requires loop-holds step-requires (λ c. search needs) put-requires (λ c. search needs) (λ c. search needs)
+    loop-again same-length returns)

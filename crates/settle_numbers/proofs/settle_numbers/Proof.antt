@@ -6,7 +6,7 @@ use Rattle.book_memory.specs.Meter.{lent}
 use Rattle.energy.specs.Number.{Within}
 use Rattle.settle_lines.specs.declared.cursor.Cursor.{Cursor}
 use Rattle.settle.specs.Prepared.{summed}
-use Rattle.settle_numbers.proofs.Numbered.{numbered-answer, numbered-memory}
+use Rattle.settle_numbers.proofs.LinesAsNumbers.{numbered-answer, numbered-memory}
 use Rattle.settle_numbers.proofs.settle_numbers.Statement.{statement}
 use Rattle.settle_numbers.proofs.settle_numbers.Tie as tie
 
@@ -32,11 +32,5 @@ slice-aggregate-fill-numbers-2 c = sym (c .before .before .before .before .befor
 pub settle-numbers-spec : {M : Type 1} → statement M
 settle-numbers-spec =
     tie.close
-    (tie.spec
-    (λ c κs. search needs)
-    (λ c. search needs)
-    slice-aggregate-fill-numbers-2
-    (λ c κs. search needs)
-    sum-up-requires
-    (λ c. search needs)
+    (tie.spec (λ c κs. search needs) (λ c. search needs) slice-aggregate-fill-numbers-2 (λ c κs. search needs) sum-up-requires (λ c. search needs)
     returns)

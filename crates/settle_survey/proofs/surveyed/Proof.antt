@@ -108,23 +108,6 @@ returns c =
 pub surveyed-spec : {M : Type 1} → statement M
 surveyed-spec =
     tie.close
-    (tie.spec
-    issue-at-requires
-    cease-at-requires
-    expiry-of-requires
-    start-of-requires
-    end-of-requires
-    base-from-requires
-    (λ c κs. search needs)
-    add-all-read
-    all-read-requires
-    (λ c κs. search needs)
-    (λ c κs. search needs)
-    all-read-requires-2
-    (λ c κs. search needs)
-    (λ c κs. search needs)
-    (λ c. search needs)
-    (λ c κs. search needs)
-    (λ c. search needs)
-    add-count
-    returns)
+    (tie.spec issue-at-requires cease-at-requires expiry-of-requires start-of-requires end-of-requires base-from-requires (λ c κs. search needs)
+    add-all-read all-read-requires (λ c κs. search needs) (λ c κs. search needs) all-read-requires-2 (λ c κs. search needs) (λ c κs. search needs)
+    (λ c. search needs) (λ c κs. search needs) (λ c. search needs) add-count returns)

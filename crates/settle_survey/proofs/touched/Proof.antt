@@ -1,5 +1,5 @@
 -- `settle_survey::touched` meets its contract: the last minute's period and the first one's, and those between. Assumes nothing.
-use mathlib.Core.Path.{refl, sym}
+use mathlib.Core.Path.{refl}
 use native.Mathlib.Omega.{arith}
 use borrow.Author.Tests.{lt-ltb, le-ltb}
 use Rattle.rules.specs.Cuts.{touched}

@@ -1,7 +1,5 @@
 -- `settle_terms::terms_of` meets its contract: the ramps' minutes are the contract's, and fit. Assumes nothing.
-use mathlib.Core.Path.{_≡_}
 use native.Mathlib.Omega.{arith}
-use borrow.Author.Needs.{needs}
 use Rattle.energy.specs.Number.{Upto}
 use Rattle.commands.specs.Input.{upMinutes, downMinutes}
 use Rattle.settle_terms.specs.Terms.{termsOf}

@@ -22,4 +22,5 @@ delivered-requires c κs =
 
 pub six-minutes-spec : {M : Type 1} → statement M
 six-minutes-spec =
-    tie.close (tie.spec (λ c κs. search needs) (λ c κs. search needs) (λ c. search needs) delivered-requires (λ c κs. search needs) (λ c κs. search needs) (λ c κs. search needs) (λ c. search needs))
+    tie.close (tie.spec (λ c κs. search needs) (λ c κs. search needs) (λ c. search needs) delivered-requires (λ c κs. search needs) (λ c κs. search needs)
+    (λ c κs. search needs) (λ c. search needs))

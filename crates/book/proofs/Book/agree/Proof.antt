@@ -7,7 +7,7 @@ use Rattle.commands.specs.declared.entries.Command.the-variants.{Contract as co
 use Rattle.rules.specs.Ledger.{spanOf}
 use Rattle.book_memory.specs.Meter.{lent}
 use Rattle.book.proofs.Refusals.{anyOf, contract-own}
-use Rattle.book.proofs.Entered.{past-any, any-refuses, own-takes}
+use Rattle.book.proofs.EnteringByNumbers.{past-any, any-refuses, own-takes}
 use Rattle.book.proofs.Book.agree.Statement.{statement}
 use Rattle.book.proofs.Book.agree.Tie as tie
 
@@ -39,12 +39,5 @@ returns-2 c =
 pub agree-spec : {M : Type 1} → statement M
 agree-spec =
     tie.close
-    (tie.spec
-    (λ c κs. search needs)
-    (λ c κs. search needs)
-    (λ c κs. search needs)
-    returns
-    mark-requires
-    (λ c κs. search needs)
-    (λ c. search needs)
+    (tie.spec (λ c κs. search needs) (λ c κs. search needs) (λ c κs. search needs) returns mark-requires (λ c κs. search needs) (λ c. search needs)
     returns-2)

@@ -4,7 +4,7 @@ use mathlib.Core.Path.{_≡_, refl, _∙_}
 use Rattle.commands.specs.Input.{lowest, inputRefusal}
 use Rattle.commands.specs.declared.entries.Command.the-variants.{Close as closeᶜ}
 use Rattle.book.proofs.Refusals.{anyOf, close-own}
-use Rattle.book.proofs.Entered.{any-refuses-at, own-takes-at}
+use Rattle.book.proofs.EnteringByNumbers.{any-refuses-at, own-takes-at}
 use Rattle.book.proofs.Book.enter_close.Statement.{statement}
 use Rattle.book.proofs.Book.enter_close.Tie as tie
 
@@ -24,10 +24,4 @@ returns-2 c =
 pub enter-close-spec : {M : Type 1} → statement M
 enter-close-spec =
     tie.close
-    (tie.spec
-    (λ c κs. search needs)
-    (λ c κs. search needs)
-    (λ c κs. search needs)
-    returns
-    (λ c κs. search needs)
-    returns-2)
+    (tie.spec (λ c κs. search needs) (λ c κs. search needs) (λ c κs. search needs) returns (λ c κs. search needs) returns-2)

@@ -5,7 +5,7 @@ use Rattle.commands.specs.Input.{inputRefusal}
 use Rattle.commands.specs.declared.entries.Command.the-variants.{Contract as contractᶜ}
 use Rattle.commands.proofs.Input.{offer-says, offer-agrees}
 use Rattle.book_memory.specs.Meter.{lent}
-use Rattle.book.proofs.Entered.{input-refuses}
+use Rattle.book.proofs.EnteringByNumbers.{input-refuses}
 use Rattle.book.proofs.Book.enter_contract.Statement.{statement}
 use Rattle.book.proofs.Book.enter_contract.Tie as tie
 
@@ -34,12 +34,5 @@ returns-2 c =
 pub enter-contract-spec : {M : Type 1} → statement M
 enter-contract-spec =
     tie.close
-    (tie.spec
-    (λ c κs. search needs)
-    (λ c. search needs)
-    agree-requires
-    (λ c. search needs)
-    (λ c κs. search needs)
-    (λ c. search needs)
-    returns
+    (tie.spec (λ c κs. search needs) (λ c. search needs) agree-requires (λ c. search needs) (λ c κs. search needs) (λ c. search needs) returns
     returns-2)

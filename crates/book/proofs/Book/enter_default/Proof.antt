@@ -9,9 +9,9 @@ use Rattle.rules.proofs.Folds.{length-mapped}
 use Rattle.book_memory.specs.Meter.{Memory}
 use Rattle.book_sound.proofs.Search.{in-order}
 use Rattle.book.specs.Book.{bookSpan}
-use Rattle.book.proofs.Tested.{Tables, sound-parts, sound-used}
+use Rattle.book.proofs.SoundTests.{Tables, sound-parts, sound-used}
 use Rattle.book.proofs.Refusals.{anyOf, ownOf, default-own, default-room}
-use Rattle.book.proofs.Entered.{Past, past-any, any-refuses-at, own-refuses-at, own-takes-at}
+use Rattle.book.proofs.EnteringByNumbers.{Past, past-any, any-refuses-at, own-refuses-at, own-takes-at}
 use Rattle.book.proofs.Book.enter_default.Statement.{statement}
 use Rattle.book.proofs.Book.enter_default.Tie as tie
 
@@ -71,18 +71,6 @@ returns-3 c =
 pub enter-default-spec : {M : Type 1} → statement M
 enter-default-spec =
     tie.close
-    (tie.spec
-    (λ c κs. search needs)
-    (λ c κs. search needs)
-    (λ c κs. search needs)
-    (λ c κs. search needs)
-    returns
-    (λ c κs. search needs)
-    default-refusal-requires
-    (λ c κs. search needs)
-    returns-2
-    (λ c. omega (arith, place c))
-    (λ c. place c)
-    (λ c. omega (arith, place c))
-    (λ c κs. search needs)
-    returns-3)
+    (tie.spec (λ c κs. search needs) (λ c κs. search needs) (λ c κs. search needs) (λ c κs. search needs) returns (λ c κs. search needs)
+    default-refusal-requires (λ c κs. search needs) returns-2 (λ c. omega (arith, place c)) (λ c. place c) (λ c. omega (arith, place c))
+    (λ c κs. search needs) returns-3)

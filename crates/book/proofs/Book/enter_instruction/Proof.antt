@@ -9,9 +9,9 @@ use Rattle.commands.specs.declared.entries.Command.the-variants.{Contract as co
 use Rattle.energy.proofs.Tests.{of-T}
 use Rattle.rules.proofs.Folds.{length-mapped}
 use Rattle.book_memory.specs.Meter.{Memory}
-use Rattle.book.proofs.Tested.{Tables, sound-parts, sound-used}
+use Rattle.book.proofs.SoundTests.{Tables, sound-parts, sound-used}
 use Rattle.book.proofs.Refusals.{anyOf, ownOf, instruction-own, instruction-room}
-use Rattle.book.proofs.Entered.{Past, past-any, any-refuses-at, own-refuses-at, own-takes-at}
+use Rattle.book.proofs.EnteringByNumbers.{Past, past-any, any-refuses-at, own-refuses-at, own-takes-at}
 use Rattle.book.proofs.Book.enter_instruction.Statement.{statement}
 use Rattle.book.proofs.Book.enter_instruction.Tie as tie
 
@@ -75,21 +75,6 @@ returns-3 c =
 pub enter-instruction-spec : {M : Type 1} → statement M
 enter-instruction-spec =
     tie.close
-    (tie.spec
-    (λ c κs. search needs)
-    (λ c κs. search needs)
-    (λ c κs. search needs)
-    (λ c κs. search needs)
-    returns
-    (λ c κs. search needs)
-    (λ c. omega (arith, inside c))
-    (λ c. inside c)
-    (λ c κs. search needs)
-    instruction-refusal-requires
-    (λ c κs. search needs)
-    returns-2
-    (λ c. omega (arith, place c))
-    (λ c. place c)
-    (λ c. omega (arith, place c))
-    (λ c κs. search needs)
-    returns-3)
+    (tie.spec (λ c κs. search needs) (λ c κs. search needs) (λ c κs. search needs) (λ c κs. search needs) returns (λ c κs. search needs)
+    (λ c. omega (arith, inside c)) (λ c. inside c) (λ c κs. search needs) instruction-refusal-requires (λ c κs. search needs) returns-2
+    (λ c. omega (arith, place c)) (λ c. place c) (λ c. omega (arith, place c)) (λ c κs. search needs) returns-3)

@@ -9,7 +9,7 @@ use Rattle.book_memory.specs.Meter.{lent}
 use Rattle.book.specs.Book.{bookSpan, bookCells}
 use Rattle.book.proofs.Month.{span-cells}
 use Rattle.book.proofs.Refusals.{anyOf, ownOf, reading-own, reading-inside}
-use Rattle.book.proofs.Entered.{Past, past-any, any-refuses, own-refuses, own-takes, reading-ranged}
+use Rattle.book.proofs.EnteringByNumbers.{Past, past-any, any-refuses, own-refuses, own-takes, reading-ranged}
 use Rattle.book.proofs.Book.enter_reading.Statement.{statement}
 use Rattle.book.proofs.Book.enter_reading.Tie as tie
 
@@ -67,18 +67,6 @@ returns-3 c =
 pub enter-reading-spec : {M : Type 1} → statement M
 enter-reading-spec =
     tie.close
-    (tie.spec
-    (λ c κs. search needs)
-    (λ c κs. search needs)
-    (λ c κs. search needs)
-    (λ c κs. search needs)
-    returns
-    (λ c κs. search needs)
-    (λ c κs. search needs)
-    (λ c κs. search needs)
-    (λ c. search needs)
-    returns-2
-    put-reading-requires
-    (λ c κs. search needs)
-    (λ c. search needs)
+    (tie.spec (λ c κs. search needs) (λ c κs. search needs) (λ c κs. search needs) (λ c κs. search needs) returns (λ c κs. search needs)
+    (λ c κs. search needs) (λ c κs. search needs) (λ c. search needs) returns-2 put-reading-requires (λ c κs. search needs) (λ c. search needs)
     returns-3)

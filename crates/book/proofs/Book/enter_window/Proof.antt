@@ -7,9 +7,9 @@ use lib.ListN.{length}
 use Rattle.commands.specs.declared.entries.Command.the-variants.{Window as windowᶜ}
 use Rattle.rules.proofs.Folds.{length-mapped}
 use Rattle.book_memory.specs.Meter.{Memory}
-use Rattle.book.proofs.Tested.{Tables, sound-parts}
+use Rattle.book.proofs.SoundTests.{Tables, sound-parts}
 use Rattle.book.proofs.Refusals.{anyOf, ownOf, window-own, window-room}
-use Rattle.book.proofs.Entered.{Past, past-any, any-refuses-at, own-refuses-at, own-takes-at}
+use Rattle.book.proofs.EnteringByNumbers.{Past, past-any, any-refuses-at, own-refuses-at, own-takes-at}
 use Rattle.book.proofs.Book.enter_window.Statement.{statement}
 use Rattle.book.proofs.Book.enter_window.Tie as tie
 
@@ -66,21 +66,6 @@ returns-3 c =
 pub enter-window-spec : {M : Type 1} → statement M
 enter-window-spec =
     tie.close
-    (tie.spec
-    (λ c κs. search needs)
-    (λ c κs. search needs)
-    (λ c κs. search needs)
-    (λ c κs. search needs)
-    returns
-    (λ c κs. search needs)
-    (λ c. omega (arith, inside c))
-    (λ c. inside c)
-    (λ c κs. search needs)
-    (λ c κs. search needs)
-    (λ c κs. search needs)
-    returns-2
-    (λ c. omega (arith, place c))
-    (λ c. place c)
-    (λ c. omega (arith, place c))
-    (λ c κs. search needs)
-    returns-3)
+    (tie.spec (λ c κs. search needs) (λ c κs. search needs) (λ c κs. search needs) (λ c κs. search needs) returns (λ c κs. search needs)
+    (λ c. omega (arith, inside c)) (λ c. inside c) (λ c κs. search needs) (λ c κs. search needs) (λ c κs. search needs) returns-2
+    (λ c. omega (arith, place c)) (λ c. place c) (λ c. omega (arith, place c)) (λ c κs. search needs) returns-3)

@@ -6,7 +6,7 @@ use borrow.Author.Tests.{not-true, not-false}
 use Rattle.energy.specs.Lists.{pass}
 use Rattle.energy.proofs.Tests.{to-T}
 use Rattle.book.specs.Sound.{tableTests, sound}
-use Rattle.book.proofs.Tested.{tables-of}
+use Rattle.book.proofs.SoundTests.{tables-of}
 use Rattle.book.proofs.Book.sound.Statement.{statement}
 use Rattle.book.proofs.Book.sound.Tie as tie
 
@@ -41,11 +41,4 @@ returns-3 c =
 pub sound-spec : {M : Type 1} → statement M
 sound-spec =
     tie.close
-    (tie.spec
-    (λ c κs. search needs)
-    returns
-    (λ c κs. search needs)
-    returns-2
-    (λ c κs. search needs)
-    agreed-sound-requires
-    returns-3)
+    (tie.spec (λ c κs. search needs) returns (λ c κs. search needs) returns-2 (λ c κs. search needs) agreed-sound-requires returns-3)

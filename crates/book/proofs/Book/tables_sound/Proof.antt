@@ -69,9 +69,4 @@ returns-2 c =
 pub tables-sound-spec : {M : Type 1} → statement M
 tables-sound-spec =
     tie.close
-    (tie.spec
-    returns
-    windows-unused-requires
-    instructions-unused-requires
-    defaults-unused-requires
-    returns-2)
+    (tie.spec returns windows-unused-requires instructions-unused-requires defaults-unused-requires returns-2)

@@ -13,9 +13,4 @@ returns-2 c = rw (c .before .end-of .ensures .0, c .before .before .before .befo
 pub ready-after-spec : {M : Type 1} → statement M
 ready-after-spec =
     tie.close
-    (tie.spec
-    returns
-    (λ c κs. search needs)
-    (λ c. search needs)
-    (λ c. search needs)
-    returns-2)
+    (tie.spec returns (λ c κs. search needs) (λ c. search needs) (λ c. search needs) returns-2)

@@ -11,9 +11,4 @@ returns c = rw (c .pick2 .ensures, c .before .pick .ensures, c .before .before .
 pub reading-refusal-spec : {M : Type 1} → statement M
 reading-refusal-spec =
     tie.close
-    (tie.spec
-    (λ c. search needs)
-    (λ c κs. search needs)
-    (λ c κs. search needs)
-    (λ c κs. search needs)
-    returns)
+    (tie.spec (λ c. search needs) (λ c κs. search needs) (λ c κs. search needs) (λ c κs. search needs) returns)

@@ -1,5 +1,4 @@
 -- `book_refusal::windows_end` meets its contract.
-use borrow.Author.Needs.{needs}
 use borrow.Author.Tests.{ne-eqb}
 use Rattle.book_refusal.proofs.windows.windows_end.Statement.{statement}
 use Rattle.book_refusal.proofs.windows.windows_end.Tie as tie

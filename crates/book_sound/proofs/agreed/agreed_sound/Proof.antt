@@ -77,13 +77,5 @@ returns-5 c = rw (c .defaults-sound .ensures) (by-defaults (c .before .before))
 pub agreed-sound-spec : {M : Type 1} → statement M
 agreed-sound-spec =
     tie.close
-    (tie.spec
-    (λ c κs. search needs)
-    returns
-    windows-sound-requires
-    returns-2
-    instructions-sound-requires
-    returns-3
-    returns-4
-    defaults-sound-requires
+    (tie.spec (λ c κs. search needs) returns windows-sound-requires returns-2 instructions-sound-requires returns-3 returns-4 defaults-sound-requires
     returns-5)

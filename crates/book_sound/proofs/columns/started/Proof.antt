@@ -1,9 +1,8 @@
 -- `book_sound::started` meets its contract: below `low` all start by the minute, from `high` on none does, and the two meet.
-use Prim.Native.Nat.{ℕ, _≤_, _<_, _-_}
+use Prim.Native.Nat.{ℕ, _≤_, _<_, _-_, _+_, _/_}
 use lib.ListN.{getD}
 use native.Mathlib.Omega.{arith}
 use borrow.Author.Needs.{needs}
-use Prim.Native.Nat.{_+_, _/_}
 use native.Mathlib.Nat.{le-trans, lt-of-lt-of-le}
 use Rattle.book_sound.proofs.columns.started.Statement.{statement}
 use Rattle.book_sound.proofs.columns.started.Tie as tie
@@ -48,17 +47,5 @@ returns c =
 pub started-spec : {M : Type 1} → statement M
 started-spec =
     tie.close
-    (tie.spec
-    Inv-loop
-    μ-loop
-    loop-holds
-    (λ c. search needs)
-    (λ c. search needs)
-    (λ c. search needs)
-    (λ c. search needs)
-    (λ c. search needs)
-    (λ c. search needs)
-    loop-again
-    (λ c. search needs)
-    loop-again-2
-    returns)
+    (tie.spec Inv-loop μ-loop loop-holds (λ c. search needs) (λ c. search needs) (λ c. search needs) (λ c. search needs) (λ c. search needs)
+    (λ c. search needs) loop-again (λ c. search needs) loop-again-2 returns)

@@ -52,7 +52,8 @@ in-columns-requires c κs =
     let b = at .before .before in (
       b .pre .1,
       rw (columns at .first, columns at .last)
-          (ordered (b .args .windows) (b .args .w) (windowed b) (in-order (b .args .k) (b .args .span) 0 (take (b .args .w) (b .args .windows)) (to-T (b .pre .2)))),
+          (ordered (b .args .windows) (b .args .w) (windowed b) (in-order (b .args .k) (b .args .span) 0 (take (b .args .w) (b .args .windows))
+          (to-T (b .pre .2)))),
     )
 
 -- what the turn tests is the default's test
@@ -104,19 +105,5 @@ returns-2 c =
 pub defaults-sound-spec : {M : Type 1} → statement M
 defaults-sound-spec =
     tie.close
-    (tie.spec
-    Inv-loop
-    μ-loop
-    (λ c κs. search needs)
-    (λ c κs. search needs)
-    loop-holds
-    (λ c. search needs)
-    (λ c. search needs)
-    (λ c κs. search needs)
-    (λ c. search needs)
-    in-columns-requires
-    returns
-    (λ c. search needs)
-    (λ c. search needs)
-    loop-again
-    returns-2)
+    (tie.spec Inv-loop μ-loop (λ c κs. search needs) (λ c κs. search needs) loop-holds (λ c. search needs) (λ c. search needs) (λ c κs. search needs)
+    (λ c. search needs) in-columns-requires returns (λ c. search needs) (λ c. search needs) loop-again returns-2)

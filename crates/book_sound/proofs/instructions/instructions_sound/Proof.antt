@@ -60,19 +60,5 @@ returns-2 c =
 pub instructions-sound-spec : {M : Type 1} → statement M
 instructions-sound-spec =
     tie.close
-    (tie.spec
-    Inv-loop
-    μ-loop
-    ramp-down-minutes-requires
-    loop-holds
-    (λ c. search needs)
-    (λ c. search needs)
-    instruction-fits-requires
-    returns
-    (λ c κs. search needs)
-    (λ c. search needs)
-    (λ c. search needs)
-    (λ c. search needs)
-    (λ c. search needs)
-    loop-again
-    returns-2)
+    (tie.spec Inv-loop μ-loop ramp-down-minutes-requires loop-holds (λ c. search needs) (λ c. search needs) instruction-fits-requires returns
+    (λ c κs. search needs) (λ c. search needs) (λ c. search needs) (λ c. search needs) (λ c. search needs) loop-again returns-2)

@@ -51,15 +51,5 @@ returns-2 c =
 pub windows-sound-spec : {M : Type 1} → statement M
 windows-sound-spec =
     tie.close
-    (tie.spec
-    Inv-loop
-    μ-loop
-    loop-holds
-    (λ c. search needs)
-    (λ c. search needs)
-    (λ c κs. search needs)
-    returns
-    (λ c. search needs)
-    (λ c. search needs)
-    loop-again
-    returns-2)
+    (tie.spec Inv-loop μ-loop loop-holds (λ c. search needs) (λ c. search needs) (λ c κs. search needs) returns (λ c. search needs)
+    (λ c. search needs) loop-again returns-2)

@@ -82,12 +82,4 @@ returns c =
 pub payment-pence-spec : {M : Type 1} → statement M
 payment-pence-spec =
     tie.close
-    (tie.spec
-    (λ c. search needs)
-    mul-raised
-    add-raised
-    cast-raised-2
-    half-up-requires
-    cast-pence
-    sub-pence
-    returns)
+    (tie.spec (λ c. search needs) mul-raised add-raised cast-raised-2 half-up-requires cast-pence sub-pence returns)

@@ -107,13 +107,4 @@ returns-2 c =
 pub delivered-spec : {M : Type 1} → statement M
 delivered-spec =
     tie.close
-    (tie.spec
-    (λ c κs. search needs)
-    mul-above
-    (λ c. search needs)
-    (λ c. search needs)
-    mul-above-2
-    sub-above-2
-    returns
-    sub-result
-    returns-2)
+    (tie.spec (λ c κs. search needs) mul-above (λ c. search needs) (λ c. search needs) mul-above-2 sub-above-2 returns sub-result returns-2)

@@ -1,6 +1,6 @@
 -- `energy::quarters::expected` meets its contract. The kW are not below 0, so that the machine reads them back as they are; a period's product fits 32 bits.
 -- Assumes nothing.
-use mathlib.Core.Path.{_≡_, refl}
+use mathlib.Core.Path.{refl}
 use native.Mathlib.Nat.{mul-le-mul}
 use native.Mathlib.Omega.{arith}
 use lib.Dec.{lit<}

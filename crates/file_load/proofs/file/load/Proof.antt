@@ -8,7 +8,7 @@ use lib.ListN.{length}
 use Rattle.book_memory.specs.Meter.{lent, roomIn}
 use Rattle.book.specs.Readings.{openSpan}
 use Rattle.book.specs.Sound.{Shaped}
-use Rattle.book.proofs.Kept.{Kept}
+use Rattle.book.proofs.StaysSound.{Kept}
 use Rattle.rules.proofs.Folds.{length-mapped}
 use Rattle.file_load.specs.Load.{load}
 use Rattle.file_load.proofs.From.{from}
@@ -80,15 +80,5 @@ returns c =
 pub load-spec : {M : Type 1} → statement M
 load-spec =
     tie.close
-    (tie.spec
-    Inv-loop
-    μ-loop
-    (λ c κs. search needs)
-    loop-holds
-    (λ c κs. search needs)
-    read-and-enter-requires
-    (λ c κs. search needs)
-    loop-less
-    loop-again
-    same-length
-    returns)
+    (tie.spec Inv-loop μ-loop (λ c κs. search needs) loop-holds (λ c κs. search needs) read-and-enter-requires (λ c κs. search needs) loop-less
+    loop-again same-length returns)

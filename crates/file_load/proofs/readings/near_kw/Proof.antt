@@ -7,7 +7,7 @@ use mir.Syntax.{w64}
 use mir.Val.{SFits, toZ}
 use mir.Facts.{toZ-pos, toZ-ofZ}
 use Rattle.energy.proofs.Integers.{exact, diff-parts, fits-parts}
-use Rattle.file_load.proofs.Near.{raised, near-cell}
+use Rattle.file_load.proofs.RaisedKw.{raised, near-cell}
 use Rattle.file_load.proofs.readings.near_kw.Statement.{statement}
 use Rattle.file_load.proofs.readings.near_kw.Tie as tie
 

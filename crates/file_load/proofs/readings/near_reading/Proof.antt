@@ -27,7 +27,8 @@ cast-t13 : tie.Need-cast-t13
 cast-t13 c = record { fits = rw (minute c) (below 2 (c .before .before) (c .before .before .before .args .at + 1)) }
 
 kw : (c : tie.After-number-in2)
-    → c .number-in2 .result ≡ wordFrom 0 (take 4 (drop (c .before .before .before .before .before .args .at + 3) (c .before .before .before .before .before .args .s .now)))
+    → c .number-in2 .result ≡ wordFrom 0 (take 4 (drop (c .before .before .before .before .before .args .at + 3)
+    (c .before .before .before .before .before .args .s .now)))
 kw c =
     let at = c .before .before .before .before .before .args .at in
     let four : at + 1 + 2 + 4 - (at + 1 + 2) ≡ 4 = omega arith in
@@ -46,20 +47,6 @@ returns c = (
 pub near-reading-spec : {M : Type 1} → statement M
 near-reading-spec =
     tie.close
-    (tie.spec
-    (λ c. search needs)
-    (λ c. search needs)
-    (λ c. search needs)
-    (λ c. search needs)
-    (λ c. search needs)
-    (λ c. search needs)
-    (λ c. search needs)
-    (λ c. search needs)
-    (λ c κs. search needs)
-    cast-t13
-    (λ c. search needs)
-    (λ c. search needs)
-    (λ c. search needs)
-    (λ c κs. search needs)
-    near-kw-requires
-    returns)
+    (tie.spec (λ c. search needs) (λ c. search needs) (λ c. search needs) (λ c. search needs) (λ c. search needs) (λ c. search needs)
+    (λ c. search needs) (λ c. search needs) (λ c κs. search needs) cast-t13 (λ c. search needs) (λ c. search needs) (λ c. search needs)
+    (λ c κs. search needs) near-kw-requires returns)

@@ -35,7 +35,8 @@ take-at-requires c κs = stands (c .before)
 turned : (c : tie.After-take-at Inv-loop μ-loop)
     → let l = c .before .before .before .before in
     let a = l .before .before .args in
-    Run (a .span) (a .s .now) (a .start) (lent (a .meter .now)) (cond (c .take-at .result) (l .loop .at + 7) (l .loop .at)) (lent (c .take-at .last .1 .1 .1 .0))
+    Run (a .span) (a .s .now) (a .start) (lent (a .meter .now)) (cond (c .take-at .result) (l .loop .at + 7) (l .loop .at))
+    (lent (c .take-at .last .1 .1 .1 .0))
 turned c =
     let l = c .before .before .before .before in
     run-more _ _ _ _ (l .loop .at) (lent (l .loop .meter)) (c .take-at .result) _ (l .loop .inv .0) (stands (c .before .before) .0) (c .take-at .ensures)
@@ -64,17 +65,5 @@ returns-2 c = (c .before .before .loop .inv .0, no-reading _ _ _ _ (sym (c .befo
 pub take-readings-spec : {M : Type 1} → statement M
 take-readings-spec =
     tie.close
-    (tie.spec
-    Inv-loop
-    μ-loop
-    loop-holds
-    (λ c κs. search needs)
-    take-at-requires
-    (λ c. search needs)
-    returns
-    (λ c. search needs)
-    add-at
-    loop-less
-    loop-again
-    same-length-2
-    returns-2)
+    (tie.spec Inv-loop μ-loop loop-holds (λ c κs. search needs) take-at-requires (λ c. search needs) returns (λ c. search needs) add-at loop-less
+    loop-again same-length-2 returns-2)

@@ -68,16 +68,5 @@ returns-7 c =
 pub command-of-spec : {M : Type 1} → statement M
 command-of-spec =
     tie.close
-    (tie.spec
-    contract-of-requires
-    window-of-requires
-    instruction-of-requires
-    default-of-requires
-    reading-of-requires
-    returns
-    returns-2
-    returns-3
-    returns-4
-    returns-5
-    returns-6
-    returns-7)
+    (tie.spec contract-of-requires window-of-requires instruction-of-requires default-of-requires reading-of-requires returns returns-2 returns-3
+    returns-4 returns-5 returns-6 returns-7)

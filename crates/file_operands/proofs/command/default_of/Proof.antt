@@ -8,11 +8,5 @@ use Rattle.file_operands.proofs.command.default_of.Tie as tie
 pub default-of-spec : {M : Type 1} → statement M
 default-of-spec =
     tie.close
-    (tie.spec
-    (λ c. search needs)
-    (λ c. record { fits = default-fits (c .pre) 0 })
-    (λ c. search needs)
-    (λ c. record { fits = default-fits (c .pre) 1 })
-    (λ c. search needs)
-    (λ c. record { fits = default-fits (c .pre) 2 })
-    (λ c. refl))
+    (tie.spec (λ c. search needs) (λ c. record { fits = default-fits (c .pre) 0 }) (λ c. search needs)
+    (λ c. record { fits = default-fits (c .pre) 1 }) (λ c. search needs) (λ c. record { fits = default-fits (c .pre) 2 }) (λ c. refl))

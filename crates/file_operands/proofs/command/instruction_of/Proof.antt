@@ -8,9 +8,5 @@ use Rattle.file_operands.proofs.command.instruction_of.Tie as tie
 pub instruction-of-spec : {M : Type 1} → statement M
 instruction-of-spec =
     tie.close
-    (tie.spec
-    (λ c. search needs)
-    (λ c. record { fits = instruction-fits (c .pre) 0 })
-    (λ c. search needs)
-    (λ c. record { fits = instruction-fits (c .pre) 1 })
-    (λ c. refl))
+    (tie.spec (λ c. search needs) (λ c. record { fits = instruction-fits (c .pre) 0 }) (λ c. search needs)
+    (λ c. record { fits = instruction-fits (c .pre) 1 }) (λ c. refl))

@@ -12,9 +12,4 @@ returns c = rw (toZ-ofZ {w = w64} {z = c .signed .result} (record { sfits = c .s
 pub reading-of-spec : {M : Type 1} → statement M
 reading-of-spec =
     tie.close
-    (tie.spec
-    (λ c. search needs)
-    (λ c. record { fits = reading-fits (c .pre) 0 })
-    (λ c. search needs)
-    (λ c κs. reading-fits (c .pre) 1)
-    returns)
+    (tie.spec (λ c. search needs) (λ c. record { fits = reading-fits (c .pre) 0 }) (λ c. search needs) (λ c κs. reading-fits (c .pre) 1) returns)

@@ -8,11 +8,5 @@ use Rattle.file_operands.proofs.command.window_of.Tie as tie
 pub window-of-spec : {M : Type 1} → statement M
 window-of-spec =
     tie.close
-    (tie.spec
-    (λ c. search needs)
-    (λ c. record { fits = window-fits (c .pre) 0 })
-    (λ c. search needs)
-    (λ c. record { fits = window-fits (c .pre) 1 })
-    (λ c. search needs)
-    (λ c. record { fits = window-fits (c .pre) 2 })
-    (λ c. refl))
+    (tie.spec (λ c. search needs) (λ c. record { fits = window-fits (c .pre) 0 }) (λ c. search needs) (λ c. record { fits = window-fits (c .pre) 1 })
+    (λ c. search needs) (λ c. record { fits = window-fits (c .pre) 2 }) (λ c. refl))

@@ -12,23 +12,13 @@ cast-t15 c = omega (arith, c .struct-known10 .given)
 
 returns : tie.Need-returns
 returns c =
-    let f : SFits w64 (c .before .before .before .before .before .before .before .before .before .before .before .before .before .before .before .args .k .contracted .0) =
+    let f : SFits w64 (c .before .before .before .before .before .before .before .before .before .before .before .before .before .before .before .args .k
+    .contracted .0) =
     search needs in
     rw (c .before .before .before .before .before .before .before .magnitude .ensures, toZ-ofZ f)
 
 pub contract-operands-spec : {M : Type 1} → statement M
 contract-operands-spec =
     tie.close
-    (tie.spec
-    (λ c. search needs)
-    (λ c. search needs)
-    (λ c. search needs)
-    (λ c κs. search needs)
-    (λ c. search needs)
-    (λ c. search needs)
-    (λ c. search needs)
-    (λ c. search needs)
-    (λ c. search needs)
-    (λ c. search needs)
-    cast-t15
-    returns)
+    (tie.spec (λ c. search needs) (λ c. search needs) (λ c. search needs) (λ c κs. search needs) (λ c. search needs) (λ c. search needs)
+    (λ c. search needs) (λ c. search needs) (λ c. search needs) (λ c. search needs) cast-t15 returns)

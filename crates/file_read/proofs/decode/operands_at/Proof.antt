@@ -54,20 +54,5 @@ returns c =
 pub operands-at-spec : {M : Type 1} → statement M
 operands-at-spec =
     tie.close
-    (tie.spec
-    Inv-loop
-    μ-loop
-    loop-holds
-    (λ c. search needs)
-    (λ c. search needs)
-    add-next
-    sub-number-in
-    (λ c. search needs)
-    part-number-in-end
-    number-in-requires
-    (λ c. search needs)
-    (λ c. search needs)
-    (λ c. search needs)
-    (λ c. search needs)
-    loop-again
-    returns)
+    (tie.spec Inv-loop μ-loop loop-holds (λ c. search needs) (λ c. search needs) add-next sub-number-in (λ c. search needs) part-number-in-end
+    number-in-requires (λ c. search needs) (λ c. search needs) (λ c. search needs) (λ c. search needs) loop-again returns)

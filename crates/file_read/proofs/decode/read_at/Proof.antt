@@ -13,7 +13,7 @@ use Rattle.rules.specs.declared.file.Read.the-variants.{Refused}
 use Rattle.file_table.specs.Table.{padded, rowFor, byteWidths}
 use Rattle.file_table.specs.Operands.{Narrow, Sized}
 use Rattle.file_table.specs.declared.table.Row.{Row}
-use Rattle.file_read.proofs.Found.{ended, unknown, short, entire-reads, found-reads}
+use Rattle.file_read.proofs.Finds.{ended, unknown, short, entire-reads, found-reads}
 use Rattle.file_table.proofs.Operands.{getD-padded, command-padded, operand-below}
 use Rattle.file_table.proofs.Rows.{row-widths, row-none, row-some, row-length, row-narrow}
 use Rattle.file_table.proofs.Words.{Bytes}
@@ -87,17 +87,5 @@ returns-4 c =
 pub read-at-spec : {M : Type 1} → statement M
 read-at-spec =
     tie.close
-    (tie.spec
-    returns
-    (λ c. search needs)
-    (λ c κs. search needs)
-    (λ c. search needs)
-    returns-2
-    (λ c. search needs)
-    returns-3
-    (λ c. search needs)
-    (λ c. search needs)
-    operands-at-requires
-    (λ c. search needs)
-    command-of-requires
-    returns-4)
+    (tie.spec returns (λ c. search needs) (λ c κs. search needs) (λ c. search needs) returns-2 (λ c. search needs) returns-3 (λ c. search needs)
+    (λ c. search needs) operands-at-requires (λ c. search needs) command-of-requires returns-4)

@@ -1,6 +1,5 @@
--- `file_read::reader::read_from` meets its contract: a walk of its MIR, by hand. A reader is made by `new` and passed to
--- `read`, of which the proof knows only that they meet their contracts; the answer's parts are put together anew.
--- Assumes nothing.
+-- `file_read::reader::read_from` meets its contract: a walk of its MIR, by hand. A reader is made by `new` and passed to `read`, of which the proof
+-- knows only that they meet their contracts; the answer's parts are put together anew. Assumes nothing.
 use mathlib.Core.Path.{_≡_, refl, ap, subst, _∙_}
 use Prim.Native.Nat.{ℕ, _<_, _^_}
 use mathlib.Core.List.{[], _∷_, List}
@@ -18,9 +17,11 @@ use ghost.Atoms.{Atoms, sem}
 use contract.Lifetimes.{Lfts}
 use contract.Monad.{Fun, fact}
 use contract.Running.{givenOf, tables, tablesOf}
-use types.Kit.{Given, ‵, raw, _⊛_, ⋆, some, later, _$_, _∵_, !, qed, by, move, drop, use1, use2, split, join, pick, rewrite, fsplit, fjoin, suffices, frame, await, done}
+use types.Kit.{Given, ‵, raw, _⊛_, ⋆, some, later, _$_, _∵_, !, qed, by, move, drop, use1, use2, split, join, pick, rewrite, fsplit, fjoin, suffices}
+use types.Kit.{frame, await, done}
 use types.Part.{whole, sub, look-in, agg}
-use types.Run.{look, init, forget, stop, fld, from, load, of-opd, and-then, no-more, assigns, land, returns, enter, alloc1, alloc0, params1, pass1, pass0, free1, free0}
+use types.Run.{look, init, forget, stop, fld, from, load, of-opd, and-then, no-more, assigns, land, returns, enter, alloc1, alloc0, params1, pass1}
+use types.Run.{pass0, free1, free0}
 use sound.WpLaws.{FmC, fmOf, WpFn-mono}
 use denote.RattleType.{RattleType, owns}
 use denote.Laws.{Is, shows}
@@ -32,7 +33,6 @@ use denote.Slice.{sliceVal, ShrSlice, slice-vals, shr-slice-tells, shr-slice-law
 use denote.Steps.{only, owned, peeks, heard, nothing}
 use denote.Enum.Laws as EL
 use denote.Struct.Laws as LL
-use denote.Struct.Rest.{own-shut}
 use denote.Triple.Statement.{Contract, Triple}
 use denote.Triple.Call.{calls-at}
 use denote.Triple.Entry.{Vals, onEntry}

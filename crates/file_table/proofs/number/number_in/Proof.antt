@@ -47,16 +47,5 @@ returns c = c .before .loop .inv .1 ∙ ap (wordFrom 0) (take-all (c .before .lo
 pub number-in-spec : {M : Type 1} → statement M
 number-in-spec =
     tie.close
-    (tie.spec
-    Inv-loop
-    μ-loop
-    loop-holds
-    (λ c. search needs)
-    mul-number
-    (λ c. search needs)
-    (λ c κs. search needs)
-    add-number
-    (λ c. search needs)
-    (λ c. search needs)
-    loop-again
-    returns)
+    (tie.spec Inv-loop μ-loop loop-holds (λ c. search needs) mul-number (λ c. search needs) (λ c κs. search needs) add-number (λ c. search needs)
+    (λ c. search needs) loop-again returns)

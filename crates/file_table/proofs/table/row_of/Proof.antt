@@ -37,13 +37,4 @@ returns-2 c = row-missing (c .before .before .args .byte) (c .before .loop .plac
 pub row-of-spec : {M : Type 1} → statement M
 row-of-spec =
     tie.close
-    (tie.spec
-    Inv-loop
-    μ-loop
-    loop-holds
-    (λ c κs. search needs)
-    returns
-    (λ c. search needs)
-    (λ c. search needs)
-    loop-again
-    returns-2)
+    (tie.spec Inv-loop μ-loop loop-holds (λ c κs. search needs) returns (λ c. search needs) (λ c. search needs) loop-again returns-2)

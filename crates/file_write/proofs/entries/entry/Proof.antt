@@ -65,16 +65,5 @@ returns-3 c =
 pub entry-spec : {M : Type 1} → statement M
 entry-spec =
     tie.close
-    (tie.spec
-    (λ c. search needs)
-    mul-w
-    element-copy-out-w
-    (λ c. search needs)
-    mul-x
-    element-copy-out-x
-    (λ c. search needs)
-    mul-d
-    element-copy-out-d
-    returns
-    returns-2
-    returns-3)
+    (tie.spec (λ c. search needs) mul-w element-copy-out-w (λ c. search needs) mul-x element-copy-out-x (λ c. search needs) mul-d element-copy-out-d
+    returns returns-2 returns-3)

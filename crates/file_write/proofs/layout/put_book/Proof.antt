@@ -84,13 +84,5 @@ returns c =
 pub put-book-spec : {M : Type 1} → statement M
 put-book-spec =
     tie.close
-    (tie.spec
-    put-if-requires
-    put-table-requires
-    put-table-requires-2
-    put-table-requires-3
-    (λ c κs. search needs)
-    put-readings-requires
-    put-if-requires-2
-    (λ c. search needs)
-    returns)
+    (tie.spec put-if-requires put-table-requires put-table-requires-2 put-table-requires-3 (λ c κs. search needs) put-readings-requires
+    put-if-requires-2 (λ c. search needs) returns)

@@ -58,15 +58,5 @@ returns c =
 pub put-readings-spec : {M : Type 1} → statement M
 put-readings-spec =
     tie.close
-    (tie.spec
-    Inv-loop
-    μ-loop
-    loop-holds
-    cast-t9
-    kw-at-requires
-    put-cell-requires
-    (λ c. search needs)
-    (λ c. search needs)
-    loop-again
-    same-length
+    (tie.spec Inv-loop μ-loop loop-holds cast-t9 kw-at-requires put-cell-requires (λ c. search needs) (λ c. search needs) loop-again same-length
     returns)

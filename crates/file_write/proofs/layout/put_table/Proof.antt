@@ -6,7 +6,7 @@ use native.Mathlib.Omega.{arith}
 use borrow.Author.Needs.{needs}
 use lib.ListN.{getD, take}
 use Rattle.commands.specs.declared.entries.Command.the-variants.{Close as closeᶜ}
-use Rattle.file_write.specs.Laid.{Room, Laid, placesIn, usedIn, entries}
+use Rattle.file_write.specs.Laid.{Room, Laid, placesIn, usedIn}
 use Rattle.file_write.proofs.WrittenLaid.{Turns, laid-none, laid-long, room-so, room-turn, laid-turn}
 use Rattle.file_write.proofs.WrittenParts.{entries-turns}
 use Rattle.file_write.proofs.layout.put_table.Statement.{statement}
@@ -66,15 +66,5 @@ returns c =
 pub put-table-spec : {M : Type 1} → statement M
 put-table-spec =
     tie.close
-    (tie.spec
-    Inv-loop
-    μ-loop
-    (λ c κs. search needs)
-    loop-holds
-    entry-requires
-    put-requires
-    (λ c. search needs)
-    (λ c. search needs)
-    loop-again
-    same-length
-    returns)
+    (tie.spec Inv-loop μ-loop (λ c κs. search needs) loop-holds entry-requires put-requires (λ c. search needs) (λ c. search needs) loop-again
+    same-length returns)

@@ -45,7 +45,8 @@ as-long-requires-3 c κs =
 
 -- the six lengths
 whole : (c : tie.After-as-long3)
-    → c .before .before .before .before .before .before .before .before .as-long .result + c .before .before .before .before .before .before .before .table-length .result
+    → c .before .before .before .before .before .before .before .before .as-long .result + c .before .before .before .before .before .before .before
+    .table-length .result
     + c .before .before .before .before .before .before .table-length2 .result
     + c .before .before .before .before .before .table-length3 .result
     + c .before .before .as-long2 .result
@@ -96,20 +97,6 @@ returns c = whole c
 pub file-length-spec : {M : Type 1} → statement M
 file-length-spec =
     tie.close
-    (tie.spec
-    (λ c κs. search needs)
-    as-long-requires
-    table-length-requires
-    table-length-requires-2
-    table-length-requires-3
-    (λ c κs. search needs)
-    (λ c κs. search needs)
-    as-long-requires-2
-    (λ c κs. search needs)
-    as-long-requires-3
-    add-result
-    add-result-2
-    add-result-3
-    add-result-4
-    add-result-5
+    (tie.spec (λ c κs. search needs) as-long-requires table-length-requires table-length-requires-2 table-length-requires-3 (λ c κs. search needs)
+    (λ c κs. search needs) as-long-requires-2 (λ c κs. search needs) as-long-requires-3 add-result add-result-2 add-result-3 add-result-4 add-result-5
     returns)

@@ -1,11 +1,10 @@
 -- `host::settling::settle_book` meets its contract: the answer and the room for the sums decide whether these are written, and the lines fit the
 -- memory lent for them.
-use mathlib.Core.Path.{_≡_, ap}
+use mathlib.Core.Path.{ap}
 use native.Mathlib.Omega.{arith}
 use lib.ListN.{take}
 use lib.Seq.{length-take-le}
 use Rattle.book_memory.specs.Meter.{lent}
-use Rattle.settle_numbers.specs.Numbers.{numberBook}
 use Rattle.settle.specs.declared.Settlement.{Settlement}
 use Rattle.host.proofs.Settled.{few-lines, short-taken, long-taken, refused}
 use borrow.Author.Needs.{needs}
@@ -50,18 +49,5 @@ returns-3 c =
 pub settle-book-spec : {M : Type 1} → statement M
 settle-book-spec =
     tie.close
-    (tie.spec
-    (λ c κs. search needs)
-    (λ c. search needs)
-    (λ c. search (length-take-le, needs))
-    (λ c κs. search needs)
-    (λ c. search needs)
-    (λ c. search needs)
-    returns
-    put-sums-requires
-    (λ c. search needs)
-    (λ c. search needs)
-    (λ c. search needs)
-    returns-2
-    (λ c. search needs)
-    returns-3)
+    (tie.spec (λ c κs. search needs) (λ c. search needs) (λ c. search (length-take-le, needs)) (λ c κs. search needs) (λ c. search needs)
+    (λ c. search needs) returns put-sums-requires (λ c. search needs) (λ c. search needs) (λ c. search needs) returns-2 (λ c. search needs) returns-3)

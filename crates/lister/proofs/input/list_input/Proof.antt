@@ -5,7 +5,7 @@ use mathlib.Core.Bool.{true}
 use mathlib.Core.List.{[]}
 use borrow.Author.Needs.{needs}
 use borrow.Author.Tests.{not-true, not-false}
-use Prim.Native.Nat.{_≤_, _+_, _-_}
+use Prim.Native.Nat.{_≤_, _-_}
 use native.Mathlib.Omega.{arith}
 use lib.ListN.{length, take}
 use Rattle.energy.proofs.Puts.{put-none}
@@ -68,7 +68,13 @@ loop-less c =
     omega (
       arith,
       forward (met d) (d .list-piece .ensures .0) (goes (c .before))
-          (omega (arith, d .before .before .before .before .before .before .fill .kept, d .before .before .before .before .before .before .before .before .loop .inv .2, start .pre)),
+          (omega (
+            arith,
+            d .before .before .before .before .before .before .fill .kept,
+            d .before .before .before .before .before .before .before .before
+                .loop .inv .2,
+            start .pre,
+          )),
     )
 
 loop-again : tie.Need-loop-again Inv-loop μ-loop
@@ -104,15 +110,5 @@ same-length-2 c =
 pub list-input-spec : {M : Type 1} → statement M
 list-input-spec =
     tie.close
-    (tie.spec
-    Inv-loop
-    μ-loop
-    (λ c κs. search needs)
-    loop-holds
-    (λ c κs. search needs)
-    list-piece-requires
-    same-length
-    same-length-2
-    returns
-    loop-less
+    (tie.spec Inv-loop μ-loop (λ c κs. search needs) loop-holds (λ c κs. search needs) list-piece-requires same-length same-length-2 returns loop-less
     loop-again)

@@ -33,11 +33,4 @@ returns-2 c =
 pub put-answer-spec : {M : Type 1} → statement M
 put-answer-spec =
     tie.close
-    (tie.spec
-    (λ c. search needs)
-    put-refusal-requires
-    (λ c. search needs)
-    listed-requires
-    put-settlement-requires
-    returns
-    returns-2)
+    (tie.spec (λ c. search needs) put-refusal-requires (λ c. search needs) listed-requires put-settlement-requires returns returns-2)

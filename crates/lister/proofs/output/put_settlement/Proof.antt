@@ -18,10 +18,4 @@ returns-2 c = rw (c .before .before .enum-told .given .1) (c .put-listing .ensur
 pub put-settlement-spec : {M : Type 1} → statement M
 put-settlement-spec =
     tie.close
-    (tie.spec
-    (λ c. search needs)
-    put-refusal-requires
-    (λ c. search needs)
-    put-listing-requires
-    returns
-    returns-2)
+    (tie.spec (λ c. search needs) put-refusal-requires (λ c. search needs) put-listing-requires returns returns-2)

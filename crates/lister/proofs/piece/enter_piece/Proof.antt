@@ -49,13 +49,5 @@ returns c =
 pub enter-piece-spec : {M : Type 1} → statement M
 enter-piece-spec =
     tie.close
-    (tie.spec
-    (λ c. search needs)
-    slice-aggregate-load
-    (λ c κs. search needs)
-    (λ c κs. search needs)
-    keep-requires
-    add-t19
-    (λ c. search needs)
-    (λ c. search needs)
-    returns)
+    (tie.spec (λ c. search needs) slice-aggregate-load (λ c κs. search needs) (λ c κs. search needs) keep-requires add-t19 (λ c. search needs)
+    (λ c. search needs) returns)

@@ -20,16 +20,16 @@ returns c =
     let a = s .args in
     subst (Prepares (a .b) (lent (a .meter .now)) (a .room)) (sym (c .refuse .ensures))
     (refused (a .b) (lent (a .meter .now)) (a .room) 11 (is-11 (a .b) (lent (a .meter .now)) (a .room)
-    (sym (s .pre) ∙ not-true (a .left) (c .before .if1 .taken))))
+    (sym (s .pre) ∙ not-true (a .soundness) (c .before .if1 .taken))))
 
-left-sound : (c : tie.Else1) → sound (c .before .args .b) ≡ true
-left-sound c = sym (c .before .pre) ∙ not-false (c .before .args .left) (c .if1 .left)
+book-sound : (c : tie.Else1) → sound (c .before .args .b) ≡ true
+book-sound c = sym (c .before .pre) ∙ not-false (c .before .args .soundness) (c .if1 .left)
 
 returns-2 : tie.Need-returns-2
 returns-2 c =
     let a = c .before .before .before .before .args in
     subst (Prepares (a .b) (lent (a .meter .now)) (a .room)) (sym (c .refuse2 .ensures))
-    (refused (a .b) (lent (a .meter .now)) (a .room) 15 (is-15 (a .b) (lent (a .meter .now)) (a .room) (left-sound (c .before .before .before))
+    (refused (a .b) (lent (a .meter .now)) (a .room) 15 (is-15 (a .b) (lent (a .meter .now)) (a .room) (book-sound (c .before .before .before))
     (omega (arith, c .before .before .cells .ensures, c .before .if2 .taken))))
 
 returns-3 : tie.Need-returns-3
@@ -38,11 +38,11 @@ returns-3 c =
     let h : bookCells (a .b) ≤ length (a .meter .now) = omega (arith, c .before .before .before .cells .ensures, c .before .before .if2 .left) in
     subst (Prepares (a .b) (lent (a .meter .now)) (a .room)) (sym (c .refuse3 .ensures))
     (refused (a .b) (lent (a .meter .now)) (a .room) 24 (is-24 (a .b) (lent (a .meter .now)) (a .room)
-    (left-sound (c .before .before .before .before)) h (not-true (a .b .closed) (c .before .if3 .taken))))
+    (book-sound (c .before .before .before .before)) h (not-true (a .b .closed) (c .before .if3 .taken))))
 
 check-lines-requires : tie.Need-check-lines-requires
 check-lines-requires c κs = (
-  left-sound (c .before .before .before),
+  book-sound (c .before .before .before),
   not-false (c .before .before .before .before .args .b .closed) (c .if3 .left),
   omega
       (arith, c .before .before .cells .ensures, c .before .if2 .left),
@@ -51,13 +51,5 @@ check-lines-requires c κs = (
 pub check-book-spec : {M : Type 1} → statement M
 check-book-spec =
     tie.close
-    (tie.spec
-    (λ c κs. search needs)
-    returns
-    (λ c κs. search needs)
-    (λ c κs. search needs)
-    returns-2
-    (λ c κs. search needs)
-    returns-3
-    check-lines-requires
-    (λ c. search needs))
+    (tie.spec (λ c κs. search needs) returns (λ c κs. search needs) (λ c κs. search needs) returns-2 (λ c κs. search needs) returns-3
+    check-lines-requires (λ c. search needs))

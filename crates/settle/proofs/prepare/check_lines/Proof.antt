@@ -1,6 +1,5 @@
 -- `settle::prepare::check_lines` meets its contract: the survey is the rules' (`SurveyRules`), so 25 and 26 are theirs; else what is laid out settles
--- (`Outcome`).
--- Assumes nothing.
+-- (`Outcome`). Assumes nothing.
 use mathlib.Core.Path.{_≡_, sym, _∙_, ap, subst}
 use mathlib.Core.Bool.{true, false}
 use mathlib.Core.List.{List}
@@ -86,7 +85,7 @@ module _ (s : tie.Start) where
 terms-of-requires : tie.Need-terms-of-requires
 terms-of-requires c κs =
     let k = book (c .before .before) .contract in
-    ((k .kw .1, ap down (k .plain)), omega (arith, k .rise, k .response), k .fall)
+    ((k .kw .1, ap down (k .plain)), omega (arith, k .rampStart, k .response), k .fall)
 
 survey-all-requires : tie.Need-survey-all-requires
 survey-all-requires c κs =
@@ -145,14 +144,5 @@ returns-3 c =
 pub check-lines-spec : {M : Type 1} → statement M
 check-lines-spec =
     tie.close
-    (tie.spec
-    terms-of-requires
-    (λ c κs. search needs)
-    (λ c. search needs)
-    survey-all-requires
-    (λ c κs. search needs)
-    returns
-    (λ c κs. search needs)
-    returns-2
-    lay-out-requires
-    returns-3)
+    (tie.spec terms-of-requires (λ c κs. search needs) (λ c. search needs) survey-all-requires (λ c κs. search needs) returns (λ c κs. search needs)
+    returns-2 lay-out-requires returns-3)

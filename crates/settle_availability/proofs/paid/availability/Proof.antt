@@ -70,13 +70,5 @@ returns c =
 pub availability-spec : {M : Type 1} → statement M
 availability-spec =
     tie.close
-    (tie.spec
-    (λ c. search needs)
-    (λ c. search needs)
-    mark-defaults-requires
-    (λ c. search needs)
-    (λ c κs. search needs)
-    period-pence-requires
-    (λ c. search needs)
-    entries-of-requires
-    returns)
+    (tie.spec (λ c. search needs) (λ c. search needs) mark-defaults-requires (λ c. search needs) (λ c κs. search needs) period-pence-requires
+    (λ c. search needs) entries-of-requires returns)

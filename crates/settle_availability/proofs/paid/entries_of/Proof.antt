@@ -105,23 +105,6 @@ returns c =
 pub entries-of-spec : {M : Type 1} → statement M
 entries-of-spec =
     tie.close
-    (tie.spec
-    Inv-loop
-    μ-loop
-    loop-holds
-    (λ c. search needs)
-    (λ c. search needs)
-    (λ c κs. search needs)
-    (λ c κs. search needs)
-    number-at-requires
-    (λ c. search needs)
-    paid-periods-requires
-    entry-of-requires
-    (λ c. search needs)
-    (λ c. search needs)
-    add-total
-    (λ c. search needs)
-    (λ c. search needs)
-    loop-again
-    times-requires
-    returns)
+    (tie.spec Inv-loop μ-loop loop-holds (λ c. search needs) (λ c. search needs) (λ c κs. search needs) (λ c κs. search needs) number-at-requires
+    (λ c. search needs) paid-periods-requires entry-of-requires (λ c. search needs) (λ c. search needs) add-total (λ c. search needs)
+    (λ c. search needs) loop-again times-requires returns)

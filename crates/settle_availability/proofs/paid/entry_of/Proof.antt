@@ -2,7 +2,6 @@
 use mathlib.Core.Path.{ap}
 use native.Mathlib.Omega.{arith}
 use lib.IntN.{ℤ}
-use borrow.Author.Needs.{needs}
 use Rattle.settle_availability.specs.Paid.{entryOf}
 use Rattle.settle_availability.proofs.paid.entry_of.Statement.{statement}
 use Rattle.settle_availability.proofs.paid.entry_of.Tie as tie

@@ -1,6 +1,5 @@
 -- `settle_availability::paid::mark_default` meets its contract. What was found of the default, its window's number, the window and the places that it
--- reaches, is
--- told once for each place of the code that finds it; the laws of `Defaults` put it together. Assumes nothing.
+-- reaches, is told once for each place of the code that finds it; the laws of `Defaults` put it together. Assumes nothing.
 use mathlib.Core.Path.{_≡_, sym, _∙_, ap, subst}
 use Prim.Native.Nat.{ℕ, _-_, _<_}
 use native.Mathlib.Omega.{arith}
@@ -94,21 +93,6 @@ returns-3 c =
 pub mark-default-spec : {M : Type 1} → statement M
 mark-default-spec =
     tie.close
-    (tie.spec
-    (λ c κs. search needs)
-    number-at-requires
-    returns
-    (λ c. search needs)
-    mul-w
-    array-copy-out-w
-    (λ c κs. search needs)
-    (λ c κs. search needs)
-    mark-requires
-    (λ c κs. search needs)
-    (λ c. search needs)
-    slice-write-counted
-    (λ c. search needs)
-    (λ c. search needs)
-    returns-2
-    (λ c. search needs)
-    returns-3)
+    (tie.spec (λ c κs. search needs) number-at-requires returns (λ c. search needs) mul-w array-copy-out-w (λ c κs. search needs)
+    (λ c κs. search needs) mark-requires (λ c κs. search needs) (λ c. search needs) slice-write-counted (λ c. search needs) (λ c. search needs)
+    returns-2 (λ c. search needs) returns-3)

@@ -51,16 +51,5 @@ returns c =
 pub mark-defaults-spec : {M : Type 1} → statement M
 mark-defaults-spec =
     tie.close
-    (tie.spec
-    Inv-loop
-    μ-loop
-    loop-holds
-    (λ c. search needs)
-    (λ c. search needs)
-    mark-default-requires
-    (λ c. search needs)
-    (λ c. search needs)
-    loop-again
-    (λ c. search needs)
-    (λ c. search needs)
-    returns)
+    (tie.spec Inv-loop μ-loop loop-holds (λ c. search needs) (λ c. search needs) mark-default-requires (λ c. search needs) (λ c. search needs)
+    loop-again (λ c. search needs) (λ c. search needs) returns)

@@ -1,11 +1,9 @@
 -- `settle_availability::paid::reach_to` meets its contract, arm by arm. Assumes nothing.
-use mathlib.Core.Path.{_≡_, sym, ap}
-use mathlib.Core.Bool.{true, false}
+use mathlib.Core.Path.{sym, ap}
 use Prim.Native.Nat.{_+_}
 use native.Mathlib.Omega.{arith}
 use borrow.Author.Needs.{needs}
 use Rattle.energy.proofs.Tests.{eq-true, eq-false}
-use Rattle.commands.specs.Input.{from-to}
 use Rattle.commands.proofs.Input.{inside, below, above}
 use Rattle.settle_availability.proofs.paid.reach_to.Statement.{statement}
 use Rattle.settle_availability.proofs.paid.reach_to.Tie as tie

@@ -1,6 +1,6 @@
 -- `settle_lines::cursor::active_at` meets its contract. What the times are is told once, after the last of them is known. Assumes nothing.
 use mathlib.Core.Path.{_≡_, _∙_, ap, ap₂}
-use Prim.Native.Nat.{ℕ, _+_, _-_, _/_}
+use Prim.Native.Nat.{_+_, _-_}
 use native.Mathlib.Omega.{arith}
 use mir.Syntax.{w32}
 use mir.Val.{SFits}
@@ -102,18 +102,5 @@ returns c =
 pub active-at-spec : {M : Type 1} → statement M
 active-at-spec =
     tie.close
-    (tie.spec
-    issue-at-requires
-    cease-at-requires
-    expiry-of-requires
-    end-of-requires
-    base-from-requires
-    (λ c κs. search needs)
-    add-total
-    total-requires
-    (λ c κs. search needs)
-    shared-slice-read-early
-    sub-t22
-    (λ c κs. search needs)
-    shared-slice-read-late
-    returns)
+    (tie.spec issue-at-requires cease-at-requires expiry-of-requires end-of-requires base-from-requires (λ c κs. search needs) add-total
+    total-requires (λ c κs. search needs) shared-slice-read-early sub-t22 (λ c κs. search needs) shared-slice-read-late returns)

@@ -7,7 +7,7 @@ use borrow.Author.Needs.{needs}
 use mir.Syntax.{w32}
 use mir.Val.{SFits, toZ, ofZ}
 use mir.Facts.{toZ-ofZ}
-use Rattle.energy.specs.Energy.{Readable, kwh, payment, deliveredIn}
+use Rattle.energy.specs.Energy.{kwh, payment, deliveredIn}
 use Rattle.energy.specs.Number.{Within}
 use Rattle.energy.proofs.Integers.{fits-parts}
 use Rattle.settle_lines.proofs.Step.{line-made}
@@ -84,22 +84,6 @@ returns c =
 pub line-of-spec : {M : Type 1} → statement M
 line-of-spec =
     tie.close
-    (tie.spec
-    sub-t18
-    expected-requires
-    (λ c κs. search needs)
-    (λ c κs. search needs)
-    (λ c κs. search needs)
-    delivered-requires
-    (λ c κs. search needs)
-    (λ c κs. search needs)
-    rate-of-requires
-    price-of-requires
-    (λ c κs. search needs)
-    add-t22
-    cast-t19
-    (λ c κs. search needs)
-    add-t23
-    cast-t24
-    (λ c κs. search needs)
-    returns)
+    (tie.spec sub-t18 expected-requires (λ c κs. search needs) (λ c κs. search needs) (λ c κs. search needs) delivered-requires (λ c κs. search needs)
+    (λ c κs. search needs) rate-of-requires price-of-requires (λ c κs. search needs) add-t22 cast-t19 (λ c κs. search needs) add-t23 cast-t24
+    (λ c κs. search needs) returns)

@@ -1,11 +1,10 @@
 -- `settle_lines::cursor::rate_of` meets its contract: its test is the definition's, once the place is the minute's. Assumes nothing.
-use mathlib.Core.Path.{_≡_, refl, sym, _∙_, ap}
-use mathlib.Core.Bool.{Bool, true, false, cond, not, _&&_, _||_}
+use mathlib.Core.Path.{_≡_, sym, _∙_, ap}
+use mathlib.Core.Bool.{Bool, cond, not, _&&_, _||_}
 use Prim.Native.Nat.{ℕ, _/_}
 use native.Mathlib.Omega.{arith}
 use lib.Dec.{eqb, leb, ltb}
 use lib.ListN.{getD}
-use Rattle.rules.specs.declared.statement.Rate.{Rate}
 use Rattle.rules.specs.declared.statement.Rate.the-variants.{Utilisation, Optional}
 use Rattle.settle_lines.specs.Cursor.{rateBy}
 use borrow.Author.Needs.{needs}

@@ -62,12 +62,4 @@ returns-2 c =
 pub step-spec : {M : Type 1} → statement M
 step-spec =
     tie.close
-    (tie.spec
-    segment-end-requires
-    line-of-requires
-    moved-requires
-    returns
-    (λ c. search needs)
-    moved-requires-2
-    enter-requires
-    returns-2)
+    (tie.spec segment-end-requires line-of-requires moved-requires returns (λ c. search needs) moved-requires-2 enter-requires returns-2)

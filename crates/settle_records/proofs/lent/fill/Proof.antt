@@ -1,7 +1,6 @@
--- `settle_records::lent::fill` meets its contract: a walk of its MIR, by hand, with a loop. The borrow is opened once, before the first call, and closed
--- once, after the loop. Each turn calls `step` on the state, of which the proof knows only that it meets its contract, stores its line at element k, and
--- goes on with its state.
--- The invariant: k lines are stored, and the state is the one before line k. The variant: what is left of n.
+-- `settle_records::lent::fill` meets its contract: a walk of its MIR, by hand, with a loop. The borrow is opened once, before the first call, and
+-- closed once, after the loop. Each turn calls `step` on the state, of which the proof knows only that it meets its contract, stores its line at
+-- element k, and goes on with its state. The invariant: k lines are stored, and the state is the one before line k. The variant: what is left of n.
 -- Assumes nothing.
 use mathlib.Core.Path.{_≡_, refl, sym, _∙_, ap, subst}
 use Prim.Native.Nat.{ℕ, zero-le, _+_, _-_, _*_, _<_, _≤_, _^_}

@@ -1,8 +1,6 @@
--- `settle_records::lent::settle` meets its contract: a walk of its MIR, by hand. `prepare` decides before a record is written, `fill` stores the lines, and
--- `sum_up` adds their sums to the answer:
--- of the three the proof knows only that they meet their contracts. The borrow is given up for good, to `fill`. The two tables are locals, lent to `fill`
--- for a lifetime made for the call.
--- Assumes nothing.
+-- `settle_records::lent::settle` meets its contract: a walk of its MIR, by hand. `prepare` decides before a record is written, `fill` stores the
+-- lines, and `sum_up` adds their sums to the answer: of the three the proof knows only that they meet their contracts. The borrow is given up for
+-- good, to `fill`. The two tables are locals, lent to `fill` for a lifetime made for the call. Assumes nothing.
 use mathlib.Core.Path.{_≡_, refl, sym, _∙_, ap, subst}
 use Prim.Native.Nat.{ℕ, _<_, _^_}
 use mathlib.Core.List.{[], _∷_, List, map, map-id}
@@ -60,7 +58,7 @@ use Rattle.settle_lines.specs.Cursor.{steppedLine, stored}
 use Rattle.settle.specs.Prepared.{Prepares, lastCursor, summed}
 use Rattle.settle.proofs.Outcome.{settled-answer, settled-memory}
 use Rattle.settle_records.proofs.Walk.{big-lit}
-use Rattle.settle_records.proofs.Whole as array
+use Rattle.settle_records.proofs.LentArray as array
 use Rattle.rules.proofs.statement.Line as T
 use Rattle.book.proofs.Book as B
 use Rattle.book.proofs.Book.Laws as B′

@@ -1,6 +1,5 @@
--- `settle_records::listed::listed` meets its contract: a walk of its MIR, by hand. The local array is filled with blank lines, lent to `settle` as a slice
--- for a lifetime made for the call, and comes back with the lines in it; it is returned in a struct.
--- Assumes nothing.
+-- `settle_records::listed::listed` meets its contract: a walk of its MIR, by hand. The local array is filled with blank lines, lent to `settle` as a
+-- slice for a lifetime made for the call, and comes back with the lines in it; it is returned in a struct. Assumes nothing.
 use mathlib.Core.Path.{_≡_, refl, sym, subst}
 use Prim.Native.Nat.{ℕ, _<_}
 use mathlib.Core.List.{[], _∷_, List}
@@ -54,7 +53,7 @@ use Rattle.settle.specs.declared.Settlement.{Settlement}
 use Rattle.settle_records.specs.declared.Listing.{Listing}
 use Rattle.settle.specs.Settle.{settleBook}
 use Rattle.settle_records.specs.Listed.{noLine, listBook}
-use Rattle.settle_records.proofs.Whole as whole
+use Rattle.settle_records.proofs.LentArray as whole
 use Rattle.rules.proofs.statement.Line as T
 use Rattle.rules.proofs.statement.Line.Laws as T′
 use Rattle.book.proofs.Book as B

@@ -1,7 +1,6 @@
--- `test_script::month::settle_into` meets its contract: a walk of its MIR, by hand. The local array is filled with what the records hold before.
--- Its first n records are lent to `settle` as a slice for a lifetime made for the call, and come back with the lines in them; joined with the rest
--- they are returned in a struct.
--- Assumes nothing.
+-- `test_script::month::settle_into` meets its contract: a walk of its MIR, by hand. The local array is filled with what the records hold before. Its
+-- first n records are lent to `settle` as a slice for a lifetime made for the call, and come back with the lines in them; joined with the rest they
+-- are returned in a struct. Assumes nothing.
 use mathlib.Core.Path.{_≡_, refl, sym, _∙_, ap, subst}
 use Prim.Native.Nat.{ℕ, _<_, _≤_, _-_, _+_, _^_}
 use native.Mathlib.Nat.{lt-of-le-of-lt, mul-le-mul-right}
@@ -59,7 +58,7 @@ use Rattle.settle.specs.declared.Settlement.{Settlement}
 use Rattle.test_script.specs.declared.month.Month.{Month}
 use Rattle.settle.specs.Settle.{settleBook}
 use Rattle.test_script.specs.Month.{monthOf}
-use Rattle.settle_records.proofs.Whole as whole
+use Rattle.settle_records.proofs.LentArray as whole
 use Rattle.rules.proofs.statement.Line as T
 use Rattle.rules.proofs.statement.Line.Laws as T′
 use Rattle.book.proofs.Book as B

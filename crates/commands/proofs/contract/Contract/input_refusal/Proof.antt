@@ -26,11 +26,4 @@ returns-2 c =
 pub input-refusal-spec : {M : Type 1} → statement M
 input-refusal-spec =
     tie.close
-    (tie.spec
-    (λ c κs. search needs)
-    returns
-    (λ c κs. fits c)
-    (λ c κs. fits (c .before))
-    (λ c. search needs)
-    (λ c κs. search needs)
-    returns-2)
+    (tie.spec (λ c κs. search needs) returns (λ c κs. fits c) (λ c κs. fits (c .before)) (λ c. search needs) (λ c κs. search needs) returns-2)

@@ -1,7 +1,6 @@
--- `file_read::reader::Reader::read` meets its contract: a walk of its MIR, by hand. The struct is taken apart, `step_at` is called on the slice and the
--- position, and the reader after the command is made, beside the answer, in a second struct.
--- All that the proof knows of `step_at` is that it meets its contract. The struct is Copy: what it owns is had twice more, for the callee and for the
--- result, and one copy is kept whole for the exit.
+-- `file_read::reader::Reader::read` meets its contract: a walk of its MIR, by hand. The struct is taken apart, `step_at` is called on the slice and
+-- the position, and the reader after the command is made, beside the answer, in a second struct. All that the proof knows of `step_at` is that it
+-- meets its contract. The struct is Copy: what it owns is had twice more, for the callee and for the result, and one copy is kept whole for the exit.
 -- Assumes nothing.
 use mathlib.Core.Path.{_≡_, refl, ap, subst}
 use Prim.Native.Nat.{_<_, _^_}
@@ -20,9 +19,11 @@ use ghost.Atoms.{Atoms, sem}
 use contract.Lifetimes.{Lfts}
 use contract.Monad.{Fun, fact}
 use contract.Running.{givenOf, tables, tablesOf}
-use types.Kit.{Given, ‵, raw, _⊛_, given, ⋆, some, later, _$_, _∵_, !, qed, by, move, drop, use1, use2, split, join, learn, pick, rewrite, fsplit, fjoin, suffices, frame, await, done}
+use types.Kit.{Given, ‵, raw, _⊛_, given, ⋆, some, later, _$_, _∵_, !, qed, by, move, drop, use1, use2, split, join, learn, pick, rewrite, fsplit}
+use types.Kit.{fjoin, suffices, frame, await, done}
 use types.Part.{whole, sub, look-in, agg}
-use types.Run.{look, init, forget, stop, fld, from, load, of-opd, and-then, no-more, assigns, land, returns, enter, alloc1, alloc0, params1, pass1, pass0, free1, free0}
+use types.Run.{look, init, forget, stop, fld, from, load, of-opd, and-then, no-more, assigns, land, returns, enter, alloc1, alloc0, params1, pass1}
+use types.Run.{pass0, free1, free0}
 use sound.WpLaws.{FmC, fmOf, WpFn-mono}
 use denote.RattleType.{RattleType, owns}
 use denote.Laws.{Is, shows}

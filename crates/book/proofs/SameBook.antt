@@ -16,8 +16,8 @@ use Rattle.rules.specs.Ledger.{noWindow, noInstruction, noDefault}
 use Rattle.book_sound.specs.Unused.{isNoWindow, isNoInstruction, isNoDefault}
 use Rattle.book.specs.Sound.{sound, Shaped}
 use Rattle.book.specs.declared.Book.{Book}
-use Rattle.book.proofs.Tested.{Tables, sound-parts}
-pub use Rattle.book.proofs.Tested.{empty-contract}
+use Rattle.book.proofs.SoundTests.{Tables, sound-parts}
+pub use Rattle.book.proofs.SoundTests.{empty-contract}
 
 -- ---- a table is fixed by its entries in use
 

@@ -11,7 +11,7 @@ use lib.Dec.{T, eqb→eq}
 use borrow.Author.Tests.{eq-eqb, ne-eqb}
 use Rattle.energy.specs.Lists.{filter, run, between}
 use Rattle.commands.specs.Input.{upMinutes}
-use Rattle.rules.specs.Ledger.{Ledger, ledgerOf, contractOf, spanIn, rise, endOf}
+use Rattle.rules.specs.Ledger.{Ledger, ledgerOf, contractOf, spanIn, rampStart, endOf}
 use Rattle.rules.specs.Refusal.{taken}
 use Rattle.rules.specs.Segment.{alike, heads, active, Segment, segmentsOf, segmentsFrom, segments}
 use Rattle.rules.specs.Reached.{instructionsSound, Reached}
@@ -29,11 +29,11 @@ use Rattle.rules.proofs.Partition.{segmentFrom, From, segment-from, hea
 
 -- they have the rank of its head, and are active
 in-segment : (k : Contract) (i : Instruction) (x m : ℕ) → List·Memᴰ m (filter (alike k i x) (active k i))
-    → (rankOf k i x ≡ rankOf k i m) × (rise k i ≤ m) × (m < endOf k i)
+    → (rankOf k i x ≡ rankOf k i m) × (rampStart k i ≤ m) × (m < endOf k i)
 unfolding active between
 in-segment k i x m h =
-    let q = kept-was (alike k i x) (run (rise k i) (endOf k i - rise k i)) h in
-    let r = in-run (endOf k i - rise k i) (rise k i) m (q .0) in
+    let q = kept-was (alike k i x) (run (rampStart k i) (endOf k i - rampStart k i)) h in
+    let r = in-run (endOf k i - rampStart k i) (rampStart k i) m (q .0) in
     (eqb→eq (rankOf k i x) (rankOf k i m) (subst (λ b. T b) (alike-rank k i x m) (q .1)), r .0, omega (arith, r .0, r .1))
 
 -- the first of its rank is above every rank before it
@@ -50,7 +50,8 @@ head-has : (k : Contract) (i : Instruction) (x : ℕ) → List·Memᴰ x (heads 
 unfolding active between
 head-has k i x h =
     let a = head-active k i x h in
-    was-kept (alike k i x) (run (rise k i) (endOf k i - rise k i)) (run-has (endOf k i - rise k i) (rise k i) x (a .0) (omega (arith, a .1)))
+    was-kept (alike k i x) (run (rampStart k i) (endOf k i - rampStart k i)) (run-has (endOf k i - rampStart k i) (rampStart k i) x (a .0)
+    (omega (arith, a .1)))
     (alike-rank k i x x ∙ eq-eqb (rankOf k i x) (rankOf k i x) refl)
 
 -- and the first of it
@@ -62,7 +63,7 @@ head-first k i x m h q = go (decLe x m)
     go (no d) =
         let a = head-active k i x h in
         let b = in-segment k i x m q in
-        absurd (omega (arith, b .0, head-above (rankOf k i) (rank-mono k i) (rise k i) x m (b .1) (omega (arith, d)) (a .2)))
+        absurd (omega (arith, b .0, head-above (rankOf k i) (rank-mono k i) (rampStart k i) x m (b .1) (omega (arith, d)) (a .2)))
 
 -- ---- the segments of one instruction
 
@@ -77,9 +78,9 @@ heads-apart k i x y m n l p q = go (decLt m n)
 
 module _ (k : Contract) (n : ℕ) (i : Instruction) where
   abbrev test : ℕ → Bool
-  test = headTest (rankOf k i) (rise k i)
+  test = headTest (rankOf k i) (rampStart k i)
 
-  run-order : (u a : ℕ) → rise k i ≤ a → InOrder (map (segmentFrom k n i) (filter test (run a u)))
+  run-order : (u a : ℕ) → rampStart k i ≤ a → InOrder (map (segmentFrom k n i) (filter test (run a u)))
   unfolding InOrder run
   run-order zero a h = unfold filter in tt
   run-order (suc u) a h =
@@ -92,12 +93,13 @@ module _ (k : Contract) (n : ℕ) (i : Instruction) where
           let (b, s, e) = Memᴰ·of-map (segmentFrom k n i) (filter test (run (suc a) u)) q in
           let w = kept-was test (run (suc a) u) s in
           let v = in-run u (suc a) b (w .0) in
-          heads-apart k i a b x y (head-above (rankOf k i) (rank-mono k i) (rise k i) b a h (omega (arith, v .0)) (w .1)) p
+          heads-apart k i a b x y (head-above (rankOf k i) (rank-mono k i) (rampStart k i) b a h (omega (arith, v .0)) (w .1)) p
           (subst (λ (t : Segment). List·Memᴰ y (t .minutes)) (sym e) r)
 
   pub order-of : InOrder (segmentsOf k n i)
   unfolding segmentsOf active between
-  order-of = subst (λ l. InOrder (map (segmentFrom k n i) l)) (sym (heads-rank k i)) (run-order (endOf k i - rise k i) (rise k i) (le-refl (rise k i)))
+  order-of = subst (λ l. InOrder (map (segmentFrom k n i) l)) (sym (heads-rank k i)) (run-order (endOf k i - rampStart k i) (rampStart k i)
+      (le-refl (rampStart k i)))
 
 -- ---- over all instructions
 
@@ -114,7 +116,7 @@ order-append (s ∷ ss) ts p q h = (
 
 -- the minutes of the segments of one instruction
 minutes-of : (k : Contract) (n : ℕ) (i : Instruction) (s : Segment) → List·Memᴰ s (segmentsOf k n i) → (m : ℕ) → List·Memᴰ m (s .minutes)
-    → (rise k i ≤ m) × (m < endOf k i)
+    → (rampStart k i ≤ m) × (m < endOf k i)
 unfolding segmentsOf
 minutes-of k n i s h m q =
     let (x, r, e) = Memᴰ·of-map (segmentFrom k n i) (heads k i) h in

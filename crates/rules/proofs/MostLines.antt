@@ -9,7 +9,7 @@ use Rattle.rules.specs.Refusal.{taken}
 use Rattle.rules.specs.Lines.{LinesMet·theorem}
 use Rattle.commands.specs.declared.entries.Command.{Command}
 use Rattle.commands.specs.declared.entries.Command.the-variants.{Contract as contractᶜ, Instruction as instructionᶜ}
-use Rattle.rules.proofs.Opened.{opened}
+use Rattle.rules.proofs.Definitions.{opened}
 use Rattle.rules.specs.Cuts.{touched}
 use Rattle.rules.proofs.Reached.{reached}
 use Rattle.rules.proofs.LineBound.{touches, lines-count}

@@ -22,7 +22,6 @@ use Rattle.book.specs.Book.{bookCells, putBook}
 use Rattle.book.specs.Enter.{Enters, EntersAt, enterBook, takenAs, refusedAs}
 use Rattle.book.specs.Sound.{sound}
 use Rattle.book.specs.declared.Book.{Book}
-use Rattle.book.specs.declared.Entry.{Entry}
 use Rattle.book.proofs.Refusals.{anyOf, ownOf, asked, by-any, asked-none}
 
 -- ---- where no condition up to 15 holds

@@ -1,4 +1,4 @@
--- A reading as the bytes say it, its kW raised and lowered again: the same reading where a cellReading takes it, and none where none does.
+-- A reading as the bytes say it, its kW raised and lowered again: the same reading where a cell takes it, and none where none does.
 use mathlib.Core.Path.{_≡_, refl, sym, ap, _∙_}
 use mathlib.Core.Bool.{Bool, true, false, cond}
 use mathlib.Core.List.{List, [], _∷_}
@@ -18,8 +18,8 @@ use Rattle.commands.proofs.Input.{input-none}
 use Rattle.rules.specs.File.{table, widthsOf, total, operands, wordFrom, signedOf, commandOf, readAt}
 use Rattle.rules.specs.declared.file.Read.the-variants.{Got}
 use Rattle.book_memory.specs.Meter.{cellReading, putMeter, takesReading, Memory}
-use Rattle.book_memory.proofs.Taking.{taken-fits}
-use Rattle.file_read.proofs.Found.{entire, found-reads}
+use Rattle.book_memory.proofs.TakenReading.{taken-fits}
+use Rattle.file_read.proofs.Finds.{entire, found-reads}
 use Rattle.file_load.specs.Turn.{Stand, standAt}
 
 -- ---- the kW

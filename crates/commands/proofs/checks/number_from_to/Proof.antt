@@ -1,0 +1,10 @@
+-- `commands::checks::number_from_to` meets its contract: the code is its definition.
+use borrow.Author.Needs.{needs}
+use Rattle.commands.proofs.checks.number_from_to.Statement.{statement}
+use Rattle.commands.proofs.checks.number_from_to.Tie as tie
+
+returns : tie.Need-returns
+returns c = search needs
+
+pub number-from-to-spec : {M : Type 1} → statement M
+number-from-to-spec = tie.close (tie.spec returns)
