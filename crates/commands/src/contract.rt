@@ -9,6 +9,8 @@ use crate::checks::kw_from_to;
 use crate::checks::minutes_from_to;
 use crate::checks::number_from_to;
 use crate::checks::pick;
+use energy::limits;
+use energy::limits::KW_MOST;
 use energy::ramp::ramp_minutes;
 use energy::units::Kw;
 use energy::units::Minutes;
@@ -55,7 +57,7 @@ impl Contract {
 
     pub const CONTRACTED_LEAST: Kw = Kw(3000);
 
-    pub const CONTRACTED_MOST: Kw = Kw(500000);
+    pub const CONTRACTED_MOST: Kw = Kw(KW_MOST);
 
     // kW a minute
     pub const RAMP_LEAST: u32 = 1;
@@ -76,7 +78,7 @@ impl Contract {
     // pence per MWh
     pub const RATE_LEAST: u32 = 0;
 
-    pub const RATE_MOST: u32 = 1000000;
+    pub const RATE_MOST: u32 = limits::RATE_MOST;
 
     // window start and end, cease, and default and reading minutes
     pub const MINUTE_LEAST: Minutes = Minutes(0);
@@ -106,12 +108,15 @@ impl Contract {
 
     pub const REACH_WINDOW_END: u8 = 3;
 
-    pub const READING_LEAST: Kw = Kw(-500000);
+    pub const READING_LEAST: Kw = Kw(-KW_MOST);
 
-    pub const READING_MOST: Kw = Kw(500000);
+    pub const READING_MOST: Kw = Kw(KW_MOST);
 
     // marks a minute without a reading
     pub const NO_READING: i32 = -2147483648;
+
+    // P: the windows at fault that lower what a period is paid
+    pub const P_MOST: u32 = limits::P_MOST;
 
     pub const WINDOWS_MOST: usize = 128;
 

@@ -1,4 +1,4 @@
-// How large the numbers are that are paid for. The contract's limits of kW and rates are these (`commands::contract`), and what a segment delivers follows.
+// How large the numbers are that are paid for. The contract names these as its limits (`commands::contract`), and what a segment delivers follows.
 
 // contracted kW, and readings either way
 pub const KW_MOST: i64 = 500000;

@@ -13,7 +13,6 @@ ghost use Rattle.settle_availability.specs.Paid.{entryOf, marked, mostPe
 use commands::contract::Contract;
 use commands::entries::Default;
 use commands::entries::Window;
-use energy::limits::P_MOST;
 use energy::money::period_pence;
 use energy::units::Kw;
 use energy::units::Pence;
@@ -140,10 +139,10 @@ fn penalty(counted: &[u8], n: usize) -> u32
         }
         i += 1;
     }
-    if count < P_MOST {
+    if count < Contract::P_MOST {
         return count;
     }
-    P_MOST
+    Contract::P_MOST
 }
 
 // The places from `from` to `to` - 1 that are not reached.
