@@ -7,12 +7,15 @@ ghost use lib.Dec.{T};
 ghost use lib.ListN.{length, set, drop, replicate};
 ghost use Rattle.commands.specs.Input.{isReading};
 ghost use Rattle.book_memory.specs.Meter.{missing, lent, kwAt, putMeter, takesReading};
-use commands::checks::kw_from_to;
 use commands::contract::Contract;
 use commands::entries::Command;
 use commands::entries::Reading;
-use energy::units::Kw;
 use energy::units::Minutes;
+
+// The range of a reading, in a cell's type.
+const LEAST: i32 = Contract::READING_LEAST.0 as i32;
+
+const MOST: i32 = Contract::READING_MOST.0 as i32;
 
 // Takes a reading into a sound book whose open span this is, and says whether it did. A reading that the book refuses, and every other
 // command, is left for `enter_known`, which has the number. A month has 44,640 readings, and none of them changes the book: handing it
@@ -57,25 +60,26 @@ fn is_taken(span: usize, r: Reading, meter: &[i32]) -> bool
 pub fn has_reading(meter: &[i32], m: Minutes) -> bool
     ensures { λ r. ⌜ r ≡ isReading (kwAt (lent (now (meter .entry))) (m .0)) ⌝ }
 {
-    is_reading(kw_at(meter, m))
+    holds_reading(cell_at(meter, m))
 }
 
-// Whether a kW is a reading: in its range, which the mark of a minute without one is not.
-pub fn is_reading(kw: Kw) -> bool
-    ensures { λ r. ⌜ r ≡ isReading (kw .0) ⌝ }
+// Whether a cell holds a reading: a kW in a reading's range, which the mark of a minute without one is not. In the cell's own type, so that
+// a loop over cells tests several at a time.
+pub fn holds_reading(cell: i32) -> bool
+    ensures { λ r. ⌜ r ≡ isReading cell ⌝ }
 {
-    kw_from_to(Contract::READING_LEAST, Contract::READING_MOST, kw)
+    (LEAST <= cell) & (cell <= MOST)
 }
 
-// The kW in a minute's cell, which past the end counts as marked.
-fn kw_at(meter: &[i32], m: Minutes) -> Kw
-    ensures { λ r. ⌜ r .0 ≡ kwAt (lent (now (meter .entry))) (m .0) ⌝ }
+// A minute's cell, which past the end counts as marked.
+fn cell_at(meter: &[i32], m: Minutes) -> i32
+    ensures { λ r. ⌜ r ≡ kwAt (lent (now (meter .entry))) (m .0) ⌝ }
 {
     let at = m.0 as usize;
     if at < meter.len() {
-        Kw(meter[at] as i64)
+        meter[at]
     } else {
-        Kw(Contract::NO_READING as i64)
+        Contract::NO_READING
     }
 }
 

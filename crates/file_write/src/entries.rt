@@ -1,12 +1,10 @@
-// What a book is written as: the entries of its tables as commands, and the cells of meter memory.
+// What a book is written as: the entries of its tables as commands.
 ghost use mathlib.Core.Path.{_≡_};
 ghost use Prim.Native.Nat.{_<_};
 ghost use lib.ListN.{length, getD};
-ghost use Rattle.book_memory.specs.Meter.{missing};
 ghost use Rattle.file_write.specs.Laid.{placesIn, usedIn};
 use book::Book;
 use commands::entries::Command;
-use energy::units::Kw;
 
 // A table of a book.
 pub(crate) enum Table {
@@ -45,12 +43,4 @@ pub(crate) fn entry(b: Book, table: Table, i: usize) -> Command
             Command::Default(d)
         }
     }
-}
-
-// The kW in a minute's cell.
-pub(crate) fn kw_at(meter: &[i32], m: usize) -> Kw
-    requires { ⌜ m < length (now meter) ⌝ }
-    ensures { λ r. ⌜ r .0 ≡ getD (now (meter .entry)) m missing ⌝ }
-{
-    Kw(meter[m] as i64)
 }

@@ -8,10 +8,9 @@ ghost use Rattle.book_memory.specs.Meter.{cellReading, lent, roomIn};
 ghost use Rattle.file_write.specs.Laid.{Room, Laid, entries, Tabled, readings, parts, Kept};
 use crate::entries::Table;
 use crate::entries::entry;
-use crate::entries::kw_at;
 use crate::entries::used;
 use book::Book;
-use book_memory::is_reading;
+use book_memory::holds_reading;
 use commands::entries::Command;
 use commands::entries::Reading;
 use energy::units::Kw;
@@ -53,15 +52,15 @@ fn put_table(b: Book, table: Table, out: &mut [u8], at: usize) -> usize
 }
 
 // The reading of a minute, if its cell holds one.
-fn put_cell(minute: Minutes, kw: Kw, out: &mut [u8], at: usize) -> usize
-    requires { ⌜ Room (readingAt (cellReading (kw .0)) (minute .0)) (now out) at ⌝ }
-    ensures { λ r. ⌜ Laid (readingAt (cellReading (kw .0)) (minute .0)) (now (out .entry)) at (now (out .exit)) r ⌝ }
+fn put_cell(minute: Minutes, cell: i32, out: &mut [u8], at: usize) -> usize
+    requires { ⌜ Room (readingAt (cellReading cell) (minute .0)) (now out) at ⌝ }
+    ensures { λ r. ⌜ Laid (readingAt (cellReading cell) (minute .0)) (now (out .entry)) at (now (out .exit)) r ⌝ }
 {
     let reading = Reading {
         minute: minute,
-        kw: kw,
+        kw: Kw(cell as i64),
     };
-    put_if(is_reading(kw), Command::Reading(reading), out, at)
+    put_if(holds_reading(cell), Command::Reading(reading), out, at)
 }
 
 // The readings of the first minutes, by rising minute.
@@ -73,7 +72,7 @@ fn put_readings(meter: &[i32], span: usize, out: &mut [u8], at: usize) -> usize
     let mut m: usize = 0;
     while m < span {
         let minute = Minutes(m as u16);
-        place = put_cell(minute, kw_at(meter, m), out, place);
+        place = put_cell(minute, meter[m], out, place);
         m += 1;
     }
     place

@@ -9,10 +9,9 @@ ghost use Rattle.rules.specs.File.{write};
 ghost use Rattle.file_write.specs.Laid.{fileBytes, entries, Tabled, readings, parts, Kept};
 use crate::entries::Table;
 use crate::entries::entry;
-use crate::entries::kw_at;
 use crate::entries::used;
 use book::Book;
-use book_memory::is_reading;
+use book_memory::holds_reading;
 use commands::entries::Command;
 use commands::entries::Reading;
 use energy::units::Kw;
@@ -49,7 +48,7 @@ fn readings_in(meter: &[i32], span: usize) -> usize
     let mut n: usize = 0;
     let mut minute: usize = 0;
     while minute < span {
-        n += once(is_reading(kw_at(meter, minute)));
+        n += once(holds_reading(meter[minute]));
         minute += 1;
     }
     n

@@ -5,7 +5,7 @@ ghost use lib.ListN.{length};
 ghost use Rattle.energy.specs.Lists.{all, between};
 ghost use Rattle.rules.specs.Cuts.{touched as touchedOf};
 ghost use Rattle.settle_survey.specs.Survey.{Laid, has, surveyOf, surveyTo};
-use commands::contract::Contract;
+use book_memory::holds_reading;
 use energy::units::Minutes;
 use settle_terms::Terms;
 use settle_terms::minutes::cell_of;
@@ -16,11 +16,6 @@ use settle_terms::times::end_of;
 use settle_terms::times::expiry_of;
 use settle_terms::times::issue_at;
 use settle_terms::times::start_of;
-
-// The range of a reading, in a cell's type.
-const LEAST: i32 = Contract::READING_LEAST.0 as i32;
-
-const MOST: i32 = Contract::READING_MOST.0 as i32;
 
 // Of the instructions so far: whether all their readings are there, and the number of their segments.
 pub struct Survey {
@@ -37,7 +32,7 @@ fn all_read(meter: &[i32], from: usize, to: usize) -> bool
     let mut i = from;
     while i < to {
         let x = meter[i];
-        ok = ok & ((LEAST <= x) & (x <= MOST));
+        ok = ok & holds_reading(x);
         i += 1;
     }
     ok

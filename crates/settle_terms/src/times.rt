@@ -6,6 +6,7 @@ ghost use lib.ListN.{length};
 ghost use Rattle.settle_terms.specs.Terms.{Timed, ceaseOf, issueOf};
 use commands::contract::Contract;
 use commands::entries::Instruction;
+use commands::entries::end_of as ending;
 use energy::units::Minutes;
 
 // The table of a book's instructions.
@@ -54,7 +55,7 @@ pub fn end_of(cease: Minutes, down: Minutes) -> Minutes
     requires { ⌜ cease .0 + down .0 < 65536 ⌝ }
     ensures { λ r. ⌜ r .0 ≡ cease .0 + down .0 ⌝ }
 {
-    Minutes(cease.0 + down.0)
+    Minutes(ending(cease, down.0 as u32) as u16)
 }
 
 // e - U: the first minute of the ramp up.

@@ -1,6 +1,5 @@
 -- `settle_survey::all_read` meets its contract. The test so far is that of the minutes passed. Assumes nothing.
 use mathlib.Core.Path.{_≡_, refl, sym, _∙_, ap}
-use mathlib.Core.Bool.{_&&_}
 use Prim.Native.Nat.{_-_, _≤_}
 use native.Mathlib.Omega.{arith}
 use lib.IntN.{pos}
@@ -11,6 +10,7 @@ use mir.Val.{SFits}
 use mir.Facts.{toZ-ofZ}
 use Rattle.energy.specs.Lists.{all, between}
 use Rattle.energy.proofs.Sums.{all-snoc, all-none}
+use Rattle.commands.specs.Input.{isReading}
 use Rattle.settle_survey.specs.Survey.{has}
 use Rattle.settle_survey.proofs.all_read.Statement.{statement}
 use Rattle.settle_survey.proofs.all_read.Tie as tie
@@ -26,12 +26,13 @@ loop-holds c = (omega arith, omega arith, sym (all-none (has (c .args .meter .no
 
 loop-again : tie.Need-loop-again Inv-loop μ-loop
 loop-again c =
-    let l = c .before .before in
-    let x : SFits w32 (getD (l .before .args .meter .now) (l .loop .i) (pos 0)) = record { sfits = c .x .given } in (
+    let l = c .before .before .before in
+    let meter = l .before .args .meter .now in
+    let x : SFits w32 (getD meter (l .loop .i) (pos 0)) = search needs in
+    let one : c .holds-reading .result ≡ has meter (l .loop .i) = c .holds-reading .ensures ∙ ap isReading (toZ-ofZ x) in (
       omega arith,
       omega arith,
-      simp toZ-ofZ (ap (λ b. b && has (l .before .args .meter .now) (l .loop .i)) (l .loop .inv .2)
-          ∙ sym (all-snoc (has (l .before .args .meter .now)) (l .before .args .from) (l .loop .i) (l .loop .inv .0))),
+      rw (l .loop .inv .2, one) (sym (all-snoc (has meter) (l .before .args .from) (l .loop .i) (l .loop .inv .0))),
     )
 
 returns : tie.Need-returns Inv-loop μ-loop
@@ -39,4 +40,4 @@ returns c = let e : c .before .loop .i ≡ c .before .before .args .to = omega a
 
 pub all-read-spec : {M : Type 1} → statement M
 all-read-spec =
-    tie.close (tie.spec Inv-loop μ-loop loop-holds (λ c. search needs) (λ c. search needs) (λ c. search needs) (λ c. search needs) loop-again returns)
+    tie.close (tie.spec Inv-loop μ-loop loop-holds (λ c. search needs) (λ c. search needs) (λ c κs. search needs) (λ c. search needs) (λ c. search needs) loop-again returns)

@@ -3,7 +3,12 @@ use mathlib.Core.Path.{_≡_}
 use Prim.Native.Nat.{_-_, _≤_}
 use native.Mathlib.Omega.{arith}
 use borrow.Author.Needs.{needs}
-use Rattle.book_memory.specs.Meter.{lent}
+use lib.IntN.{pos}
+use lib.ListN.{getD}
+use mir.Syntax.{w32}
+use mir.Val.{toZ, ofZ}
+use Rattle.book_memory.specs.Meter.{lent, kwAt}
+use Rattle.book_memory.proofs.Cells.{cell-is}
 use Rattle.file_write.specs.Laid.{Laid, readings}
 use Rattle.file_write.proofs.WrittenLaid.{laid-none, laid-long, room-so, room-turn, laid-turn}
 use Rattle.file_write.proofs.WrittenParts.{readings-none, readings-turns}
@@ -22,14 +27,16 @@ loop-holds c = (search needs, rw (readings-none (lent (c .before .args .meter .n
 cast-t9 : tie.Need-cast-t9 Inv-loop μ-loop
 cast-t9 c = omega (arith, c .before .before .before .pre .1)
 
-kw-at-requires : tie.Need-kw-at-requires Inv-loop μ-loop
-kw-at-requires c κs = omega arith
+-- the cell of a minute of the span
+cell : (c : tie.After-put-cell-arg Inv-loop μ-loop) → let l = c .before .before in let cells = l .before .before .args .meter .now in
+    toZ w32 (ofZ w32 (getD cells (l .loop .m) (pos 0))) ≡ kwAt (lent cells) (l .loop .m)
+cell c = cell-is (c .before .before .before .before .args .meter .now) (c .before .before .loop .m) (search needs) (omega arith)
 
 put-cell-requires : tie.Need-put-cell-requires Inv-loop μ-loop
 put-cell-requires c κs =
     let l = c .before .before in
     let s = l .before .before .before in
-    rw (c .before .kw-at .ensures)
+    rw (cell (c .before))
     (room-turn (readings-turns (lent (s .args .meter .now)) (s .args .span)) (s .pre .2) (l .loop-test .taken) (l .before .loop .inv .1))
 
 loop-again : tie.Need-loop-again Inv-loop μ-loop
@@ -40,7 +47,7 @@ loop-again c =
     let s = l .before .before .before in (
       search needs,
       laid-turn (readings-turns (lent (s .args .meter .now)) (s .args .span)) (s .pre .2) (l .loop-test .taken) (l .before .loop .inv .1)
-          (rw (k .kw-at .ensures) at (p .put-cell .ensures)),
+          (rw (cell k) at (p .put-cell .ensures)),
     )
 
 same-length : tie.Need-same-length Inv-loop μ-loop
@@ -58,5 +65,5 @@ returns c =
 pub put-readings-spec : {M : Type 1} → statement M
 put-readings-spec =
     tie.close
-    (tie.spec Inv-loop μ-loop loop-holds cast-t9 kw-at-requires put-cell-requires (λ c. search needs) (λ c. search needs) loop-again same-length
+    (tie.spec Inv-loop μ-loop loop-holds cast-t9 (λ c. search needs) (λ c. search needs) put-cell-requires (λ c. search needs) (λ c. search needs) loop-again same-length
     returns)

@@ -5,6 +5,7 @@ use native.Mathlib.Omega.{arith}
 use borrow.Author.Needs.{needs}
 use lib.ListN.{length}
 use Rattle.book_memory.specs.Meter.{lent}
+use Rattle.book_memory.proofs.Cells.{cell-is}
 use Rattle.file_write.specs.Laid.{readings}
 use Rattle.file_write.proofs.WrittenParts.{once-most, readings-none, readings-count, readings-few}
 use Rattle.file_write.proofs.length.readings_in.Statement.{statement}
@@ -19,16 +20,13 @@ abbrev μ-loop : tie.MeasureT-loop
 loop-holds : tie.Need-loop-holds Inv-loop μ-loop
 loop-holds c = (search needs, sym (ap length (readings-none _)))
 
-kw-at-requires : tie.Need-kw-at-requires Inv-loop μ-loop
-kw-at-requires c κs = omega arith
-
 add-n : tie.Need-add-n Inv-loop μ-loop
 add-n c =
     let l = c .before .before .before .before in
     omega (
       arith,
       c .once .ensures,
-      once-most (c .before .is-reading .result),
+      once-most (c .before .holds-reading .result),
       readings-few (lent (l .before .args .meter .now)) (l .loop .minute),
       l .loop .inv .1,
       l .loop .inv .0,
@@ -37,10 +35,11 @@ add-n c =
 
 loop-again : tie.Need-loop-again Inv-loop μ-loop
 loop-again c =
-    let l = c .before .before .before .before in (
+    let l = c .before .before .before .before in
+    let cells = l .before .args .meter .now in
+    let cell = cell-is cells (l .loop .minute) (search needs) (omega arith) in (
       search needs,
-      rw (l .loop .inv .1, c .once .ensures, c .before .is-reading .ensures, c .before .before .kw-at .ensures)
-          (sym (readings-count (lent (l .before .args .meter .now)) (l .loop .minute))),
+      rw (l .loop .inv .1, c .once .ensures, c .before .holds-reading .ensures, cell) (sym (readings-count (lent cells) (l .loop .minute))),
     )
 
 returns : tie.Need-returns Inv-loop μ-loop
@@ -52,5 +51,5 @@ returns c =
 pub readings-in-spec : {M : Type 1} → statement M
 readings-in-spec =
     tie.close
-    (tie.spec Inv-loop μ-loop loop-holds kw-at-requires (λ c κs. search needs) (λ c κs. search needs) add-n (λ c. search needs) (λ c. search needs)
+    (tie.spec Inv-loop μ-loop loop-holds (λ c. search needs) (λ c. search needs) (λ c κs. search needs) (λ c κs. search needs) add-n (λ c. search needs) (λ c. search needs)
     loop-again returns)
