@@ -71,5 +71,5 @@ pub fn base_from(issue: Minutes) -> usize
     requires { ⌜ 3 ≤ issue .0 ⌝ }
     ensures { λ r. ⌜ r ≡ issue .0 - 3 ⌝ }
 {
-    (issue.0 - 3) as usize
+    issue.0 as usize - 3
 }
