@@ -17,10 +17,6 @@ use Rattle.rules.specs.declared.statement.Available.{Available}
 use Rattle.rules.specs.Ledger.{noDefault, noWindow}
 use Rattle.settle_availability.specs.declared.paid.Entries.{Entries}
 
--- the periods of a month of 31 days
-abbrev pub mostPeriods : ℕ
-mostPeriods = 1488
-
 -- ---- defaults
 
 -- the number of the live window that a default is in, from 1, and 0 in none

@@ -38,6 +38,14 @@ noTerms =
       instructions = 0;
     }
 
+-- the periods of the longest month
+abbrev pub mostPeriods : ℕ
+mostPeriods = 1488
+
+-- the places of a table of periods: those of the longest month, and more, so that the minute at which the last of them ends has a place too
+abbrev pub places : ℕ
+places = 1490
+
 -- the table of times: the issue of instruction j, from 0
 abbrev pub issueOf : List ℕ → ℕ → ℕ
 issueOf times j = getD times j 0

@@ -13,7 +13,8 @@ use borrow.Author.Needs.{needs}
 use Rattle.commands.specs.declared.entries.Window.{Window}
 use Rattle.rules.specs.declared.statement.Available.{Available}
 use Rattle.rules.specs.Ledger.{noWindow}
-use Rattle.settle_availability.specs.Paid.{marked, paidIn, paidBy, entryOf, entriesTo, periodsTo, entriesBy, mostPeriods}
+use Rattle.settle_availability.specs.Paid.{marked, paidIn, paidBy, entryOf, entriesTo, periodsTo, entriesBy}
+use Rattle.settle_terms.specs.Terms.{mostPeriods}
 use Rattle.settle_availability.proofs.paid.entries_of.Statement.{statement}
 use Rattle.settle_availability.proofs.paid.entries_of.Tie as tie
 
