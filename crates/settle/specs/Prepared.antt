@@ -29,7 +29,7 @@ use Rattle.settle_lines.specs.Cursor.{Plan, Ready, cursorAt, steppedLine, store
 use Rattle.settle_live.specs.Live.{isLive, numberTo, LiveTable}
 use Rattle.settle_availability.specs.Paid.{availabilityBy}
 use Rattle.settle.specs.Settle.{Settled, noStatement, settleBook}
-use Rattle.settle_terms.specs.Terms.{noTerms, places, termsOf}
+use Rattle.settle_terms.specs.Terms.{noTerms, periodPlaces, termsOf}
 
 -- a statement of n lines with the windows' entries, without the lines' sums
 abbrev pub unsummed : ℕ → Entries → Statement
@@ -67,7 +67,7 @@ refusalOf n =
       lines = 0;
       terms = noTerms;
       times = replicate 128 0;
-      live = replicate places 0;
+      live = replicate periodPlaces 0;
     }
 
 -- ---- what is prepared, over the rules
@@ -78,7 +78,7 @@ timesOf is = map (λ (i : Instruction). i .issue .0) is ++ map (λ (i : Instruct
 
 -- the table of live periods: at each place, which is a period from 0, the number of the live window that has it, from 1, and 0 for none
 abbrev pub liveOf : Ledger → List ℕ
-liveOf g = map (numberTo (live g) (g .windows) (length (g .windows))) (between 0 places)
+liveOf g = map (numberTo (live g) (g .windows) (length (g .windows))) (between 0 periodPlaces)
 
 -- a ledger's statement without the lines' sums: zeros, and the availability alone
 abbrev pub withoutSums : Ledger → Statement
@@ -116,7 +116,7 @@ pub record LaidOut (b : Book) (t : Terms) (table : List ℕ) (n : ℕ) (p : Prep
   pub lines : p .lines ≡ n
   pub terms : p .terms ≡ t
   pub times : p .times ≡ table
-  pub size : length (p .live) ≡ places
+  pub size : length (p .live) ≡ periodPlaces
   pub live : LiveTable (isLive table t (b .contract .recovery .0)) (b .windows) (b .nwindows) (p .live)
   pub settlement :
       p .settlement
@@ -143,7 +143,7 @@ settledWith p meter memory =
 -- what is prepared for a book, its readings and so much room: which it is, and that it settles the book
 pub record Prepares (b : Book) (readings : Memory) (room : ℕ) (p : Prepared) : Type 0 where
   pub is : p ≡ preparedOf b readings room
-  pub size : length (p .live) ≡ places
+  pub size : length (p .live) ≡ periodPlaces
   pub plan : Plan (p .terms) (p .times) (p .live) (readings .cells)
   pub few : p .lines ≤ room
   pub count : p .settlement .statement .lines ≡ p .lines

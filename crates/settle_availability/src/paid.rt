@@ -8,7 +8,7 @@ ghost use Rattle.commands.specs.Input.{from-to};
 ghost use Rattle.energy.specs.Number.{Upto, Within};
 ghost use Rattle.rules.specs.Ledger.{noDefault};
 ghost use Rattle.settle_live.specs.Live.{Unmarked};
-ghost use Rattle.settle_terms.specs.Terms.{mostPeriods, places};
+ghost use Rattle.settle_terms.specs.Terms.{mostPeriods, periodPlaces};
 ghost use Rattle.settle_availability.specs.Paid.{DefaultMarked, Placed, Spans, DefaultsMarked, availabilityBy, entriesBy};
 ghost use Rattle.settle_availability.specs.Paid.{entryOf, marked, paidIn, penaltyBy, reachFrom, reachTo};
 use commands::contract::Contract;
@@ -198,8 +198,8 @@ fn entries_of(
     each: Pence,
 ) -> Entries
     requires { ⌜ Spans windows n
-        × (length (now reached) ≡ places)
-        × (length (now live) ≡ places)
+        × (length (now reached) ≡ periodPlaces)
+        × (length (now live) ≡ periodPlaces)
         × (defaults ≡ 0 → Unmarked (now reached))
         × Upto 250000000 (each .0) ⌝ }
     ensures { λ r. ⌜ (r ≡ entriesBy (now (live .entry)) (marked (now (reached .entry))) (natAbs (each .0)) windows n) × Within 100000000000000 (r .pence .0) ⌝ }
@@ -241,7 +241,7 @@ pub fn availability(
     kw: Kw,
     rate: u32,
 ) -> Entries
-    requires { ⌜ Spans windows n × (length (now live) ≡ places) × ((j : ℕ) → j < d → Placed (now live) windows places (getD defaults j noDefault)) × (d ≤ 128) ⌝ }
+    requires { ⌜ Spans windows n × (length (now live) ≡ periodPlaces) × ((j : ℕ) → j < d → Placed (now live) windows periodPlaces (getD defaults j noDefault)) × (d ≤ 128) ⌝ }
     requires { ⌜ Upto 500000 (kw .0) × (rate ≤ 1000000) ⌝ }
     ensures { λ r. ⌜ (r ≡ availabilityBy (now (live .entry)) windows n defaults d (natAbs (kw .0)) rate) × Within 100000000000000 (r .pence .0) ⌝ }
 {

@@ -18,7 +18,7 @@ use Rattle.settle_terms.specs.declared.Terms.{Terms}
 use Rattle.settle_lines.specs.declared.cursor.Active.{Active}
 use Rattle.settle_lines.specs.declared.cursor.Cursor.{Cursor}
 use Rattle.settle_lines.specs.declared.cursor.Stepped.{Stepped}
-use Rattle.settle_terms.specs.Terms.{issueOf, ceaseOf, places}
+use Rattle.settle_terms.specs.Terms.{issueOf, ceaseOf, periodPlaces}
 
 -- ---- a line
 
@@ -168,7 +168,7 @@ pub record Plan (t : Terms) (times live : List ℕ) (meter : List ℤ) : Type 0 
   pub down : t .downminutes .0 ≤ 240
   pub few : t .instructions ≤ 64
   pub table : 128 ≤ length times
-  pub fits : length live ≤ places
+  pub fits : length live ≤ periodPlaces
   pub each : (j : ℕ) → j < t .instructions → Planned t times live meter j
   pub order : (j : ℕ) → j + 1 < t .instructions → ceaseOf times j + t .downminutes .0 ≤ issueOf times (j + 1)
 

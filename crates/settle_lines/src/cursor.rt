@@ -5,7 +5,7 @@ ghost use lib.ListN.{length};
 ghost use Rattle.energy.specs.Energy.{Readable};
 ghost use Rattle.energy.specs.Number.{Upto, Within};
 ghost use Rattle.rules.specs.Cuts.{cutOf, stageAt, stageEnd};
-ghost use Rattle.settle_terms.specs.Terms.{places};
+ghost use Rattle.settle_terms.specs.Terms.{periodPlaces};
 ghost use Rattle.settle_lines.specs.Cursor.{Plan, Ready, activeOf, cursorAt, enterOf, lineBy, moved as movedTo, priceBy, rateBy, stepOf};
 use commands::contract::Contract;
 use energy::money::capped_kwh;
@@ -88,7 +88,7 @@ fn stage_of(a: Active, m: Minutes) -> Stage
 
 // The end of the segment that begins at minute m: of its stage or of its period, whichever is first.
 fn segment_end(a: Active, m: Minutes) -> Minutes
-    requires { ⌜ m .0 < 30 * places ⌝ }
+    requires { ⌜ m .0 < 30 * periodPlaces ⌝ }
     ensures { λ r. ⌜ r .0 ≡ cutOf (a .expiry .0) (a .cease .0) (a .end .0) (m .0) ⌝ }
 {
     let s = stage_end(a, m);
@@ -139,7 +139,7 @@ fn line_of(
     requires { ⌜ Readable (now meter) (from .0) (to .0) ⌝ }
     requires { ⌜ Within 2000000 (a .base) ⌝ }
     requires { ⌜ Upto 500000 (t .kw .0) × (t .utilisation ≤ 1000000) × (t .optional ≤ 1000000) ⌝ }
-    requires { ⌜ (at < 64) × (from .0 < 30 * length (now live)) × (length (now live) ≤ places) ⌝ }
+    requires { ⌜ (at < 64) × (from .0 < 30 * length (now live)) × (length (now live) ≤ periodPlaces) ⌝ }
     ensures { λ r. ⌜ (r ≡ lineBy t a (now (live .entry)) (now (meter .entry)) at (from .0) (to .0))
         × Within 500000 (r .capped .0)
         × Within 500000000 (r .pence .0) ⌝ }

@@ -43,8 +43,8 @@ abbrev pub mostPeriods : ℕ
 mostPeriods = 1488
 
 -- the places of a table of periods: those of the longest month, and more, so that the minute at which the last of them ends has a place too
-abbrev pub places : ℕ
-places = 1490
+abbrev pub periodPlaces : ℕ
+periodPlaces = 1490
 
 -- the table of times: the issue of instruction j, from 0
 abbrev pub issueOf : List ℕ → ℕ → ℕ
