@@ -8,21 +8,20 @@ use Rattle.book_memory.specs.Meter.{roomIn, lent}
 use Rattle.rules.specs.Ledger.{Ledger, ledgerOf}
 use Rattle.rules.specs.Refusal.{taken}
 use Rattle.rules.specs.Statement.{lines}
-use Rattle.rules.specs.Reread.{fitsBytes, fit}
-use Rattle.rules.specs.Examples.{appendix2, ledger}
+use Rattle.rules.specs.Examples.{appendix2, appendix2File, ledger}
 use Rattle.rules.proofs.Definitions.{opened}
 use Rattle.rules.proofs.Figures.{figures}
-use Rattle.rules.proofs.Reread.{reread}
+use Rattle.rules.proofs.Appendix2.{appendix2-read}
 use Rattle.demands.specs.Steps.{Step, read, settled, start, outcomes, readsTo}
 use Rattle.demands.specs.Demand3.{SettlementRight, Demand3·theorem}
-use Rattle.demands.specs.Appendix2.{bytes, steps, Appendix2·theorem}
+use Rattle.demands.specs.Appendix2.{steps, Appendix2·theorem}
 use Rattle.demands.proofs.Settled.{complete-given, Settleable, settleable}
 use Rattle.demands.proofs.Demand3.{demand3}
 
 -- its bytes are its commands
-entered : readsTo bytes (length bytes) .commands ≡ appendix2
-unfolding bytes Demand3·theorem opened fitsBytes fit
-entered = demand3 bytes (lent []) [] .wholeFile ∙ reread .file appendix2 tt
+entered : readsTo appendix2File (length appendix2File) .commands ≡ appendix2
+unfolding Demand3·theorem
+entered = demand3 appendix2File (lent []) [] .wholeFile ∙ appendix2-read
 
 -- its book is closed and complete
 met : Settleable 6 (ledger appendix2)
@@ -32,8 +31,8 @@ pub appendix2-paid : Appendix2·theorem
 unfolding Appendix2·theorem Demand3·theorem ledger
 appendix2-paid memory records e h =
     let g : Ledger = ledgerOf (taken 1440 appendix2) in
-    let before : List Step = replicate (length bytes) read in
-    let d = demand3 bytes memory (steps records) .settlements before [] records refl in
+    let before : List Step = replicate (length appendix2File) read in
+    let d = demand3 appendix2File memory (steps records) .settlements before [] records refl in
     let r : SettlementRight 1440 (taken 1440 appendix2) records (d .0) =
     subst (λ n. SettlementRight n (taken n appendix2) records (d .0)) e
     (subst (λ cs. SettlementRight (roomIn memory) (taken (roomIn memory) cs) records (d .0)) entered (d .2)) in
@@ -41,6 +40,8 @@ appendix2-paid memory records e h =
     let answered = r .answered .1 (met .closed, complete-given g .0 (met .whole), subst (λ n. n ≤ length records) (sym six) h) in
     record {
       result = d .0;
-      outcome = subst (λ n. getElem? (outcomes bytes (start memory) (steps records)) n ≡ some (settled (d .0))) (length-replicate (length bytes) read) (d .1);
+      outcome =
+          subst (λ n. getElem? (outcomes appendix2File (start memory) (steps records)) n ≡ some (settled (d .0)))
+          (length-replicate (length appendix2File) read) (d .1);
       total = ap (λ s. s .total .0) (r .statement answered .ruled ∙ figures .F1-statement);
     }

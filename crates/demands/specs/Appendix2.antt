@@ -6,25 +6,19 @@ use Prim.Native.Nat.{ℕ, _≤_}
 use lib.IntN.{pos}
 use lib.ListN.{length, getElem?, replicate}
 use Rattle.book_memory.specs.Meter.{Memory, roomIn}
-use Rattle.energy.specs.Lists.{concatMap}
-use Rattle.rules.specs.File.{write}
-use Rattle.rules.specs.Examples.{appendix2}
+use Rattle.rules.specs.Examples.{appendix2File}
 use Rattle.rules.specs.declared.statement.Line.{Line}
 use Rattle.settle.specs.Settle.{Settled}
 use Rattle.demands.specs.Steps.{Step, read, settle, settled, start, outcomes}
 
--- the unit file of Appendix 2
-unfoldable pub bytes : List ℕ
-bytes = concatMap write appendix2
-
 -- the file is read whole, and then settled into the lent line records
 abbrev pub steps : List Line → List Step
-steps records = replicate (length bytes) read ++ settle records ∷ []
+steps records = replicate (length appendix2File) read ++ settle records ∷ []
 
 -- the settlement pays 416,400 pence
 pub record Paid (memory : Memory) (records : List Line) : Type 0 where
   pub result : Settled
-  pub outcome : getElem? (outcomes bytes (start memory) (steps records)) (length bytes) ≡ some (settled result)
+  pub outcome : getElem? (outcomes appendix2File (start memory) (steps records)) (length appendix2File) ≡ some (settled result)
   pub total : result .settlement .statement .total .0 ≡ pos 416400
 
 -- with any memory of a day, and records for six lines

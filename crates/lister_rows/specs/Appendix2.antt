@@ -5,18 +5,13 @@ use mathlib.Core.List.{List, _++_}
 use mathlib.Core.Option.{none}
 use Prim.Native.Nat.{ℕ}
 use lib.ListN.{length}
-use Rattle.energy.specs.Lists.{concatMap}
 use Rattle.rules.specs.Ledger.{Ledger, ledgerOf}
 use Rattle.rules.specs.Refusal.{taken}
 use Rattle.rules.specs.Statement.{lines, statementOf, settleRefusal}
-use Rattle.rules.specs.File.{write, commandsIn}
-use Rattle.rules.specs.Examples.{appendix2}
+use Rattle.rules.specs.File.{commandsIn}
+use Rattle.rules.specs.Examples.{appendix2File}
 use Rattle.lister_rows.specs.Rows.{listing}
 use Rattle.lister_rows.specs.Text.{text}
-
--- the unit file of Appendix 2
-unfoldable pub bytes : List ℕ
-bytes = concatMap write appendix2
 
 -- what is taken of the commands of a file, with meter memory of a day
 unfoldable pub takenOf : List ℕ → Ledger
@@ -28,11 +23,11 @@ listingBy g = listing (statementOf g) (lines g) (length (g .windows))
 
 pub record Appendix2 : Type 0 where
   -- every command that its bytes say is taken, and settling into six lines is not refused
-  pub allTaken : taken 1440 (commandsIn bytes) ≡ commandsIn bytes
-  pub settled : settleRefusal false 1440 6 (takenOf bytes) ≡ none
+  pub allTaken : taken 1440 (commandsIn appendix2File) ≡ commandsIn appendix2File
+  pub settled : settleRefusal false 1440 6 (takenOf appendix2File) ≡ none
   -- its listing, as it is printed
   pub rows :
-      listingBy (takenOf bytes)
+      listingBy (takenOf appendix2File)
       ≡ text "L 1 1 U C 600 500 500 15000\n"
       ++ text "L 1 1 S C 1000 1017 1000 30000\n"
       ++ text "L 1 2 S C 6000 5750 5750 172500\n"

@@ -26,3 +26,4 @@ pub mod Reread
 pub mod FileLength
 pub mod Rewritten
 pub mod Folds
+pub mod Appendix2

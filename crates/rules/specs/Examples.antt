@@ -4,10 +4,11 @@ use mathlib.Core.List.{List, [], _∷_, _++_, map}
 use Prim.Native.Nat.{ℕ, zero, suc, _+_, _*_}
 use lib.IntN.{ℤ, pos, negℤ}
 use lib.ListN.{set}
+use Rattle.energy.specs.Lists.{concatMap}
 use Rattle.rules.specs.Ledger.{Ledger, ledgerOf}
 use Rattle.rules.specs.Refusal.{taken}
 use Rattle.rules.specs.Statement.{lines, windowsPaid}
-use Rattle.rules.specs.File.{contractFrom}
+use Rattle.rules.specs.File.{contractFrom, write}
 use Rattle.commands.specs.declared.entries.Command.{Command}
 use Rattle.commands.specs.declared.entries.Command.the-variants.{Contract as contractᶜ, Window as windowᶜ, Instruction as instructionᶜ}
 use Rattle.commands.specs.declared.entries.Command.the-variants.{Default as defaultᶜ, Reading as readingᶜ, Close as closeᶜ}
@@ -155,6 +156,10 @@ month terms verdict read = agree terms ∷ offer 0 180 verdict ∷ call 5 85 ∷
 -- Appendix 2
 abbrev pub appendix2 : List Command
 appendix2 = month guide accepted generated
+
+-- its unit file
+unfoldable pub appendix2File : List ℕ
+appendix2File = concatMap write appendix2
 
 -- Appendix 3
 abbrev pub appendix3 : List Command
