@@ -2,48 +2,67 @@
 -- there is none.
 use mathlib.Core.Path.{_≡_, refl, sym, ap, _∙_}
 use mathlib.Core.Logic.{_≢_}
-use mathlib.Core.Bool.{Bool, true, false, not, _&&_}
-use mathlib.Core.Option.{Option, none, some}
-use Prim.Native.Nat.{ℕ, zero, suc}
+use mathlib.Core.Bool.{Bool, true, false, not}
+use mathlib.Core.Option.{none, some}
+use Prim.Native.Nat.{ℕ, zero, suc, _-_, _<_}
 use native.Mathlib.Omega.{arith}
-use lib.Dec.{T, eqb, ltb}
+use lib.Dec.{ltb}
+use lib.ListN.{length, take, getD, replicate, length-replicate}
 use borrow.Author.Tests.{ne-eqb}
 use Rattle.commands.specs.Command.{onContract, always}
-use Rattle.energy.proofs.Tests.{to-T, on-and}
-use Rattle.commands.specs.Input.{from-to, isReading, mostMinute, inRange, rampTooLong, badWindow, inputRefusal, orZero}
-use Rattle.commands.specs.declared.entries.Reading.{Reading}
+use Rattle.commands.specs.Input.{inputRefusal}
+use Rattle.commands.specs.declared.entries.Window.{Window}
+use Rattle.commands.specs.declared.entries.Instruction.{Instruction}
+use Rattle.commands.specs.declared.entries.Default.{Default}
 use Rattle.commands.specs.declared.entries.Command.{Command}
-use Rattle.commands.specs.declared.entries.Command.the-variants.{Reading as readingᶜ}
-use Rattle.commands.proofs.Input.{input-none}
-use Rattle.rules.specs.Ledger.{isContract, spanOf}
-use Rattle.book_memory.specs.Meter.{putMeter, Memory, roomIn}
-use Rattle.book_refusal.specs.Refusals.{anyRefusal}
-use Rattle.book.specs.Book.{bookCells, putBook}
+use Rattle.commands.specs.declared.entries.Command.the-variants.{Window as windowᶜ, Instruction as instructionᶜ, Default as defaultᶜ}
+use Rattle.commands.proofs.Input.{numbered, numbered-some}
+use Rattle.rules.specs.Ledger.{isContract, spanOf, noWindow, noInstruction}
+use Rattle.rules.proofs.Taken.{Allowed, allowed}
+use Rattle.book_memory.specs.Meter.{putMeter, missing, Memory, roomIn, lent}
+use Rattle.book_refusal.specs.Refusals.{anyRefusal, windowsEnd, windowRefusal, readyAfter, instructionRefusal, defaultRefusal}
+use Rattle.book_sound.proofs.Tables.{has-room}
+use Rattle.book.specs.Book.{bookSpan, bookCells, ledgerIn, putBook}
 use Rattle.book.specs.Enter.{Enters, EntersAt, enterBook, takenAs, refusedAs}
 use Rattle.book.specs.Sound.{sound}
 use Rattle.book.specs.declared.Book.{Book}
-use Rattle.book.proofs.Refusals.{anyOf, ownOf, asked, by-any, asked-none}
+use Rattle.book.proofs.SoundTests.{Tables, sound-parts}
+use Rattle.book.proofs.Refusals.{anyOf, ownOf, asked, by-any, window-number, instruction-number, default-number}
 
--- ---- where no condition up to 15 holds
+-- a command that is asked with lent memory enters by the number that it meets
+module _ {b : Book} {meter : Memory} {c : Command} where
+  refuses : {n : ℕ} → asked b meter c ≡ numbered n → n ≢ 0 → Enters b meter c (refusedAs n b) meter
+  unfolding enterBook
+  refuses {n} e h = let r : asked b meter c ≡ some n = e ∙ numbered-some n h in record { entry = rw r; meter = rw r }
 
--- what is then known of a command to a book, with so much room in lent memory
+  takes : asked b meter c ≡ none → Enters b meter c (takenAs (putBook b c)) (putMeter meter c)
+  unfolding enterBook
+  takes r = record { entry = rw r; meter = rw r }
+
+-- ---- a number up to 15, with so much room in lent memory
+
+-- where there is one, it is the refusal
+pub any-refuses : (b : Book) (room : ℕ) (c : Command) (n : ℕ) → n ≡ anyOf b room c → n ≢ 0 → EntersAt b room c (refusedAs n b)
+any-refuses b room c n e h meter q = refuses (by-any b meter c ∙ rw (q, ← e, ne-eqb n 0 h)) h
+
+-- so is one from the input
+pub input-refuses : (b : Book) (meter : Memory) (c : Command) (n : ℕ) → inputRefusal c ≡ n → n ≢ 0 → Enters b meter c (refusedAs n b) meter
+unfolding anyRefusal
+input-refuses b meter c n e h = any-refuses b (roomIn meter) c n (rw (e, ne-eqb n 0 h)) h meter refl
+
+-- where there is none, this is known of a command to a book
 pub record Past (b : Book) (room : ℕ) (c : Command) : Type 0 where
-  pub input : inputRefusal c ≡ 0
+  pub none : anyOf b room c ≡ 0
   pub sound : sound b ≡ true
   pub agreed : b .agreed ≡ not (isContract c)
   pub enough : ltb room (onContract spanOf (always (bookCells b)) c) ≡ false
-
-record Zero (input : ℕ) (sound closed agreed contract short : Bool) : Type 0 where
-  noInput : input ≡ 0
-  isSound : sound ≡ true
-  only : agreed ≡ not contract
-  enough : short ≡ false
+  pub tables : Tables b
 
 zero-any : (input : ℕ) (sound closed agreed contract short : Bool) → anyRefusal input sound closed agreed contract short ≡ 0
-    → Zero input sound closed agreed contract short
+    → (sound ≡ true) × (agreed ≡ not contract) × (short ≡ false)
 unfolding anyRefusal
-zero-any zero true false true false false e = record { noInput = refl; isSound = refl; only = refl; enough = refl }
-zero-any zero true false false true false e = record { noInput = refl; isSound = refl; only = refl; enough = refl }
+zero-any zero true false true false false e = (refl, refl, refl)
+zero-any zero true false false true false e = (refl, refl, refl)
 zero-any zero true false true false true e = absurd (omega arith)
 zero-any zero true false false true true e = absurd (omega arith)
 zero-any zero true false true true s e = absurd (omega arith)
@@ -55,70 +74,67 @@ zero-any (suc n) l c a f s e = let q : suc n ≡ 0 = rw (ne-eqb (suc n) 0 (λ h.
 pub past-any : (b : Book) (room : ℕ) (c : Command) (n : ℕ) → n ≡ anyOf b room c → n ≡ 0 → Past b room c
 past-any b room c n e z =
     let p = zero-any (inputRefusal c) (sound b) (b .closed) (b .agreed) (isContract c) (ltb room (onContract spanOf (always (bookCells b)) c)) (sym e ∙ z) in
-    record { input = p .noInput; sound = p .isSound; agreed = p .only; enough = p .enough }
+    record { none = sym e ∙ z; sound = p .0; agreed = p .1; enough = p .2; tables = sound-parts b (p .0) .tables }
 
--- ---- with lent memory
+-- ---- past it, the number of the command's kind
 
--- a number of a refusal is the refusal
-some-number : (o : Option ℕ) (n : ℕ) → n ≡ orZero o → n ≢ 0 → o ≡ some n
-some-number none n e h = absurd (h e)
-some-number (some m) n e h = ap some (sym e)
+module _ {b : Book} {room : ℕ} {c : Command} (p : Past b room c) (meter : Memory) (q : roomIn meter ≡ room) where
+  decided : asked b meter c ≡ numbered (ownOf b meter c)
+  decided = by-any b meter c ∙ rw (q, p .none)
 
-module _ (b : Book) (meter : Memory) (c : Command) where
-  refuses : (n : ℕ) → n ≡ orZero (asked b meter c) → n ≢ 0 → Enters b meter c (refusedAs n b) meter
-  unfolding enterBook
-  refuses n e h = let r : asked b meter c ≡ some n = some-number (asked b meter c) n e h in record { entry = rw r; meter = rw r }
+  -- where there is one, it is the refusal
+  pub own-refuses : {n : ℕ} → n ≡ ownOf b meter c → n ≢ 0 → Enters b meter c (refusedAs n b) meter
+  own-refuses e h = refuses (decided ∙ ap numbered (sym e)) h
 
-  pub takes : orZero (asked b meter c) ≡ 0 → Enters b meter c (takenAs (putBook b c)) (putMeter meter c)
-  unfolding enterBook
-  takes z = let r : asked b meter c ≡ none = asked-none b meter c z in record { entry = rw r; meter = rw r }
+  -- where there is none, no condition holds, and the command is taken
+  pub own-takes : ownOf b meter c ≡ 0 → Enters b meter c (takenAs (putBook b c)) (putMeter meter c)
+  own-takes z = takes (decided ∙ ap numbered z)
 
-  -- a number up to 15 is the refusal
-  pub any-refuses : (n : ℕ) → n ≡ anyOf b (roomIn meter) c → n ≢ 0 → Enters b meter c (refusedAs n b) meter
-  any-refuses n e h = refuses n (sym (by-any b meter c ∙ rw (← e, ne-eqb n 0 h))) h
+  pub own-allowed : ownOf b meter c ≡ 0 → Allowed room (ledgerIn b meter) c
+  own-allowed z = allowed room (ledgerIn b meter) c (rw (q, p .sound) at (decided ∙ ap numbered z))
 
-  -- so is one from the input
-  pub input-refuses : (n : ℕ) → inputRefusal c ≡ n → n ≢ 0 → Enters b meter c (refusedAs n b) meter
-  unfolding anyRefusal
-  input-refuses n e h = any-refuses n (rw (e, ne-eqb n 0 h)) h
+-- ---- an entry of a table
 
-  module _ (m : ℕ) (e : m ≡ anyOf b (roomIn meter) c) (z : m ≡ 0) where
-    -- without one, that of the command's kind is
-    past-number : orZero (asked b meter c) ≡ ownOf b meter c
-    past-number = by-any b meter c ∙ rw (sym e ∙ z)
+-- what its number decides: it is the refusal, or the entry is taken, and its table has a place
+pub record Own (b : Book) (room : ℕ) (c : Command) (n used most : ℕ) : Type 0 where
+  pub refuses : n ≢ 0 → EntersAt b room c (refusedAs n b)
+  pub takes : n ≡ 0 → EntersAt b room c (takenAs (putBook b c))
+  pub place : n ≡ 0 → used < most
 
-    pub own-refuses : (n : ℕ) → n ≡ ownOf b meter c → n ≢ 0 → Enters b meter c (refusedAs n b) meter
-    own-refuses n f h = refuses n (f ∙ sym past-number) h
+module _ {b : Book} {room n : ℕ} where
+  own-decides : {c : Command} {used most : ℕ} → Past b room c → ((meter : Memory) → putMeter meter c ≡ meter)
+      → ((meter : Memory) → n ≡ ownOf b meter c) → ((meter : Memory) → Allowed room (ledgerIn b meter) c → used < most) → Own b room c n used most
+  own-decides {c} p same e room-for =
+      record {
+        refuses = λ h meter q. own-refuses p meter q (e meter) h;
+        takes = λ z meter q. let t = own-takes p meter q (sym (e meter) ∙ z) in record { entry = t .entry; meter = sym (same meter) ∙ t .meter };
+        place = λ z.
+            let some : Memory = lent (replicate room missing) in
+            room-for some (own-allowed p some (length-replicate room missing) (sym (e some) ∙ z));
+      }
 
-    -- without either, the command is taken
-    pub own-takes : ownOf b meter c ≡ 0 → Enters b meter c (takenAs (putBook b c)) (putMeter meter c)
-    own-takes f = takes (past-number ∙ f)
+  pub window-own : {w : Window} → Past b room (windowᶜ w) → length (b .windows) ≡ 128
+      → n ≡ windowRefusal (b .contract .service) (bookSpan b) (windowsEnd (b .nwindows) (getD (b .windows) (b .nwindows - 1) noWindow))
+      (b .nwindows) w
+      → Own b room (windowᶜ w) n (b .nwindows) 128
+  unfolding ledgerIn
+  window-own {w} p l e =
+      own-decides p (λ m. refl) (λ m. e ∙ sym (window-number b m (p .agreed) w (omega (arith, p .tables .windows))))
+      (λ m a. has-room (b .windows) (b .nwindows) 128 l (p .tables .windows) (a .kind .room))
 
--- ---- with room in lent memory alone
+  pub instruction-own : {i : Instruction} → Past b room (instructionᶜ i) → length (b .instructions) ≡ 64
+      → n ≡ instructionRefusal (b .contract) (bookSpan b)
+      (readyAfter (b .contract) (b .ninstructions) (getD (b .instructions) (b .ninstructions - 1) noInstruction)) (b .ninstructions) i
+      → Own b room (instructionᶜ i) n (b .ninstructions) 64
+  unfolding ledgerIn
+  instruction-own {i} p l e =
+      own-decides p (λ m. refl) (λ m. e ∙ sym (instruction-number b m (p .agreed) i (omega (arith, p .tables .instructions))))
+      (λ m a. has-room (b .instructions) (b .ninstructions) 64 l (p .tables .instructions) (a .kind .room))
 
-module _ (b : Book) (room : ℕ) (c : Command) where
-  -- the number at memory of that room
-  there : (meter : Memory) → roomIn meter ≡ room → (n : ℕ) → n ≡ anyOf b room c → n ≡ anyOf b (roomIn meter) c
-  there meter q n e = e ∙ ap (λ r. anyOf b r c) (sym q)
-
-  pub any-refuses-at : (n : ℕ) → n ≡ anyOf b room c → n ≢ 0 → EntersAt b room c (refusedAs n b)
-  any-refuses-at n e h meter q = any-refuses b meter c n (there meter q n e) h
-
-  module _ (m : ℕ) (e : m ≡ anyOf b room c) (z : m ≡ 0) where
-    pub own-refuses-at : (n : ℕ) → ((meter : Memory) → n ≡ ownOf b meter c) → n ≢ 0 → EntersAt b room c (refusedAs n b)
-    own-refuses-at n f h meter q = own-refuses b meter c m (there meter q m e) z n (f meter) h
-
-    pub own-takes-at : ((meter : Memory) → ownOf b meter c ≡ 0) → ((meter : Memory) → putMeter meter c ≡ meter)
-        → EntersAt b room c (takenAs (putBook b c))
-    own-takes-at f k meter q =
-        let t = own-takes b meter c m (there meter q m e) z (f meter) in
-        record { entry = t .entry; meter = sym (k meter) ∙ t .meter }
-
--- ---- a reading
-
--- one whose operands meet nothing fits a cell
-pub reading-ranged : (r : Reading) → inputRefusal (readingᶜ r) ≡ 0 → T (isReading (r .kw .0))
-reading-ranged r z =
-    let clear : eqb (inputRefusal (readingᶜ r)) 0 ≡ true = ap (λ n. eqb n 0) z in
-    let ranged = on-and (inRange (readingᶜ r)) (not (rampTooLong (readingᶜ r)) && not (badWindow (readingᶜ r))) (sym (input-none (readingᶜ r)) ∙ clear) .0 in
-    to-T (on-and (from-to 0 mostMinute (r .minute .0)) (isReading (r .kw .0)) ranged .1)
+  pub default-own : {d : Default} → Past b room (defaultᶜ d) → length (b .defaults) ≡ 128
+      → n ≡ defaultRefusal (bookSpan b) (take (b .nwindows) (b .windows)) (b .ndefaults) d
+      → Own b room (defaultᶜ d) n (b .ndefaults) 128
+  unfolding ledgerIn
+  default-own {d} p l e =
+      own-decides p (λ m. refl) (λ m. e ∙ sym (default-number b m (p .agreed) d (omega (arith, p .tables .defaults))))
+      (λ m a. has-room (b .defaults) (b .ndefaults) 128 l (p .tables .defaults) (a .kind .room))

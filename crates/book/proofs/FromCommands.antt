@@ -1,20 +1,21 @@
 -- 11 in both directions: the books that a list of commands leaves are the sound ones. A sound book is left by the commands that it is written as.
 use mathlib.Core.Path.{_≡_, refl, sym, ap, _∙_, subst, subst⁻¹}
-use mathlib.Core.Bool.{Bool, true, false, cond}
+use mathlib.Core.Bool.{true, false, cond}
 use mathlib.Core.List.{List, [], _∷_, _++_}
 use mathlib.Core.Option.{Option, none, some, Option·none-ne-some}
 use Prim.Native.Nat.{ℕ, _≤_, _<_}
 use native.Mathlib.Nat.{le-refl}
 use native.Mathlib.Omega.{arith}
 use lib.IntN.{ℤ}
-use lib.Dec.{T, ltb, ltb→lt}
+use lib.Dec.{T, ltb}
+use borrow.Author.Tests.{ltb-true}
 use lib.ListN.{length, take, replicate, length-replicate, length-take}
-use Rattle.energy.specs.Lists.{pass}
 use Rattle.energy.proofs.Tests.{to-T, of-T}
 use Rattle.commands.specs.Input.{isReading}
-use Rattle.rules.specs.Ledger.{Ledger, ledgerOf, contractOf, spanIn}
+use Rattle.commands.proofs.Chain.{true-or-false}
+use Rattle.rules.specs.Ledger.{Ledger, ledgerOf}
 use Rattle.rules.specs.Refusal.{refusal, joined, takenAfter, taken}
-use Rattle.rules.specs.Reached.{Reached, untouched, agreed, Untouched, Agreed, agreedTests}
+use Rattle.rules.specs.Reached.{Reached, untouched, agreed, Untouched, Agreed}
 use Rattle.rules.specs.File.{written}
 use Rattle.rules.specs.Rewritten.{Rewritten}
 use Rattle.commands.specs.declared.entries.Command.{Command}
@@ -24,10 +25,10 @@ use Rattle.book.specs.Book.{emptyBook, bookSpan, bookCells, ledgerIn, pu
 use Rattle.book.specs.Sound.{sound, Shaped, FromCommands, Sound·theorem}
 use Rattle.book.specs.declared.Book.{Book}
 use Rattle.book.proofs.Holds.{none-below}
-use Rattle.book.proofs.SoundTests.{Tables, contents, sound-parts, contract-is, Empty, sound-empty}
-use Rattle.book.proofs.Month.{span-is, cells-is, span-empty}
+use Rattle.book.proofs.SoundTests.{Tables, sound-parts, contract-is, Empty, sound-empty}
+use Rattle.book.proofs.Month.{span-is, cells-is, contents-are, span-empty}
 use Rattle.book.proofs.Follow.{Follows, starts, put-follows}
-use Rattle.book.proofs.SameBook.{determined}
+pub use Rattle.book.proofs.SameBook.{same-book}
 
 -- ---- what commands leave is sound
 
@@ -74,34 +75,28 @@ short n l {most} h = subst⁻¹ (λ x. x ≤ most) (length-take n l) (omega arit
 -- a reading is in the span and in range
 given : (b : Book) (meter : Memory) (m : ℕ) (kw : ℤ) → ledgerIn b meter .reading m ≡ some kw → (m < bookSpan b) × T (isReading kw)
 unfolding ledgerIn
-given b meter m kw e = in-span (ltb m (bookSpan b)) refl e
-  where
-    in-range : (z : ℤ) (t : Bool) → isReading z ≡ t → cond t (some z) none ≡ some kw → T (isReading kw)
-    in-range z true i h = let same : z ≡ kw = cc in subst (λ x. T (isReading x)) same (to-T i)
-    in-range z false i h = absurd (Option·none-ne-some kw h)
-
-    in-span : (t : Bool) → ltb m (bookSpan b) ≡ t → cond t (cellReading (kwAt meter m)) none ≡ some kw → (m < bookSpan b) × T (isReading kw)
-    in-span true l h = (ltb→lt m (bookSpan b) (to-T l), in-range (kwAt meter m) (isReading (kwAt meter m)) refl h)
-    in-span false l h = absurd (Option·none-ne-some kw h)
+given b meter m kw e =
+    let z = kwAt meter m in
+    true-or-false (ltb m (bookSpan b))
+    (λ l.
+    let h : cellReading z ≡ some kw = rw l at e in
+    true-or-false (isReading z)
+    (λ i. let q : some z ≡ some kw = rw i at h in let same : z ≡ kw = cc in (ltb-true m (bookSpan b) l, rw same at (to-T i)))
+    (λ i. absurd (Option·none-ne-some kw (rw i at h))))
+    (λ l. absurd (Option·none-ne-some kw (rw l at e)))
 
 with-contract : (b : Book) (meter : Memory) (size : ℕ) → sound b ≡ true → b .agreed ≡ true → bookCells b ≤ size → Agreed size (ledgerIn b meter)
 unfolding ledgerIn
 with-contract b meter size e s h =
     let t : Tables b = sound-parts b e .tables in
-    let k : contractOf (ledgerIn b meter) ≡ b .contract = contract-is b meter s in
     record {
-      contract = ap (λ x. cond x (b .contract ∷ []) []) s ∙ ap (λ c. c ∷ []) (sym k);
-      tests =
-          subst⁻¹ (λ c. T (pass (agreedTests c (spanIn (ledgerIn b meter)) (take (b .nwindows) (b .windows)) (take (b .ninstructions) (b .instructions))
-          (take (b .ndefaults) (b .defaults))))) k
-          (subst⁻¹ (λ n. T (pass (agreedTests (b .contract) n (take (b .nwindows) (b .windows)) (take (b .ninstructions) (b .instructions))
-          (take (b .ndefaults) (b .defaults))))) (span-is b meter s)
-          (subst (λ x. T (pass (contents b x))) s (sound-parts b e .contents)));
+      contract = rw (contract-is b meter s, s);
+      tests = rw (contents-are b meter s) at (sound-parts b e .contents);
       windows = short (b .nwindows) (b .windows) (t .windows);
       instructions = short (b .ninstructions) (b .instructions) (t .instructions);
       defaults = short (b .ndefaults) (b .defaults) (t .defaults);
-      cells = subst⁻¹ (λ n. n ≤ size) (cells-is b meter s) h;
-      readings = λ m kw r. subst⁻¹ (λ n. (m < n) × T (isReading kw)) (span-is b meter s) (given b meter m kw r);
+      cells = rw (cells-is b meter s) h;
+      readings = λ m kw r. rw (span-is b meter s) (given b meter m kw r);
     }
 
 without : (b : Book) (meter : Memory) → sound b ≡ true → b .agreed ≡ false → Untouched (ledgerIn b meter)
@@ -118,26 +113,10 @@ without b meter e s =
     }
 
 pub book-reached : (b : Book) (meter : Memory) (size : ℕ) → sound b ≡ true → bookCells b ≤ size → Reached size (ledgerIn b meter)
-book-reached b meter size e h = go (b .agreed) refl
-  where
-    go : (x : Bool) → b .agreed ≡ x → Reached size (ledgerIn b meter)
-    go true s = agreed (with-contract b meter size e s h)
-    go false s = untouched (without b meter e s)
+book-reached b meter size e h =
+    true-or-false (b .agreed) (λ s. agreed (with-contract b meter size e s h)) (λ s. untouched (without b meter e s))
 
 -- ---- a sound book is left by its own commands
-
--- books that hold the same ledger are the same
-pub same-book : (b c : Book) (meter after : Memory) → Shaped b → Shaped c → sound b ≡ true → sound c ≡ true → ledgerIn b meter ≡ ledgerIn c after → b ≡ c
-unfolding ledgerIn
-same-book b c meter after s s′ e e′ l =
-    determined b c s s′ e e′
-    (record {
-      contracts = ap (λ g. g .contracts) l;
-      windows = ap (λ g. g .windows) l;
-      instructions = ap (λ g. g .instructions) l;
-      defaults = ap (λ g. g .defaults) l;
-      closed = ap (λ g. g .closed) l;
-    })
 
 sound-from : (b : Book) → Shaped b → T (sound b) → FromCommands b
 sound-from b s t =

@@ -1,18 +1,26 @@
 -- The span of a book, and the cells that meter memory must have for it: those of its ledger.
-use mathlib.Core.Path.{_≡_, refl, sym, ap, _∙_}
-use mathlib.Core.Bool.{Bool, true, false, cond}
+use mathlib.Core.Path.{_≡_, sym, ap, _∙_}
+use mathlib.Core.Bool.{true, false, cond}
 use mathlib.Core.List.{[], _∷_}
-use Prim.Native.Nat.{_≤_}
+use Prim.Native.Nat.{ℕ, _≤_, _<_}
 use native.Mathlib.Omega.{arith}
+use lib.Dec.{T}
+use borrow.Author.Tests.{leb-false}
 use Rattle.book_memory.specs.Meter.{Memory}
-use Rattle.commands.specs.Input.{mostMinute}
-use Rattle.rules.specs.Ledger.{spanOf, spanIn, cellsIn}
+use Rattle.energy.proofs.Tests.{T-and}
+use Rattle.commands.specs.Input.{from-to, isReading, mostMinute}
+use Rattle.commands.specs.declared.entries.Reading.{Reading}
+use Rattle.commands.specs.declared.entries.Command.the-variants.{Reading as readingᶜ}
+use Rattle.rules.specs.Ledger.{spanOf, contractOf, spanIn, cellsIn}
 use Rattle.rules.proofs.Span.{cells-none, span-cells as span-below}
-use Rattle.commands.proofs.Terms.{Terms, terms}
+use Rattle.rules.proofs.Taken.{Allowed}
+use Rattle.rules.specs.Reached.{agreedTests}
+use Rattle.commands.proofs.Chain.{true-or-false}
+use Rattle.commands.proofs.Terms.{ranges}
 use Rattle.book.specs.Book.{bookSpan, bookCells, ledgerIn}
 use Rattle.book.specs.Sound.{sound}
 use Rattle.book.specs.declared.Book.{Book}
-use Rattle.book.proofs.SoundTests.{sound-used, contract-is, empty-contract}
+use Rattle.book.proofs.SoundTests.{contents, sound-used, contract-is, sound-empty}
 
 -- each minute of the span has a cell
 pub span-cells : (b : Book) → bookSpan b ≤ bookCells b
@@ -29,6 +37,20 @@ pub cells-is : (b : Book) (meter : Memory) → b .agreed ≡ true → cellsIn (l
 unfolding cellsIn bookCells
 cells-is b meter s = ap spanOf (contract-is b meter s)
 
+-- the tests of what is in the tables are those of the ledger
+pub contents-are : (b : Book) (meter : Memory) → b .agreed ≡ true → let g = ledgerIn b meter in
+    contents b (b .agreed) ≡ agreedTests (contractOf g) (spanIn g) (g .windows) (g .instructions) (g .defaults)
+unfolding ledgerIn
+contents-are b meter s = rw (span-is b meter s, contract-is b meter s, s)
+
+-- a reading that is allowed is in the span, and a number of its range
+pub reading-fits : (b : Book) (meter : Memory) (r : Reading) {size : ℕ} → b .agreed ≡ true → Allowed size (ledgerIn b meter) (readingᶜ r)
+    → (r .minute .0 < bookSpan b) × T (isReading (r .kw .0))
+reading-fits b meter r s a = (
+  leb-false (bookSpan b) (r .minute .0) (rw (span-is b meter s) at (a .kind .inside)),
+  T-and (from-to 0 mostMinute (r .minute .0)) (isReading (r .kw .0)) (a .input .operands) .1,
+)
+
 -- ---- without one
 
 none : (b : Book) (meter : Memory) → b .agreed ≡ false → cellsIn (ledgerIn b meter) ≡ 0
@@ -37,7 +59,7 @@ none b meter s = cells-none (ledgerIn b meter) (ap (λ x. cond x (b .contract �
 
 pub cells-empty : (b : Book) → sound b ≡ true → b .agreed ≡ false → bookCells b ≡ 0
 unfolding bookCells
-cells-empty b e s = ap spanOf (empty-contract b e s)
+cells-empty b e s = ap spanOf (sound-empty b e s .contract)
 
 pub span-empty : (b : Book) → sound b ≡ true → b .agreed ≡ false → bookSpan b ≡ 0
 span-empty b e s = omega (arith, span-cells b, cells-empty b e s)
@@ -45,25 +67,14 @@ span-empty b e s = omega (arith, span-cells b, cells-empty b e s)
 -- ---- of a sound book
 
 pub span-sound : (b : Book) (meter : Memory) → sound b ≡ true → spanIn (ledgerIn b meter) ≡ bookSpan b
-span-sound b meter e = go (b .agreed) refl
-  where
-    go : (x : Bool) → b .agreed ≡ x → spanIn (ledgerIn b meter) ≡ bookSpan b
-    go true s = span-is b meter s
-    go false s = omega (arith, span-below (ledgerIn b meter), none b meter s, span-empty b e s)
+span-sound b meter e =
+    true-or-false (b .agreed) (span-is b meter) (λ s. omega (arith, span-below (ledgerIn b meter), none b meter s, span-empty b e s))
 
 pub cells-sound : (b : Book) (meter : Memory) → sound b ≡ true → cellsIn (ledgerIn b meter) ≡ bookCells b
-cells-sound b meter e = go (b .agreed) refl
-  where
-    go : (x : Bool) → b .agreed ≡ x → cellsIn (ledgerIn b meter) ≡ bookCells b
-    go true s = cells-is b meter s
-    go false s = none b meter s ∙ sym (cells-empty b e s)
+cells-sound b meter e = true-or-false (b .agreed) (cells-is b meter) (λ s. none b meter s ∙ sym (cells-empty b e s))
 
 pub cells-most : (b : Book) → sound b ≡ true → bookCells b ≤ mostMinute
-cells-most b e = go (b .agreed) refl
-  where
-    go : (x : Bool) → b .agreed ≡ x → bookCells b ≤ mostMinute
-    go true s =
-        let p = sound-used b e s in
-        let t : Terms (b .contract) = terms (b .contract) (p .operands) (p .ramps) in
-        unfold bookCells in omega (arith, t .ranges .days)
-    go false s = omega (arith, cells-empty b e s)
+unfolding bookCells
+cells-most b e =
+    true-or-false (b .agreed) (λ s. let p = sound-used b e s in omega (arith, ranges (b .contract) (p .operands) .days))
+    (λ s. omega (arith, cells-empty b e s))

@@ -1,26 +1,27 @@
 -- A reading that is taken by its book's open span: what is known of it, and that entering it does the same.
-use mathlib.Core.Path.{_≡_, ap, refl, sym, _∙_}
-use mathlib.Core.Bool.{Bool, true, false, not, _&&_, cond, false≢true}
+use mathlib.Core.Path.{_≡_, refl, sym, _∙_}
+use mathlib.Core.Bool.{Bool, true, false, not, _&&_, false≢true}
 use Prim.Native.Nat.{ℕ, _≤_, _<_}
 use native.Mathlib.Omega.{arith}
 use lib.Dec.{eqb, leb, ltb}
-use borrow.Author.Tests.{leb-true, lt-ltb, le-ltb, lt-leb}
+use borrow.Author.Tests.{not-true, leb-true, lt-ltb, le-ltb, lt-leb}
 use Rattle.book.specs.Book.{bookSpan, bookCells}
 use Rattle.commands.specs.Command.{always}
 use Rattle.commands.specs.Input.{inputRefusal}
+use Rattle.energy.proofs.Tests.{on-and}
+use Rattle.commands.proofs.Chain.{true-or-false}
 use Rattle.commands.proofs.ByKind.{reading-or-not}
 use Rattle.commands.specs.declared.entries.Reading.{Reading}
 use Rattle.commands.specs.declared.entries.Command.{Command}
 use Rattle.commands.specs.declared.entries.Command.the-variants.{Reading as readingᶜ}
 use Rattle.book_memory.specs.Meter.{putMeter, takesReading, Memory, roomIn}
-use Rattle.book.specs.Enter.{Entered, Enters, enterBook, takenAs}
+use Rattle.book.specs.Enter.{Enters, enterBook, takenAs}
 use Rattle.book_refusal.specs.Refusals.{anyRefusal, readingRefusal}
 use Rattle.book.specs.Readings.{openSpan}
 use Rattle.book.specs.Sound.{sound}
 use Rattle.book.specs.declared.Book.{Book}
-use Rattle.book.specs.declared.Entry.{Entry}
-use Rattle.book.proofs.Refusals.{anyOf, reading-own}
-use Rattle.book.proofs.EnteringByNumbers.{own-takes}
+use Rattle.book.proofs.Refusals.{anyOf, reading-number}
+use Rattle.book.proofs.EnteringByNumbers.{past-any, own-takes}
 use Rattle.book_memory.proofs.TakenReading.{tests}
 
 -- ---- the open span
@@ -34,18 +35,13 @@ record Open (b : Book) (room : ℕ) : Type 0 where
 -- a span with a minute in it is the contract's
 opened : (b : Book) (room m : ℕ) → m < openSpan b room → Open b room
 unfolding openSpan
-opened b room m h = go (b .agreed) (b .closed) (leb (bookCells b) room) refl refl refl h
-  where
-    whole : b .agreed ≡ true → b .closed ≡ false → leb (bookCells b) room ≡ true → openSpan b room ≡ bookSpan b
-    whole p q r =
-        ap (λ x. cond (x && not (b .closed) && leb (bookCells b) room) (bookSpan b) 0) p ∙ ap (λ x. cond (not x && leb (bookCells b) room) (bookSpan b) 0) q
-        ∙ ap (λ x. cond x (bookSpan b) 0) r
-
-    go : (a z l : Bool) → b .agreed ≡ a → b .closed ≡ z → leb (bookCells b) room ≡ l → m < cond (a && not z && l) (bookSpan b) 0 → Open b room
-    go true false true p q r h = record { agreed = p; unclosed = q; fits = leb-true (bookCells b) room r; whole = whole p q r }
-    go true false false p q r h = absurd (omega arith)
-    go true true l p q r h = absurd (omega arith)
-    go false z l p q r h = absurd (omega arith)
+opened b room m h =
+    true-or-false (b .agreed && not (b .closed) && leb (bookCells b) room)
+    (λ t.
+    let p = on-and (b .agreed && not (b .closed)) (leb (bookCells b) room) t in
+    let q = on-and (b .agreed) (not (b .closed)) (p .0) in
+    record { agreed = q .0; unclosed = not-true (b .closed) (q .1); fits = leb-true (bookCells b) room (p .1); whole = rw t })
+    (λ t. let none : m < 0 = rw t at h in absurd (omega arith))
 
 -- ---- entering
 
@@ -65,18 +61,12 @@ module _ (b : Book) (meter : Memory) (s : sound b ≡ true) (r : Reading) (t : t
       none-met (inputRefusal (readingᶜ r)) (sound b) (b .closed) (b .agreed) (ltb (roomIn meter) (bookCells b)) (p .input) s (o .unclosed) (o .agreed)
       (le-ltb (roomIn meter) (bookCells b) (o .fits)) in
       let below : r .minute .0 < bookSpan b = omega (arith, p .inside, o .whole) in
-      own-takes b meter (readingᶜ r) 0 (sym any) refl
-      (reading-own b meter (o .agreed) r ∙ rw (lt-leb (bookSpan b) (r .minute .0) below, lt-ltb (r .minute .0) (bookSpan b) below, p .unread))
-
-entered-is : (x : Entered) (e : Entry) (m : Memory) → e ≡ x .entry → m ≡ x .meter → x ≡ record { entry = e; meter = m }
-entered-is x e m p q i = record { entry = sym p i; meter = sym q i }
+      own-takes (past-any b (roomIn meter) (readingᶜ r) 0 (sym any) refl) meter refl
+      (reading-number b meter (o .agreed) r ∙ rw (lt-leb (bookSpan b) (r .minute .0) below, lt-ltb (r .minute .0) (bookSpan b) below, p .unread))
 
 -- a sound book takes it, and is as it was
 pub reading-enters : (b : Book) (meter : Memory) (c : Command) → sound b ≡ true → takesReading (openSpan b (roomIn meter)) meter c ≡ true
     → enterBook b meter c ≡ record { entry = takenAs b; meter = putMeter meter c }
 reading-enters b meter =
-    reading-or-not
-    (λ c. sound b ≡ true → takesReading (openSpan b (roomIn meter)) meter c ≡ true
-    → enterBook b meter c ≡ record { entry = takenAs b; meter = putMeter meter c })
-    (λ r s t. let e = takes b meter s r t in entered-is (enterBook b meter (readingᶜ r)) (takenAs b) (putMeter meter (readingᶜ r)) (e .entry) (e .meter))
-    (λ c o s t. absurd (false≢true (unfold takesReading in sym (o .other _ (always false)) ∙ t)))
+    reading-or-not _ (λ r s t. let e = takes b meter s r t in λ i. record { entry = sym (e .entry) i; meter = sym (e .meter) i })
+    (λ c o s t. absurd (false≢true (unfold takesReading in sym (o _ _ (always false)) ∙ t)))

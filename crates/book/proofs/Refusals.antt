@@ -4,17 +4,16 @@ use mathlib.Core.Path.{_≡_, refl, sym, ap, _∙_}
 use mathlib.Core.Bool.{Bool, true, false, not, _&&_, cond, false≢true}
 use mathlib.Core.List.{List, [], _∷_, _++_}
 use mathlib.Core.Option.{Option, none, some}
-use Prim.Native.Nat.{ℕ, zero, suc, _-_, _≤_, _<_}
+use Prim.Native.Nat.{ℕ, zero, suc, _-_, _≤_}
 use native.Mathlib.Omega.{arith}
 use lib.IntN.{ℤ}
-use lib.Dec.{T, eqb, ltb, leb, ltb→lt}
+use lib.Dec.{eqb, ltb}
 use lib.ListN.{length, take, getD}
 use lib.Seq.{length-take-le}
-use borrow.Author.Tests.{ne-eqb, leb-false}
-use Rattle.energy.specs.Lists.{any, last, isEmpty, isSome}
-use Rattle.energy.proofs.Tests.{T-and}
+use borrow.Author.Tests.{ne-eqb}
+use Rattle.energy.specs.Lists.{last, isEmpty, isSome}
 use Rattle.commands.specs.Command.{onContract, always}
-use Rattle.commands.specs.Input.{isReading, Condition, inputConditions, lowest, inputRefusal, orZero}
+use Rattle.commands.specs.Input.{isReading, Condition, inputConditions, inputRefusal}
 use Rattle.commands.specs.declared.contract.Contract.{Contract}
 use Rattle.commands.specs.declared.entries.Window.{Window}
 use Rattle.commands.specs.declared.entries.Instruction.{Instruction}
@@ -23,8 +22,9 @@ use Rattle.commands.specs.declared.entries.Reading.{Reading}
 use Rattle.commands.specs.declared.entries.Command.{Command}
 use Rattle.commands.specs.declared.entries.Command.the-variants.{Contract as contractᶜ, Window as windowᶜ, Instruction as instructionᶜ}
 use Rattle.commands.specs.declared.entries.Command.the-variants.{Default as defaultᶜ, Reading as readingᶜ, Close as closeᶜ}
+use Rattle.commands.proofs.Input.{numbers, numbered, lowest-number, lowest-numbered, numbers-append}
 use Rattle.commands.proofs.ByKind.{contract-or-not}
-use Rattle.rules.specs.Ledger.{isContract, spanOf, expiry, endOf, within, noWindow, noInstruction}
+use Rattle.rules.specs.Ledger.{isContract, spanOf, noWindow, noInstruction}
 use Rattle.rules.specs.Refusal.{cellsFor, bookConditions, kindConditions, conditions, refusal, recovered}
 use Rattle.book_memory.specs.Meter.{Memory, roomIn, kwAt}
 use Rattle.book_refusal.specs.Refusals.{anyRefusal, windowsEnd, windowRefusal, readyAfter, instructionRefusal, defaultRefusal, readingRefusal}
@@ -35,52 +35,6 @@ use Rattle.book.specs.Sound.{sound}
 use Rattle.book.specs.declared.Book.{Book}
 use Rattle.book.proofs.SoundTests.{contract-is}
 use Rattle.book.proofs.Month.{span-is, cells-is}
-
--- ---- all conditions
-
--- every condition has a number
-abbrev numbered : List Condition → Bool
-numbered [] = true
-numbered (c ∷ cs) = ltb 0 (c .number) && numbered cs
-
--- the number of the first condition that holds
-unfoldable pub numbers : List Condition → ℕ
-numbers [] = 0
-numbers (c ∷ cs) = cond (c .holds) (c .number) (numbers cs)
-
-lowest-number : (cs : List Condition) → orZero (lowest cs) ≡ numbers cs
-unfolding lowest numbers
-lowest-number [] = refl
-lowest-number (c ∷ cs) = go (c .holds) (lowest-number cs)
-  where
-    go : (b : Bool) → orZero (lowest cs) ≡ numbers cs
-        → orZero (elim b as (λ x. Option ℕ) [ true ↦ some (c .number) | false ↦ lowest cs ]) ≡ cond b (c .number) (numbers cs)
-    go true e = refl
-    go false e = e
-
--- where the number is 0 no condition holds
-zero-none : (cs : List Condition) → T (numbered cs) → orZero (lowest cs) ≡ 0 → lowest cs ≡ none
-unfolding lowest
-zero-none [] t e = refl
-zero-none (c ∷ cs) t e = go (c .holds) (λ q. zero-none cs (T-and (ltb 0 (c .number)) (numbered cs) t .1) q) e
-  where
-    go : (b : Bool) → (orZero (lowest cs) ≡ 0 → lowest cs ≡ none) → orZero (elim b as (λ x. Option ℕ) [ true ↦ some (c .number) | false ↦ lowest cs ]) ≡ 0
-        → _≡_ {A = Option ℕ} (elim b as (λ x. Option ℕ) [ true ↦ some (c .number) | false ↦ lowest cs ]) none
-    go true r q = absurd (omega (arith, ltb→lt 0 (c .number) (T-and (ltb 0 (c .number)) (numbered cs) t .0)))
-    go false r q = r q
-
--- of two lists of conditions the first decides, and where none of it holds the second
-numbers-append : (xs ys : List Condition) → T (numbered xs) → numbers (xs ++ ys) ≡ cond (eqb (numbers xs) 0) (numbers ys) (numbers xs)
-unfolding numbers
-numbers-append [] ys t = refl
-numbers-append (c ∷ xs) ys t =
-    go (c .number) (c .holds) (T-and (ltb 0 (c .number)) (numbered xs) t .0) (numbers-append xs ys (T-and (ltb 0 (c .number)) (numbered xs) t .1))
-  where
-    go : (n : ℕ) (b : Bool) → T (ltb 0 n) → numbers (xs ++ ys) ≡ cond (eqb (numbers xs) 0) (numbers ys) (numbers xs)
-        → cond b n (numbers (xs ++ ys)) ≡ cond (eqb (cond b n (numbers xs)) 0) (numbers ys) (cond b n (numbers xs))
-    go zero true h e = absurd h
-    go (suc n) true h e = rw (ne-eqb (suc n) 0 (λ q. omega arith))
-    go n false h e = e
 
 -- ---- what any command meets
 
@@ -117,8 +71,8 @@ from-input (suc n) s z a f t rest = rw (ne-eqb (suc n) 0 (λ q. omega arith)) (r
 -- a contract is asked for its own cells
 own-cells : (b : Book) (meter : Memory) (c : Command) → isContract c ≡ true → cellsFor (ledgerIn b meter) c ≡ onContract spanOf (always (bookCells b)) c
 own-cells b meter =
-    contract-or-not (λ c. isContract c ≡ true → cellsFor (ledgerIn b meter) c ≡ onContract spanOf (always (bookCells b)) c) (λ k e. refl)
-    (λ c o e. absurd (false≢true (sym (o .other (λ k. true) (always false)) ∙ e)))
+    contract-or-not _ (λ k e. refl)
+    (λ c o e. absurd (false≢true (sym (o _ (λ k. true) (always false)) ∙ e)))
 
 module _ (b : Book) (meter : Memory) (c : Command) where
   -- the refusal of a command to a book
@@ -126,25 +80,21 @@ module _ (b : Book) (meter : Memory) (c : Command) where
   asked = refusal (not (sound b)) (roomIn meter) (ledgerIn b meter) c
 
   -- conditions up to 15 come first
-  pub by-any : orZero asked ≡ cond (eqb (anyOf b (roomIn meter) c) 0) (ownOf b meter c) (anyOf b (roomIn meter) c)
+  pub by-any : asked ≡ numbered (cond (eqb (anyOf b (roomIn meter) c) 0) (ownOf b meter c) (anyOf b (roomIn meter) c))
   unfolding refusal conditions numbers ledgerIn inputRefusal
   by-any =
       let short : Bool = ltb (roomIn meter) (onContract spanOf (always (bookCells b)) c) in
       let book : List Condition = bookConditions (not (sound b)) (roomIn meter) (ledgerIn b meter) c in
       let own : List Condition = kindConditions (ledgerIn b meter) c in
-      lowest-number (conditions (not (sound b)) (roomIn meter) (ledgerIn b meter) c)
-      ∙ numbers-append (inputConditions c) (book ++ own) tt
-      ∙ ap (λ n. cond (eqb n 0) (numbers (book ++ own)) n) (sym (lowest-number (inputConditions c)))
+      lowest-numbered (conditions (not (sound b)) (roomIn meter) (ledgerIn b meter) c) tt
+      ∙ ap numbered
+      (numbers-append (inputConditions c) (book ++ own) tt
+      ∙ ap (λ n. cond (eqb n 0) (numbers (book ++ own)) n) (sym (lowest-number (inputConditions c) tt))
       ∙ ap (λ m. cond (eqb (inputRefusal c) 0) m (inputRefusal c))
       (from-book (b .contract) (sound b) (b .closed) (b .agreed) (isContract c) short (ltb (roomIn meter) (cellsFor (ledgerIn b meter) c)) (ownOf b meter c)
       (λ e. ap (λ n. ltb (roomIn meter) (onContract spanOf (always n) c)) (cells-is b meter e))
       (λ e. ap (ltb (roomIn meter)) (own-cells b meter c e)))
-      ∙ from-input (inputRefusal c) (sound b) (b .closed) (b .agreed) (isContract c) short (ownOf b meter c)
-
-  -- a number that is 0 is no refusal
-  pub asked-none : orZero asked ≡ 0 → asked ≡ none
-  unfolding refusal conditions
-  asked-none z = zero-none (conditions (not (sound b)) (roomIn meter) (ledgerIn b meter) c) tt z
+      ∙ from-input (inputRefusal c) (sound b) (b .closed) (b .agreed) (isContract c) short (ownOf b meter c))
 
 -- ---- the conditions of a command's own kind, in a book with a contract
 
@@ -168,30 +118,32 @@ ready-after k is (suc n) h =
     ∙ ap (λ (i : Instruction). readyAfter k 1 i) (last-used is (suc n) noInstruction (omega arith) h))
 
 module _ (b : Book) (meter : Memory) (s : b .agreed ≡ true) where
-  pub window-own : (w : Window) → b .nwindows ≤ length (b .windows)
+  pub window-number : (w : Window) → b .nwindows ≤ length (b .windows)
       → ownOf b meter (windowᶜ w)
       ≡ windowRefusal (b .contract .service) (bookSpan b) (windowsEnd (b .nwindows) (getD (b .windows) (b .nwindows - 1) noWindow)) (b .nwindows) w
   unfolding numbers ledgerIn windowRefusal
-  window-own w h =
+  window-number w h =
       rw (contract-is b meter s, span-is b meter s, length-take-le (b .nwindows) (b .windows) h, windows-end (b .windows) (b .nwindows) h)
 
-  pub instruction-own : (i : Instruction) → b .ninstructions ≤ length (b .instructions)
+  pub instruction-number : (i : Instruction) → b .ninstructions ≤ length (b .instructions)
       → ownOf b meter (instructionᶜ i)
       ≡ instructionRefusal (b .contract) (bookSpan b)
       (readyAfter (b .contract) (b .ninstructions) (getD (b .instructions) (b .ninstructions - 1) noInstruction)) (b .ninstructions) i
   unfolding numbers ledgerIn instructionRefusal
-  instruction-own i h =
+  instruction-number i h =
       let ready = ready-after (b .contract) (b .instructions) (b .ninstructions) h in
       rw (contract-is b meter s, span-is b meter s, length-take-le (b .ninstructions) (b .instructions) h, ready)
 
-  pub default-own : (d : Default) → b .ndefaults ≤ length (b .defaults)
+  pub default-number : (d : Default) → b .ndefaults ≤ length (b .defaults)
       → ownOf b meter (defaultᶜ d) ≡ defaultRefusal (bookSpan b) (take (b .nwindows) (b .windows)) (b .ndefaults) d
   unfolding numbers ledgerIn defaultRefusal
-  default-own d h = rw (span-is b meter s, length-take-le (b .ndefaults) (b .defaults) h)
+  default-number d h = rw (span-is b meter s, length-take-le (b .ndefaults) (b .defaults) h)
 
-  pub reading-own : (r : Reading) → ownOf b meter (readingᶜ r) ≡ readingRefusal (bookSpan b) meter r
+  pub reading-number : (r : Reading) → ownOf b meter (readingᶜ r) ≡ readingRefusal (bookSpan b) meter r
   unfolding numbers ledgerIn readingRefusal
-  reading-own r = rw (span-is b meter s, read (ltb (r .minute .0) (bookSpan b)) (isReading (kwAt meter (r .minute .0))) (kwAt meter (r .minute .0)))
+  reading-number r =
+      let kw = kwAt meter (r .minute .0) in
+      rw (span-is b meter s, read (ltb (r .minute .0) (bookSpan b)) (isReading kw) kw)
 
 -- the others have none
 pub contract-own : (b : Book) (meter : Memory) (k : Contract) → ownOf b meter (contractᶜ k) ≡ 0
@@ -201,38 +153,3 @@ contract-own b meter k = refl
 pub close-own : (b : Book) (meter : Memory) → ownOf b meter closeᶜ ≡ 0
 unfolding numbers
 close-own b meter = refl
-
--- ---- a table that is not full
-
--- where no number of a chain of conditions is given, the first condition does not hold, nor do those after it
-past : (t : Bool) (n r : ℕ) → 0 < n → cond t n r ≡ 0 → (t ≡ false) × (r ≡ 0)
-past true n r h e = absurd (omega arith)
-past false n r h e = (refl, e)
-
-pub window-room : (service span end n : ℕ) (w : Window) → windowRefusal service span end n w ≡ 0 → n < 128
-unfolding windowRefusal
-window-room service span end n w e =
-    let inside = past (ltb span (w .end .0)) 16 _ (omega arith) e in
-    let agreed = past (eqb service 0 && eqb (w .verdict) 1) 17 _ (omega arith) (inside .1) in
-    let after = past (ltb (w .start .0) end) 18 _ (omega arith) (agreed .1) in
-    leb-false 128 n (past (leb 128 n) 23 0 (omega arith) (after .1) .0)
-
-pub instruction-room : (k : Contract) (span ready n : ℕ) (i : Instruction) → instructionRefusal k span ready n i ≡ 0 → n < 64
-unfolding instructionRefusal
-instruction-room k span ready n i e =
-    let inside = past (ltb span (endOf k i)) 16 _ (omega arith) e in
-    let ceased = past (ltb (i .cease .0) (expiry k i)) 19 _ (omega arith) (inside .1) in
-    let recovered = past (ltb (i .issue .0) ready) 20 _ (omega arith) (ceased .1) in
-    leb-false 64 n (past (leb 64 n) 23 0 (omega arith) (recovered .1) .0)
-
-pub default-room : (span : ℕ) (ws : List Window) (n : ℕ) (d : Default) → defaultRefusal span ws n d ≡ 0 → n < 128
-unfolding defaultRefusal
-default-room span ws n d e =
-    let inside = past (leb span (d .minute .0)) 16 _ (omega arith) e in
-    let windowed = past (not (any (λ w. within w (d .minute .0)) ws)) 21 _ (omega arith) (inside .1) in
-    leb-false 128 n (past (leb 128 n) 23 0 (omega arith) (windowed .1) .0)
-
--- a reading's minute is in the span
-pub reading-inside : (span : ℕ) (meter : Memory) (r : Reading) → readingRefusal span meter r ≡ 0 → r .minute .0 < span
-unfolding readingRefusal
-reading-inside span meter r e = leb-false span (r .minute .0) (past (leb span (r .minute .0)) 16 _ (omega arith) e .0)

@@ -1,7 +1,7 @@
 -- What a sound book with a contract says of its contract, its windows, its instructions and its defaults, each entry by its place: read off the
 -- tests of 11 by the laws that the rules have of tables.
-use mathlib.Core.Path.{_≡_, refl, sym, _∙_}
-use mathlib.Core.Bool.{Bool, true, false, not, true≢false}
+use mathlib.Core.Path.{_≡_, sym, _∙_}
+use mathlib.Core.Bool.{true, true≢false}
 use mathlib.Core.List.{List, [], _∷_}
 use Prim.Native.Nat.{ℕ, zero, suc, _+_, _%_, _≤_, _<_}
 use native.Mathlib.Omega.{arith}
@@ -10,13 +10,13 @@ use lib.IntN.{pos}
 use lib.ListN.{length, getD, take}
 use Rattle.energy.specs.Lists.{all, any}
 use Rattle.energy.proofs.Tests.{T-and}
-use Rattle.commands.specs.Input.{kwOf, upMinutes, downMinutes, from-to, inRange, rampTooLong, mostMinute}
+use Rattle.commands.specs.Input.{kwOf, upMinutes, downMinutes, from-to, inRange, mostMinute}
 use Rattle.commands.specs.declared.contract.Contract.{Contract}
 use Rattle.commands.specs.declared.entries.Default.{Default}
 use Rattle.commands.specs.declared.entries.Instruction.{Instruction}
 use Rattle.commands.specs.declared.entries.Window.{Window}
-use Rattle.commands.specs.declared.entries.Command.the-variants.{Contract as contractᶜ, Default as defaultᶜ}
-use Rattle.commands.proofs.Chain.{apart}
+use Rattle.commands.specs.declared.entries.Command.the-variants.{Default as defaultᶜ}
+use Rattle.commands.proofs.Chain.{apart, true-or-false}
 use Rattle.commands.proofs.Terms.{bounds, terms}
 use Rattle.rules.specs.Ledger.{expiry, endOf, within}
 use Rattle.rules.specs.Reached.{windowsSound, instructionsSound, defaultSound}
@@ -42,23 +42,6 @@ pub record SoundContract (k : Contract) : Type 0 where
   pub rampStart : (1 ≤ upMinutes k) × (upMinutes k ≤ k .response .0)
   pub fall : downMinutes k ≤ 240
 
-contract-sound : (k : Contract) → T (inRange (contractᶜ k)) → T (not (rampTooLong (contractᶜ k))) → SoundContract k
-contract-sound k operands ramps =
-    let t = terms k operands ramps in
-    let r = t .ranges in
-    record {
-      days = r .days;
-      kw = r .contracted;
-      plain = r .positive;
-      response = r .response;
-      recovery = r .recovery;
-      availability = r .availability;
-      utilisation = r .utilisation;
-      optional = r .optional;
-      rampStart = t .up;
-      fall = t .down .1;
-    }
-
 -- ---- windows
 
 pub record SoundWindow (span : ℕ) (w : Window) : Type 0 where
@@ -77,9 +60,6 @@ module _ (k : Contract) (span : ℕ) where
   each-window e (w ∷ ws) t zero h =
       let f = windows-cons k span e w ws t .0 in record { order = f .order; start = f .start; end = f .end; inside = f .inside }
   each-window e (w ∷ ws) t (suc i) h = each-window (w .end .0) ws (windows-cons k span e w ws t .1) i (omega arith)
-
-  windows-sound : (ws : List Window) → T (windowsSound k span 0 ws) → SoundWindows ws
-  windows-sound ws t = record { window = each-window 0 ws t; apart = in-order k span 0 ws t .apart }
 
   -- ---- instructions
 
@@ -110,9 +90,6 @@ module _ (k : Contract) (span : ℕ) where
   in-turn e (i ∷ is) t (suc j) h =
       let next : suc j + 1 ≡ suc (j + 1) = omega arith in
       rw next (in-turn (endOf k i + k .recovery .0) is (instructions-cons k span e i is t .1) j (omega arith))
-
-  instructions-sound : (is : List Instruction) → T (instructionsSound k span 0 is) → SoundCalls is
-  instructions-sound is t = record { call = each-call 0 is t; order = in-turn 0 is t }
 
   -- ---- defaults
 
@@ -150,19 +127,29 @@ sound-book b e s =
     let span : ℕ = bookSpan b in
     let t = sound-parts b e .tables in
     let p = sound-used b e s in
+    let n = terms k (p .operands) (p .ramps) in
+    let r = n .ranges in
     record {
       counts = (t .windows, t .instructions, t .defaults);
-      contract = contract-sound k (p .operands) (p .ramps);
+      contract =
+          record {
+            days = r .days;
+            kw = r .contracted;
+            plain = r .positive;
+            response = r .response;
+            recovery = r .recovery;
+            availability = r .availability;
+            utilisation = r .utilisation;
+            optional = r .optional;
+            rampStart = n .up;
+            fall = n .down .1;
+          };
       month = cells-most b e;
-      windows = windows-sound k span (take (b .nwindows) (b .windows)) (p .windows);
-      calls = instructions-sound k span (take (b .ninstructions) (b .instructions)) (p .instructions);
-      defaults = each-default k span (take (b .nwindows) (b .windows)) (take (b .ndefaults) (b .defaults)) (p .defaults);
+      windows = record { window = each-window k span 0 _ (p .windows); apart = in-order k span 0 _ (p .windows) .apart };
+      calls = record { call = each-call k span 0 _ (p .instructions); order = in-turn k span 0 _ (p .instructions) };
+      defaults = each-default k span (take (b .nwindows) (b .windows)) _ (p .defaults);
     }
 
 -- a closed book has a contract
 pub closed-agreed : (b : Book) → sound b ≡ true → b .closed ≡ true → b .agreed ≡ true
-closed-agreed b e c = go (b .agreed) refl
-  where
-    go : (s : Bool) → b .agreed ≡ s → s ≡ true
-    go true q = refl
-    go false q = absurd (true≢false (sym c ∙ sound-empty b e q .notClosed))
+closed-agreed b e c = true-or-false (b .agreed) (λ q. q) (λ q. absurd (true≢false (sym c ∙ sound-empty b e q .notClosed)))

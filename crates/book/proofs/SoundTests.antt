@@ -5,35 +5,29 @@ use mathlib.Core.List.{List, [], _∷_}
 use Prim.Native.Nat.{ℕ, _≤_}
 use lib.IntN.{ℤ, pos, negsuc}
 use lib.Dec.{T, eqb→eq, leb→le, le→leb}
-use lib.ListN.{take, drop}
+use lib.ListN.{length, take, drop}
 use Rattle.book_memory.specs.Meter.{Memory}
 use Rattle.energy.specs.Lists.{all, first, pass}
 use Rattle.energy.proofs.Tests.{to-T, of-T, T-and, and-T, passes, passed}
 use Rattle.rules.specs.Ledger.{contractOf, noContract}
 use Rattle.rules.specs.Reached.{agreedTests}
 use Rattle.commands.specs.declared.contract.Contract.{Contract}
-use Rattle.commands.specs.declared.entries.Window.{Window}
-use Rattle.commands.specs.declared.entries.Instruction.{Instruction}
-use Rattle.commands.specs.declared.entries.Default.{Default}
 use Rattle.commands.proofs.Chain.{not-on}
 use Rattle.rules.proofs.Reached.{Parts, parts}
 use Rattle.book.specs.Book.{bookSpan, ledgerIn}
 use Rattle.book_sound.specs.Unused.{isNoWindow, isNoInstruction, isNoDefault, isZero, noContractTests}
-use Rattle.book.specs.Sound.{emptyTests, tableTests, sound}
+use Rattle.book.specs.Sound.{Shaped, emptyTests, tableTests, sound}
 use Rattle.book.specs.declared.Book.{Book}
 
 -- ---- the tables, apart from what is in them: so many entries are in use, and the others are zeros
 
-pub record TablesOf (ws : List Window) (nw : ℕ) (is : List Instruction) (ni : ℕ) (ds : List Default) (nd : ℕ) : Type 0 where
-  pub windows : nw ≤ 128
-  pub instructions : ni ≤ 64
-  pub defaults : nd ≤ 128
-  pub noWindows : T (all isNoWindow (drop nw ws))
-  pub noInstructions : T (all isNoInstruction (drop ni is))
-  pub noDefaults : T (all isNoDefault (drop nd ds))
-
-abbrev pub Tables : Book → Type 0
-Tables b = TablesOf (b .windows) (b .nwindows) (b .instructions) (b .ninstructions) (b .defaults) (b .ndefaults)
+pub record Tables (b : Book) : Type 0 where
+  pub windows : b .nwindows ≤ 128
+  pub instructions : b .ninstructions ≤ 64
+  pub defaults : b .ndefaults ≤ 128
+  pub noWindows : T (all isNoWindow (drop (b .nwindows) (b .windows)))
+  pub noInstructions : T (all isNoInstruction (drop (b .ninstructions) (b .instructions)))
+  pub noDefaults : T (all isNoDefault (drop (b .ndefaults) (b .defaults)))
 
 pub tables-of : (b : Book) → T (pass (tableTests b)) → Tables b
 unfolding tableTests
@@ -58,6 +52,22 @@ tables-pass b t =
         (le→leb (b .ndefaults) 128 (t .defaults), (t .noWindows, (t .noInstructions, (t .noDefaults, tt)))),
       ),
     )
+
+-- one of them, with the length that its array has
+pub record Table {A : Type 0} (none : A → Bool) (most : ℕ) (l : List A) (n : ℕ) : Type 0 where
+  pub within : n ≤ most
+  pub rest : T (all none (drop n l))
+  pub size : length l ≡ most
+
+module _ (b : Book) (t : Tables b) (s : Shaped b) where
+  pub windows-table : Table isNoWindow 128 (b .windows) (b .nwindows)
+  windows-table = record { within = t .windows; rest = t .noWindows; size = s .windows }
+
+  pub instructions-table : Table isNoInstruction 64 (b .instructions) (b .ninstructions)
+  instructions-table = record { within = t .instructions; rest = t .noInstructions; size = s .instructions }
+
+  pub defaults-table : Table isNoDefault 128 (b .defaults) (b .ndefaults)
+  defaults-table = record { within = t .defaults; rest = t .noDefaults; size = s .defaults }
 
 -- ---- the whole test
 
@@ -138,7 +148,3 @@ sound-empty b e s =
       instructions = eqb→eq (b .ninstructions) 0 (p .1 .1 .1 .0);
       defaults = eqb→eq (b .ndefaults) 0 (p .1 .1 .1 .1 .0);
     }
-
--- its contract is zeros
-pub empty-contract : (b : Book) → sound b ≡ true → b .agreed ≡ false → b .contract ≡ noContract
-empty-contract b e s = sound-empty b e s .contract

@@ -1,20 +1,19 @@
 -- Entering keeps a sound book sound, whatever the meter memory: so a list of commands needs the test for 11 only once.
-use mathlib.Core.Path.{_≡_, refl, sym, ap, _∙_, subst, subst⁻¹}
-use mathlib.Core.Bool.{Bool, true, false, cond, not, _&&_, true≢false}
-use mathlib.Core.List.{[], _∷_}
+use mathlib.Core.Path.{_≡_, refl, sym, _∙_, subst, subst⁻¹}
+use mathlib.Core.Bool.{true, not, true≢false}
 use mathlib.Core.Option.{Option, none, some}
 use Prim.Native.Nat.{ℕ, _≤_}
 use native.Mathlib.Omega.{arith}
 use borrow.Author.Tests.{ltb-false}
-use lib.Dec.{ltb}
 use Rattle.book_memory.specs.Meter.{Memory, roomIn}
-use Rattle.energy.specs.Lists.{isEmpty}
 use Rattle.commands.specs.Command.{always}
 use Rattle.rules.specs.Ledger.{Ledger, ledgerOf, cellsIn, spanOf}
 use Rattle.rules.specs.Refusal.{refusal}
 use Rattle.rules.specs.Reached.{Reached}
 use Rattle.rules.specs.File.{written}
 use Rattle.commands.specs.declared.entries.Command.{Command}
+use Rattle.commands.specs.declared.entries.Command.the-variants.{Contract as contractᶜ}
+use Rattle.commands.proofs.Chain.{true-or-false}
 use Rattle.commands.proofs.ByKind.{contract-or-not}
 use Rattle.rules.proofs.Taken.{Allowed, allowed}
 use Rattle.rules.proofs.Rewritten.{rewritten}
@@ -23,6 +22,7 @@ use Rattle.book.specs.Sound.{sound, Shaped}
 use Rattle.book.specs.Enter.{enterBook, enteredBy}
 use Rattle.book.specs.declared.Book.{Book}
 use Rattle.book.proofs.Follow.{Follows, follow}
+use Rattle.book.proofs.Holds.{agreed-before}
 use Rattle.book.proofs.Month.{cells-is, cells-empty}
 use Rattle.book.proofs.FromCommands.{book-reached}
 
@@ -37,24 +37,15 @@ follows-itself b meter s e h =
 
 -- meter memory has the cells where a command is taken
 cells-held : (b : Book) (meter : Memory) (c : Command) → sound b ≡ true → Allowed (roomIn meter) (ledgerIn b meter) c → bookCells b ≤ roomIn meter
-cells-held b meter c e a = go (b .agreed) refl
+cells-held b meter c e a =
+    true-or-false (b .agreed) (λ s. rw (cells-is b meter s) at (under c s a)) (λ s. omega (arith, cells-empty b e s))
   where
     -- a book with a contract takes no other
-    second : (x : Bool) → x ≡ true → (not (isEmpty (cond x (b .contract ∷ []) [])) && true) ≡ false → ⊥
-    second true q h = unfold isEmpty in true≢false h
-    second false q h = true≢false (sym q)
-
     under : (c : Command) → b .agreed ≡ true → Allowed (roomIn meter) (ledgerIn b meter) c → cellsIn (ledgerIn b meter) ≤ roomIn meter
     under =
-        contract-or-not (λ c. b .agreed ≡ true → Allowed (roomIn meter) (ledgerIn b meter) c → cellsIn (ledgerIn b meter) ≤ roomIn meter)
-        (λ k s a. absurd (second (b .agreed) s (unfold ledgerIn in a .book .only)))
-        (λ c o s a.
-        ltb-false (roomIn meter) (cellsIn (ledgerIn b meter))
-        (subst (λ n. ltb (roomIn meter) n ≡ false) (o .other spanOf (always (cellsIn (ledgerIn b meter)))) (a .book .memory)))
-
-    go : (x : Bool) → b .agreed ≡ x → bookCells b ≤ roomIn meter
-    go true s = subst (λ n. n ≤ roomIn meter) (cells-is b meter s) (under c s a)
-    go false s = omega (arith, cells-empty b e s)
+        contract-or-not _
+        (λ k s a. absurd (true≢false (sym s ∙ agreed-before b meter (contractᶜ k) a)))
+        (λ c o s a. ltb-false (roomIn meter) _ (rw (o _ spanOf (always (cellsIn (ledgerIn b meter)))) at (a .book .memory)))
 
 -- what entering leaves of a sound book
 pub record Kept (b : Book) : Type 0 where
@@ -67,8 +58,7 @@ kept b meter c k = go (refusal (not (sound b)) (roomIn meter) (ledgerIn b meter)
   where
     go : (o : Option ℕ) → refusal (not (sound b)) (roomIn meter) (ledgerIn b meter) c ≡ o → Kept (enterBook b meter c .entry .book)
     go none q =
-        let a : Allowed (roomIn meter) (ledgerIn b meter) c =
-        allowed (roomIn meter) (ledgerIn b meter) c (ap (λ x. refusal (not x) (roomIn meter) (ledgerIn b meter) c) (sym (k .sound)) ∙ q) in
+        let a = allowed (roomIn meter) (ledgerIn b meter) c (rw (k .sound) at q) in
         let f = follow c (follows-itself b meter (k .shaped) (k .sound) (cells-held b meter c (k .sound) a)) in
         record { sound = f .sound; shaped = f .shaped }
     go (some n) q = subst⁻¹ (λ o. Kept (enteredBy o b meter c .entry .book)) q k

@@ -1,7 +1,7 @@
 -- Windows that could be entered are in order, so the last one that starts by a minute is the only one that can hold it.
 use mathlib.Core.Path.{_≡_, refl, sym, ap, _∙_, subst}
 use mathlib.Core.Logic.{_↔_, ⊎-elim}
-use mathlib.Core.Bool.{Bool, true, false, _||_}
+use mathlib.Core.Bool.{Bool, true, false, _||_, or-true}
 use mathlib.Core.List.{List, [], _∷_, map}
 use Prim.Native.Nat.{ℕ, zero, suc, _-_, _≤_, _<_}
 use native.Mathlib.Nat.{le-refl, eq-or-lt-of-le}
@@ -11,7 +11,7 @@ use lib.Dec.{T, leb, ltb, leb→le, le→leb, ltb→lt, lt→ltb}
 use lib.ListN.{length, getD, take, List·getD-map}
 use lib.Seq.{getD-take, length-take-le}
 use Rattle.energy.specs.Lists.{any}
-use Rattle.energy.proofs.Tests.{T-and, and-T, to-T}
+use Rattle.energy.proofs.Tests.{T-and, and-T, to-T, of-T}
 use Rattle.rules.specs.Ledger.{within, noWindow}
 use Rattle.rules.specs.Reached.{windowsSound}
 use Rattle.commands.specs.declared.contract.Contract.{Contract}
@@ -36,19 +36,11 @@ found f (x ∷ l) d t = go (λ q. found f l d q) (f x) refl t
     go rest true e t = record { at = 0; below = omega arith; holds = to-T e }
     go rest false e t = let r : Found f l d = rest t in record { at = suc (r .at); below = omega (arith, r .below); holds = r .holds }
 
-or-left : (a b : Bool) → T a → T (a || b)
-or-left true b t = tt
-or-left false b t = absurd t
-
-or-right : (a b : Bool) → T b → T (a || b)
-or-right true b t = tt
-or-right false b t = t
-
 any-at : {A : Type 0} (f : A → Bool) (l : List A) (i : ℕ) (d : A) → i < length l → T (f (getD l i d)) → T (any f l)
 unfolding any
 any-at f [] i d h t = absurd (omega arith)
-any-at f (x ∷ l) zero d h t = or-left (f x) (any f l) t
-any-at f (x ∷ l) (suc i) d h t = or-right (f x) (any f l) (any-at f l i d (omega arith) t)
+any-at f (x ∷ l) zero d h t = rw (of-T (f x) t) tt
+any-at f (x ∷ l) (suc i) d h t = rw (of-T (any f l) (any-at f l i d (omega arith) t), or-true) tt
 
 -- ---- the search in columns that are in order
 

@@ -10,74 +10,42 @@ use Rattle.commands.specs.declared.entries.Command.{Command}
 use Rattle.commands.specs.declared.entries.Command.the-variants.{Contract as contractᶜ, Window as windowᶜ, Instruction as instructionᶜ}
 use Rattle.commands.specs.declared.entries.Command.the-variants.{Default as defaultᶜ, Reading as readingᶜ, Close as closeᶜ}
 
--- a command that is no contract
-pub record NotContract (c : Command) : Type 1 where
-  pub other : {A : Type 0} (f : Contract → A) (g : Command → A) → onContract f g c ≡ g c
+-- what the kinds of command say one by one
+by-kind : (P : Command → Type 0) → ((k : Contract) → P (contractᶜ k)) → ((w : Window) → P (windowᶜ w)) → ((i : Instruction) → P (instructionᶜ i))
+    → ((d : Default) → P (defaultᶜ d)) → ((r : Reading) → P (readingᶜ r)) → P closeᶜ → (c : Command) → P c
+by-kind P k w i d r z (contractᶜ x) = k x
+by-kind P k w i d r z (windowᶜ x) = w x
+by-kind P k w i d r z (instructionᶜ x) = i x
+by-kind P k w i d r z (defaultᶜ x) = d x
+by-kind P k w i d r z (readingᶜ x) = r x
+by-kind P k w i d r z closeᶜ = z
 
-pub contract-or-not : (P : Command → Type 0) → ((k : Contract) → P (contractᶜ k)) → ((c : Command) → NotContract c → P c) → (c : Command) → P c
-contract-or-not P f g (contractᶜ k) = f k
-contract-or-not P f g (windowᶜ w) = g (windowᶜ w) (record { other = λ f g. refl })
-contract-or-not P f g (instructionᶜ i) = g (instructionᶜ i) (record { other = λ f g. refl })
-contract-or-not P f g (defaultᶜ d) = g (defaultᶜ d) (record { other = λ f g. refl })
-contract-or-not P f g (readingᶜ r) = g (readingᶜ r) (record { other = λ f g. refl })
-contract-or-not P f g closeᶜ = g closeᶜ (record { other = λ f g. refl })
+-- a command of another kind: what a definition says of that kind, it leaves to the next
+abbrev pub Not : {X : Type 0} → ((A : Type 0) → (X → A) → (Command → A) → Command → A) → Command → Type 1
+Not {X} on c = (A : Type 0) (f : X → A) (g : Command → A) → on A f g c ≡ g c
 
--- a command that is no window
-pub record NotWindow (c : Command) : Type 1 where
-  pub other : {A : Type 0} (f : Window → A) (g : Command → A) → onWindow f g c ≡ g c
+module _ (P : Command → Type 0) where
+  pub contract-or-not : ((k : Contract) → P (contractᶜ k)) → ((c : Command) → Not (λ A. onContract) c → P c) → (c : Command) → P c
+  contract-or-not f g =
+      by-kind P f (λ w. g _ (λ A p q. refl)) (λ i. g _ (λ A p q. refl)) (λ d. g _ (λ A p q. refl)) (λ r. g _ (λ A p q. refl)) (g _ (λ A p q. refl))
 
-pub window-or-not : (P : Command → Type 0) → ((w : Window) → P (windowᶜ w)) → ((c : Command) → NotWindow c → P c) → (c : Command) → P c
-window-or-not P f g (contractᶜ k) = g (contractᶜ k) (record { other = λ f g. refl })
-window-or-not P f g (windowᶜ w) = f w
-window-or-not P f g (instructionᶜ i) = g (instructionᶜ i) (record { other = λ f g. refl })
-window-or-not P f g (defaultᶜ d) = g (defaultᶜ d) (record { other = λ f g. refl })
-window-or-not P f g (readingᶜ r) = g (readingᶜ r) (record { other = λ f g. refl })
-window-or-not P f g closeᶜ = g closeᶜ (record { other = λ f g. refl })
+  pub window-or-not : ((w : Window) → P (windowᶜ w)) → ((c : Command) → Not (λ A. onWindow) c → P c) → (c : Command) → P c
+  window-or-not f g =
+      by-kind P (λ k. g _ (λ A p q. refl)) f (λ i. g _ (λ A p q. refl)) (λ d. g _ (λ A p q. refl)) (λ r. g _ (λ A p q. refl)) (g _ (λ A p q. refl))
 
--- a command that is no instruction
-pub record NotInstruction (c : Command) : Type 1 where
-  pub other : {A : Type 0} (f : Instruction → A) (g : Command → A) → onInstruction f g c ≡ g c
+  pub instruction-or-not : ((i : Instruction) → P (instructionᶜ i)) → ((c : Command) → Not (λ A. onInstruction) c → P c) → (c : Command) → P c
+  instruction-or-not f g =
+      by-kind P (λ k. g _ (λ A p q. refl)) (λ w. g _ (λ A p q. refl)) f (λ d. g _ (λ A p q. refl)) (λ r. g _ (λ A p q. refl)) (g _ (λ A p q. refl))
 
-pub instruction-or-not : (P : Command → Type 0) → ((i : Instruction) → P (instructionᶜ i)) → ((c : Command) → NotInstruction c → P c) → (c : Command) → P c
-instruction-or-not P f g (contractᶜ k) = g (contractᶜ k) (record { other = λ f g. refl })
-instruction-or-not P f g (windowᶜ w) = g (windowᶜ w) (record { other = λ f g. refl })
-instruction-or-not P f g (instructionᶜ i) = f i
-instruction-or-not P f g (defaultᶜ d) = g (defaultᶜ d) (record { other = λ f g. refl })
-instruction-or-not P f g (readingᶜ r) = g (readingᶜ r) (record { other = λ f g. refl })
-instruction-or-not P f g closeᶜ = g closeᶜ (record { other = λ f g. refl })
+  pub default-or-not : ((d : Default) → P (defaultᶜ d)) → ((c : Command) → Not (λ A. onDefault) c → P c) → (c : Command) → P c
+  default-or-not f g =
+      by-kind P (λ k. g _ (λ A p q. refl)) (λ w. g _ (λ A p q. refl)) (λ i. g _ (λ A p q. refl)) f (λ r. g _ (λ A p q. refl)) (g _ (λ A p q. refl))
 
--- a command that is no default
-pub record NotDefault (c : Command) : Type 1 where
-  pub other : {A : Type 0} (f : Default → A) (g : Command → A) → onDefault f g c ≡ g c
+  pub reading-or-not : ((r : Reading) → P (readingᶜ r)) → ((c : Command) → Not (λ A. onReading) c → P c) → (c : Command) → P c
+  reading-or-not f g =
+      by-kind P (λ k. g _ (λ A p q. refl)) (λ w. g _ (λ A p q. refl)) (λ i. g _ (λ A p q. refl)) (λ d. g _ (λ A p q. refl)) f (g _ (λ A p q. refl))
 
-pub default-or-not : (P : Command → Type 0) → ((d : Default) → P (defaultᶜ d)) → ((c : Command) → NotDefault c → P c) → (c : Command) → P c
-default-or-not P f g (contractᶜ k) = g (contractᶜ k) (record { other = λ f g. refl })
-default-or-not P f g (windowᶜ w) = g (windowᶜ w) (record { other = λ f g. refl })
-default-or-not P f g (instructionᶜ i) = g (instructionᶜ i) (record { other = λ f g. refl })
-default-or-not P f g (defaultᶜ d) = f d
-default-or-not P f g (readingᶜ r) = g (readingᶜ r) (record { other = λ f g. refl })
-default-or-not P f g closeᶜ = g closeᶜ (record { other = λ f g. refl })
-
--- a command that is no reading
-pub record NotReading (c : Command) : Type 1 where
-  pub other : {A : Type 0} (f : Reading → A) (g : Command → A) → onReading f g c ≡ g c
-
-pub reading-or-not : (P : Command → Type 0) → ((r : Reading) → P (readingᶜ r)) → ((c : Command) → NotReading c → P c) → (c : Command) → P c
-reading-or-not P f g (contractᶜ k) = g (contractᶜ k) (record { other = λ f g. refl })
-reading-or-not P f g (windowᶜ w) = g (windowᶜ w) (record { other = λ f g. refl })
-reading-or-not P f g (instructionᶜ i) = g (instructionᶜ i) (record { other = λ f g. refl })
-reading-or-not P f g (defaultᶜ d) = g (defaultᶜ d) (record { other = λ f g. refl })
-reading-or-not P f g (readingᶜ r) = f r
-reading-or-not P f g closeᶜ = g closeᶜ (record { other = λ f g. refl })
-
--- a command that is no close
-pub record NotClose (c : Command) : Type 1 where
-  pub other : {A : Type 0} (a : A) (g : Command → A) → onClose a g c ≡ g c
-
-pub close-or-not : (P : Command → Type 0) → P closeᶜ → ((c : Command) → NotClose c → P c) → (c : Command) → P c
-close-or-not P f g (contractᶜ k) = g (contractᶜ k) (record { other = λ f g. refl })
-close-or-not P f g (windowᶜ w) = g (windowᶜ w) (record { other = λ f g. refl })
-close-or-not P f g (instructionᶜ i) = g (instructionᶜ i) (record { other = λ f g. refl })
-close-or-not P f g (defaultᶜ d) = g (defaultᶜ d) (record { other = λ f g. refl })
-close-or-not P f g (readingᶜ r) = g (readingᶜ r) (record { other = λ f g. refl })
-close-or-not P f g closeᶜ = f
+  pub close-or-not : P closeᶜ → ((c : Command) → Not {X = Unit} (λ A f. onClose (f tt)) c → P c) → (c : Command) → P c
+  close-or-not f g =
+      by-kind P (λ k. g _ (λ A p q. refl)) (λ w. g _ (λ A p q. refl)) (λ i. g _ (λ A p q. refl)) (λ d. g _ (λ A p q. refl))
+      (λ r. g _ (λ A p q. refl)) f

@@ -1,4 +1,4 @@
--- A chain of tests `a && b && ..`, taken apart and put together.
+-- A chain of tests `a && b && ..`, taken apart and put together, and the two cases of a test.
 use mathlib.Core.Path.{_≡_, refl}
 use mathlib.Core.Bool.{Bool, true, false, not, _&&_}
 use mathlib.Core.List.{List, [], _∷_}
@@ -23,3 +23,8 @@ together a (b ∷ bs) t h = together (a && b) bs (and-T a b t (h .0)) (h .1)
 pub not-on : (b : Bool) → T (not b) → b ≡ false
 not-on true t = absurd t
 not-on false t = refl
+
+-- a test holds or it does not
+pub true-or-false : (b : Bool) {P : Type 0} → (b ≡ true → P) → (b ≡ false → P) → P
+true-or-false true f g = f refl
+true-or-false false f g = g refl

@@ -2,25 +2,18 @@
 -- what it has read. By induction over the steps; where the reader stopped once, it stays.
 use mathlib.Core.Path.{_≡_, refl, sym, ap, _∙_}
 use mathlib.Core.List.{List, [], _∷_, _++_, map, append-nil}
-use Prim.Native.Nat.{ℕ, zero, suc, _+_}
+use Prim.Native.Nat.{ℕ, zero, suc}
 use native.Mathlib.Omega.{arith}
-use lib.ListN.{length, replicate, length-append}
+use lib.ListN.{length, replicate}
 use lib.Seq.{append-snoc}
 use Rattle.energy.specs.Lists.{concatMap}
 use Rattle.rules.specs.File.{readAt, readOn, write, commandsFrom, commandsIn}
-use Rattle.rules.proofs.Taken.{concatMap-append}
+use Rattle.rules.proofs.FileLength.{written-longer}
 use Rattle.commands.specs.declared.entries.Command.{Command}
 use Rattle.rules.specs.declared.file.Read.{Read}
 use Rattle.rules.specs.declared.file.Read.the-variants.{Got, End, Refused as refusedʳ}
 use Rattle.file_read.proofs.Steps.{got-long}
 use Rattle.demands.specs.Steps.{enter, read, stop, readCall, Place, outset, onwards, placeFrom, readsTo}
-
--- a command more, in bytes
-written-longer : (cs : List Command) (c : Command) → length (concatMap write (cs ++ c ∷ [])) ≡ length (concatMap write cs) + length (write c)
-unfolding concatMap
-written-longer cs c =
-    ap length (concatMap-append write cs (c ∷ []) ∙ ap (λ l. concatMap write cs ++ l) (append-nil (write c)))
-    ∙ length-append (concatMap write cs) (write c)
 
 module _ (file : List ℕ) where
   -- commands that are entered

@@ -1,10 +1,10 @@
 -- A book written as a unit file and loaded again is the same book with the same readings: the commands that it is written as are the commands of its file,
 -- they are all taken, so that loading ends at the last byte, and they leave its ledger, which fixes the book and what a settlement answers.
 use mathlib.Core.Path.{_≡_, refl, sym, ap, _∙_, subst, subst⁻¹}
-use mathlib.Core.Bool.{true, not}
+use mathlib.Core.Bool.{true, false, not}
 use mathlib.Core.List.{List, [], _∷_, _++_}
 use mathlib.Core.Option.{Option, none, some}
-use Prim.Native.Nat.{ℕ, zero, suc, _+_, _≤_}
+use Prim.Native.Nat.{ℕ, suc, _+_, _≤_}
 use native.Mathlib.Omega.{arith}
 use borrow.Author.Tests.{ltb-false}
 use lib.ListN.{length, drop, length-append}
@@ -14,17 +14,16 @@ use Rattle.energy.specs.Lists.{concatMap}
 use Rattle.energy.proofs.Tests.{of-T, off-not}
 use Rattle.commands.specs.Input.{Condition, lowest}
 use Rattle.rules.specs.Ledger.{Ledger, ledgerOf, cellsIn}
-use Rattle.rules.specs.Refusal.{joined, answerOf}
-use Rattle.rules.specs.File.{readAt, readOn, write, written, fileOf, commandsFrom, commandsIn}
+use Rattle.rules.specs.Refusal.{refusal, joined, answerOf}
+use Rattle.rules.specs.File.{write, written, fileOf, commandsFrom, commandsIn}
 use Rattle.rules.specs.Reached.{Reached}
 use Rattle.rules.specs.Rewritten.{Rewritten}
 use Rattle.commands.specs.declared.entries.Command.{Command}
 use Rattle.rules.specs.declared.answer.Answer.the-variants.{Taken}
-use Rattle.rules.specs.declared.file.Read.{Read}
-use Rattle.rules.specs.declared.file.Read.the-variants.{Got, End, Refused as refusedʳ}
+use Rattle.rules.specs.declared.file.Read.the-variants.{End, Refused as refusedʳ}
 use Rattle.rules.proofs.Replay.{Accepted}
 use Rattle.rules.proofs.Rewritten.{rewritten, written-replay, file-commands}
-use Rattle.rules.proofs.Taken.{Clear, clear, ledgerOf-snoc}
+use Rattle.rules.proofs.Taken.{Clear, clear, grown, ledgerOf-snoc}
 use Rattle.book.specs.Book.{emptyBook, bookCells, ledgerIn}
 use Rattle.book.specs.Sound.{sound, Shaped}
 use Rattle.book.specs.Enter.{enterBook}
@@ -34,8 +33,8 @@ use Rattle.book.proofs.Month.{cells-sound}
 use Rattle.book.proofs.FromCommands.{book-reached, same-book}
 use Rattle.settle.specs.Settle.{settleBook}
 use Rattle.file_read.proofs.Steps.{got-long}
-use Rattle.file_load.specs.Load.{LoadedFile, carriesOn, loadsOn, loadFrom, load}
-use Rattle.file_load.proofs.From.{past-end}
+use Rattle.file_load.specs.Load.{LoadedFile, loadFrom, load}
+use Rattle.file_load.proofs.From.{past-end, by-turns}
 use Rattle.file_write.specs.Write.{writeConditions, writtenBy, writeBook}
 use Rattle.demands.specs.Files.{File·theorem}
 use Rattle.demands.specs.RoundTrip.{bytesIn, SameAgain, RoundTrip·theorem}
@@ -75,33 +74,29 @@ writable b memory bytes e = go (lowest met) refl e
 
 -- a file of nothing but commands that are taken is taken
 module _ (file : List ℕ) {size : ℕ} where
-  all-loaded : (n at : ℕ) (t : List Command) (b : Book) (m : Memory) → Follows size t b m → Accepted size (ledgerOf t) (commandsFrom n file at)
+  all-loaded : (n at : ℕ) (b : Book) (m : Memory) (t : List Command) → Follows size t b m → Accepted size (ledgerOf t) (commandsFrom n file at)
       → length file ≡ at + length (concatMap write (commandsFrom n file at))
       → loadFrom n file at b m .loaded .answer ≡ Taken
-  unfolding loadFrom commandsFrom Accepted concatMap
-  all-loaded zero at t b m f a l = refl
-  all-loaded (suc n) at t b m f a l = go (λ next t b m. all-loaded n next t b m) (readAt file at) refl a l
-    where
-      Rest : Type 0
-      Rest = (next : ℕ) (t : List Command) (b : Book) (m : Memory) → Follows size t b m → Accepted size (ledgerOf t) (commandsFrom n file next)
-          → length file ≡ next + length (concatMap write (commandsFrom n file next))
-          → loadFrom n file next b m .loaded .answer ≡ Taken
-
-      go : Rest → (r : Read) → readAt file at ≡ r → Accepted size (ledgerOf t) (readOn (λ next. commandsFrom n file next) r)
-          → length file ≡ at + length (concatMap write (readOn (λ next. commandsFrom n file next) r))
-          → loadsOn (λ next b m. loadFrom n file next b m) at b m r .loaded .answer ≡ Taken
-      go rest (Got c next) e a l =
-          let cs : List Command = commandsFrom n file next in
-          let b′ : Book = enterBook b m c .entry .book in
-          let m′ : Memory = enterBook b m c .meter in
-          ap (λ x. carriesOn (loadFrom n file next) at x (enterBook b m c) .loaded .answer) (answers c f ∙ ap answerOf (a .0))
-          ∙ rest next (t ++ c ∷ []) b′ m′ (subst (λ o. Follows size (joined o t c) b′ m′) (a .0) (follow c f))
-          (subst⁻¹ (λ g. Accepted size g cs) (ledgerOf-snoc t c) (a .1))
-          (omega (arith, l, got-long file at e, length-append (write c) (concatMap write cs)))
-      go rest (refusedʳ x) e a l =
-          let z : refusedʳ x ≡ End = sym e ∙ past-end file at (omega (arith, l)) in
-          absurd (let o : _≡_ {A = ℕ} 0 1 = cc in omega arith)
-      go rest End e a l = refl
+  unfolding commandsFrom Accepted concatMap
+  all-loaded =
+      by-turns file
+      (λ n at b m l. (t : List Command) → Follows size t b m → Accepted size (ledgerOf t) (commandsFrom n file at)
+      → length file ≡ at + length (concatMap write (commandsFrom n file at))
+      → l .loaded .answer ≡ Taken)
+      (λ at b m t f a l. refl) (λ n at b m e t f a l. refl)
+      (λ n at b m x e t f a l.
+      let none : commandsFrom (suc n) file at ≡ [] = rw e in
+      let z : refusedʳ x ≡ End = sym e ∙ past-end file at (omega (arith, l, ap (λ cs. length (concatMap write cs)) none)) in
+      absurd (let o : _≡_ {A = ℕ} 0 1 = cc in omega arith))
+      (λ n at b m c next x e r t f a l.
+      let first = rw e at a in
+      absurd (refused-taken x (sym r ∙ answers c f ∙ ap answerOf (first .0))))
+      (λ n at b m c next e r loaded rest t f a l.
+      let cs = commandsFrom n file next in
+      let first : (refusal false size (ledgerOf t) c ≡ none) × Accepted size (grown (ledgerOf t) c) cs = rw e at a in
+      let long : length file ≡ at + length (write c ++ concatMap write cs) = rw e at l in
+      rest (t ++ c ∷ []) (subst (λ o. Follows size (joined o t c) (enterBook b m c .entry .book) (enterBook b m c .meter)) (first .0) (follow c f))
+      (rw ledgerOf-snoc (first .1)) (omega (arith, got-long file at e, length-append (write c) (concatMap write cs))))
 
 -- so is the file of a ledger that commands leave
 file-taken : (fresh : Memory) (g : Ledger) → Reached (roomIn fresh) g → load (fileOf g) emptyBook fresh .loaded .answer ≡ Taken
@@ -111,7 +106,7 @@ file-taken fresh g r =
     let cs : List Command = commandsIn (fileOf g) in
     let back : cs ≡ written g = file-commands size g r in
     let long : length (fileOf g) ≡ length (concatMap write cs) = ap (λ cs. length (concatMap write cs)) (sym back) in
-    all-loaded (fileOf g) (length (fileOf g)) 0 [] emptyBook fresh (starts fresh)
+    all-loaded (fileOf g) (length (fileOf g)) 0 emptyBook fresh [] (starts fresh)
     (subst⁻¹ (λ cs. Accepted size (ledgerOf []) cs) back (written-replay size g r .accepted))
     (omega (arith, long))
 

@@ -13,7 +13,7 @@
 -- 4. That a number fits a machine's width: `fits-parts w z (omega ..)`; `fits-sum`, `fits-diff` and `fits-product` ask it of the operands;
 --    `parts-fit` leads back. Put an `SFits` for each number on the way into one record f; `simp (toZ-ofZ, f .x, f .y) ..` then takes the machine's
 --    writing and reading off a need, and leaves a statement on ℤ.
--- 5. A test of two signed numbers: with `testsℤ` in its list `omega` reads `leZ a b ≡ true` and its like; `leZ-yes` and `leZ-no` decide one.
+-- 5. A test of two signed numbers: with `testsℤ` in its list `omega` reads `leZ a b ≡ true` and its like; `leZ-yes` decides one.
 -- 6. A signed number cast to an unsigned one: `nonNeg-parts` that it may be, `abs-parts` what it becomes.
 -- 7. `n / d` and `n % d` of a signed n: `quot-rem`.
 use mathlib.Core.Path.{_≡_, refl, sym, _∙_, ap, subst}
@@ -21,16 +21,17 @@ use mathlib.Core.Logic.{_⊎_, inl, inr}
 use mathlib.Core.Bool.{Bool, true, false, not, cond}
 use Prim.Native.Nat.{ℕ, zero, suc, _+_, _*_, _-_, _/_, _%_, _≤_, _<_, _^_}
 use native.Mathlib.Omega.{arith}
-use lib.Dec.{T, ltb, leb→le, le→leb, ltb→lt, lt→ltb, nltb→le}
+use lib.Dec.{T, leb, ltb, leb·suc-suc, leb→le, le→leb, ltb→lt, lt→ltb, nltb→le}
 use lib.IntN.{ℤ, pos, negsuc, negℤ, natAbs, subℕ, _+ℤ_, _-ℤ_, _*ℤ_}
 use lib.Signed.{leZ, ltZ, nonNeg, quotZ, remZ, _≤ℤ_, _<ℤ_}
-use native.Mathlib.Nat.{zero-div, zero-mod, div-add-mod, div-le-self, mod-lt}
+use native.Mathlib.Nat.{add-zero, zero-add, div-add-mod, div-le-self, mod-lt}
 use mir.Syntax.{Width, w64}
 use mir.Val.{SFits, toZ, ofZ, hbits}
 use mir.Facts.{toZ-ofZ}
 use lib.Pow.{pow-pos}
 use Rattle.energy.specs.Number.{up, down, Within, Upto}
-use borrow.Author.Tests.{leb-false, ltb-false, le-leb, lt-leb}
+use Rattle.energy.proofs.Tests.{either}
+use borrow.Author.Tests.{leb-true, leb-false, ltb-true, ltb-false, le-leb, lt-leb, lt-ltb, le-ltb}
 
 -- z is p - n. Then its own parts, of which one is 0, are at most p and n
 pub record Is (z : ℤ) (p n : ℕ) : Type 0 where
@@ -55,9 +56,6 @@ cond-ind false x y P f g = g tt
 sub-is : (a b : ℕ) → up (subℕ a b) + b ≡ a + down (subℕ a b)
 sub-is a b = cond-ind (ltb a b) (negsuc (b - suc a)) (pos (a - b)) (λ z. up z + b ≡ a + down z)
     (λ t. omega (arith, ltb→lt a b t)) (λ t. omega (arith, nltb→le a b t))
-
-pub sub-parts : (a b : ℕ) → Is (subℕ a b) a b
-sub-parts a b = is _ _ _ (sub-is a b)
 
 add-is : (a b : ℤ) → up (a +ℤ b) + (down a + down b) ≡ up a + up b + down (a +ℤ b)
 add-is (pos a) (pos b) = omega arith
@@ -95,48 +93,38 @@ from-parts (negsuc a) (negsuc b) h = ap negsuc (omega arith)
 pub to-parts : {a b : ℤ} → a ≡ b → up a + down b ≡ up b + down a
 to-parts {a} {b} e = subst (λ (z : ℤ). up a + down z ≡ up z + down a) e refl
 
-le-in : (a b : ℤ) → up a + down b ≤ up b + down a → T (leZ a b)
-le-in (pos a) (pos b) h = le→leb a b (omega arith)
-le-in (pos a) (negsuc b) h = absurd (omega arith)
-le-in (negsuc a) (pos b) h = tt
-le-in (negsuc a) (negsuc b) h = le→leb b a (omega arith)
+-- a test of two numbers is one of their parts
+leZ-parts : (a b : ℤ) → leZ a b ≡ leb (up a + down b) (up b + down a)
+leZ-parts (pos a) (pos b) = simp add-zero
+leZ-parts (pos a) (negsuc b) = sym (lt-leb (a + suc b) (0 + 0) (omega arith))
+leZ-parts (negsuc a) (pos b) = sym (le-leb (0 + 0) (b + suc a) (omega arith))
+leZ-parts (negsuc a) (negsuc b) = simp (zero-add, leb·suc-suc)
 
-le-out : (a b : ℤ) → T (leZ a b) → (up a ≤ up b) × (down b ≤ down a)
-le-out (pos a) (pos b) h = omega (arith, leb→le a b h)
-le-out (pos a) (negsuc b) h = absurd h
-le-out (negsuc a) (pos b) h = omega arith
-le-out (negsuc a) (negsuc b) h = omega (arith, leb→le b a h)
+ltZ-parts : (a b : ℤ) → ltZ a b ≡ ltb (up a + down b) (up b + down a)
+ltZ-parts (pos a) (pos b) = simp add-zero
+ltZ-parts (pos a) (negsuc b) = sym (le-ltb (a + suc b) (0 + 0) (omega arith))
+ltZ-parts (negsuc a) (pos b) = sym (lt-ltb (0 + 0) (b + suc a) (omega arith))
+ltZ-parts (negsuc a) (negsuc b) = simp (zero-add, leb·suc-suc)
 
-lt-in : (a b : ℤ) → up a + down b < up b + down a → T (ltZ a b)
-lt-in (pos a) (pos b) h = lt→ltb a b (omega arith)
-lt-in (pos a) (negsuc b) h = absurd (omega arith)
-lt-in (negsuc a) (pos b) h = tt
-lt-in (negsuc a) (negsuc b) h = lt→ltb b a (omega arith)
-
-lt-out : (a b : ℤ) → T (ltZ a b) → (up a ≤ up b) × (down b ≤ down a) × (up a + down b < up b + down a)
-lt-out (pos a) (pos b) h = omega (arith, ltb→lt a b h)
-lt-out (pos a) (negsuc b) h = absurd h
-lt-out (negsuc a) (pos b) h = omega arith
-lt-out (negsuc a) (negsuc b) h = omega (arith, ltb→lt b a h)
+-- of two numbers in order each part is
+each-part : (a b : ℤ) → up a + down b ≤ up b + down a → (up a ≤ up b) × (down b ≤ down a)
+each-part (pos a) (pos b) h = omega arith
+each-part (pos a) (negsuc b) h = omega arith
+each-part (negsuc a) (pos b) h = omega arith
+each-part (negsuc a) (negsuc b) h = omega arith
 
 pub ≤-from-parts : (a b : ℤ) → up a + down b ≤ up b + down a → a ≤ℤ b
-≤-from-parts a b h = record { le = le-in a b h }
-
-pub ≤-to-parts : {a b : ℤ} → a ≤ℤ b → (up a ≤ up b) × (down b ≤ down a)
-≤-to-parts {a} {b} h = le-out a b (h .le)
+≤-from-parts a b h = record { le = rw leZ-parts (le→leb _ _ h) }
 
 pub <-from-parts : (a b : ℤ) → up a + down b < up b + down a → a <ℤ b
-<-from-parts a b h = record { lt = lt-in a b h }
+<-from-parts a b h = record { lt = rw ltZ-parts (lt→ltb _ _ h) }
 
-pub <-to-parts : {a b : ℤ} → a <ℤ b → (up a ≤ up b) × (down b ≤ down a) × (up a + down b < up b + down a)
-<-to-parts {a} {b} h = lt-out a b (h .lt)
-
--- the rules of `arithℤ`. A rule yields one statement of a hypothesis: for a bound on one part list `≤-to-parts h`
+-- the rules of `arithℤ`
 pub ≤-apart : {a b : ℤ} → a ≤ℤ b → up a + down b ≤ up b + down a
-≤-apart h = omega (arith, ≤-to-parts h)
+≤-apart {a} {b} h = leb→le _ _ (rw leZ-parts at (h .le))
 
 pub <-apart : {a b : ℤ} → a <ℤ b → up a + down b < up b + down a
-<-apart h = <-to-parts h .2
+<-apart {a} {b} h = ltb→lt _ _ (rw ltZ-parts at (h .lt))
 
 pub ruleset arithℤ = (arith, from-parts, to-parts, ≤-from-parts, <-from-parts, ≤-apart, <-apart)
 
@@ -192,61 +180,34 @@ pub abs-parts : (z : ℤ) → natAbs z ≡ up z + down z
 abs-parts (pos n) = omega arith
 abs-parts (negsuc n) = omega arith
 
--- ---- quotient and remainder toward zero, by a natural
-pub quot-parts : (z : ℤ) (m : ℕ) → (up (quotZ z (pos m)) ≡ up z / m) × (down (quotZ z (pos m)) ≡ down z / m)
-quot-parts (pos a) m = (refl, sym (zero-div m))
-quot-parts (negsuc a) m = (neg-parts (pos (suc a / m)) .0 ∙ sym (zero-div m), neg-parts (pos (suc a / m)) .1)
-
-pub rem-parts : (z : ℤ) (m : ℕ) → (up (remZ z (pos m)) ≡ up z % m) × (down (remZ z (pos m)) ≡ down z % m)
-rem-parts (pos a) m = (refl, sym (zero-mod m))
-rem-parts (negsuc a) m = (neg-parts (pos (suc a % m)) .0 ∙ sym (zero-mod m), neg-parts (pos (suc a % m)) .1)
-
 -- ---- what a test of the machine tells
-pub leZ-true : (a b : ℤ) → leZ a b ≡ true → (up a ≤ up b) × (down b ≤ down a)
-leZ-true a b e = le-out a b (subst T (sym e) tt)
-
-pub leZ-false : (a b : ℤ) → leZ a b ≡ false → (up b ≤ up a) × (down a ≤ down b) × (up b + down a < up a + down b)
-leZ-false (pos a) (pos b) e = omega (arith, leb-false a b e)
-leZ-false (pos a) (negsuc b) e = omega arith
-leZ-false (negsuc a) (pos b) e = absurd (subst T e tt)
-leZ-false (negsuc a) (negsuc b) e = omega (arith, leb-false b a e)
-
-pub ltZ-true : (a b : ℤ) → ltZ a b ≡ true → (up a ≤ up b) × (down b ≤ down a) × (up a + down b < up b + down a)
-ltZ-true a b e = lt-out a b (subst T (sym e) tt)
-
-pub ltZ-false : (a b : ℤ) → ltZ a b ≡ false → (up b ≤ up a) × (down a ≤ down b)
-ltZ-false (pos a) (pos b) e = omega (arith, ltb-false a b e)
-ltZ-false (pos a) (negsuc b) e = omega arith
-ltZ-false (negsuc a) (pos b) e = absurd (subst T e tt)
-ltZ-false (negsuc a) (negsuc b) e = omega (arith, ltb-false b a e)
-
--- the same in one statement each, for `omega` to apply to a test that it meets
 pub leZ-on : (a b : ℤ) → leZ a b ≡ true → up a + down b ≤ up b + down a
-leZ-on a b e = omega (arith, leZ-true a b e)
+leZ-on a b e = leb-true _ _ (sym (leZ-parts a b) ∙ e)
 
 pub leZ-off : (a b : ℤ) → leZ a b ≡ false → up b + down a < up a + down b
-leZ-off a b e = leZ-false a b e .2
+leZ-off a b e = leb-false _ _ (sym (leZ-parts a b) ∙ e)
 
 pub ltZ-on : (a b : ℤ) → ltZ a b ≡ true → up a + down b < up b + down a
-ltZ-on a b e = ltZ-true a b e .2
+ltZ-on a b e = ltb-true _ _ (sym (ltZ-parts a b) ∙ e)
 
 pub ltZ-off : (a b : ℤ) → ltZ a b ≡ false → up b + down a ≤ up a + down b
-ltZ-off a b e = omega (arith, ltZ-false a b e)
+ltZ-off a b e = ltb-false _ _ (sym (ltZ-parts a b) ∙ e)
 
 pub ruleset testsℤ = (leZ-on, leZ-off, ltZ-on, ltZ-off)
 
--- and what decides a test
-pub leZ-yes : (a b : ℤ) → up a + down b ≤ up b + down a → leZ a b ≡ true
-leZ-yes (pos a) (pos b) h = le-leb a b (omega arith)
-leZ-yes (pos a) (negsuc b) h = absurd (omega arith)
-leZ-yes (negsuc a) (pos b) h = refl
-leZ-yes (negsuc a) (negsuc b) h = le-leb b a (omega arith)
+-- and of each part, where a bound on one is needed
+pub leZ-true : (a b : ℤ) → leZ a b ≡ true → (up a ≤ up b) × (down b ≤ down a)
+leZ-true a b e = each-part a b (leZ-on a b e)
 
-pub leZ-no : (a b : ℤ) → up b + down a < up a + down b → leZ a b ≡ false
-leZ-no (pos a) (pos b) h = lt-leb a b (omega arith)
-leZ-no (pos a) (negsuc b) h = refl
-leZ-no (negsuc a) (pos b) h = absurd (omega arith)
-leZ-no (negsuc a) (negsuc b) h = lt-leb b a (omega arith)
+pub ltZ-true : (a b : ℤ) → ltZ a b ≡ true → (up a ≤ up b) × (down b ≤ down a) × (up a + down b < up b + down a)
+ltZ-true a b e = let h = ltZ-on a b e in omega (arith, each-part a b (omega arith))
+
+pub ltZ-false : (a b : ℤ) → ltZ a b ≡ false → (up b ≤ up a) × (down a ≤ down b)
+ltZ-false a b e = each-part b a (ltZ-off a b e)
+
+-- what decides a test
+pub leZ-yes : (a b : ℤ) → up a + down b ≤ up b + down a → leZ a b ≡ true
+leZ-yes a b h = leZ-parts a b ∙ le-leb _ _ h
 
 pub nonNeg-parts : (z : ℤ) → down z ≡ 0 → T (nonNeg z)
 nonNeg-parts (pos n) h = tt
@@ -265,17 +226,9 @@ unsigned n z l h =
     }
 
 pub order : (a b : ℤ) → (a <ℤ b) ⊎ (b ≤ℤ a)
-order a b = go (ltZ a b) refl
-  where
-    go : (t : Bool) → ltZ a b ≡ t → (a <ℤ b) ⊎ (b ≤ℤ a)
-    go true e = inl (record { lt = subst T (sym e) tt })
-    go false e = inr (≤-from-parts b a (omega (arith, ltZ-false a b e)))
+order a b = either (ltZ a b) (λ e. inl (<-from-parts a b (ltZ-on a b e))) (λ e. inr (≤-from-parts b a (ltZ-off a b e)))
 
-pub abs-le : (z : ℤ) (b : ℕ) → up z ≤ b + down z → down z ≤ b + up z → natAbs z ≤ b
-abs-le (pos n) b h k = omega arith
-abs-le (negsuc n) b h k = omega arith
-
--- z = m q + r by the parts, with r nearer 0 than m
+-- ---- quotient and remainder toward zero, by a natural: z = m q + r by the parts, with r nearer 0 than m
 pub record QuotRem (z : ℤ) (m : ℕ) : Type 0 where
   pub ups : m * up (quotZ z (pos m)) + up (remZ z (pos m)) ≡ up z
   pub downs : m * down (quotZ z (pos m)) + down (remZ z (pos m)) ≡ down z
@@ -283,16 +236,18 @@ pub record QuotRem (z : ℤ) (m : ℕ) : Type 0 where
   pub rem : (up (remZ z (pos m)) < m) × (down (remZ z (pos m)) < m)
 
 pub quot-rem : (z : ℤ) (m : ℕ) → 0 < m → QuotRem z m
-quot-rem z m h =
-    let (qu, qd) = quot-parts z m in
-    let (ru, rd) = rem-parts z m in
+quot-rem (pos a) m h = record {
+  ups = div-add-mod a m;
+  downs = omega arith;
+  quot = omega (arith, div-le-self a m);
+  rem = omega (arith, mod-lt a h);
+}
+quot-rem (negsuc a) m h =
+    let (qu, qd) = neg-parts (pos (suc a / m)) in
+    let (ru, rd) = neg-parts (pos (suc a % m)) in
     record {
-      ups = rw (qu, ru) (div-add-mod (up z) m);
-      downs = rw (qd, rd) (div-add-mod (down z) m);
-      quot = (rw qu (div-le-self (up z) m), rw qd (div-le-self (down z) m));
-      rem = (rw ru (mod-lt (up z) h), rw rd (mod-lt (down z) h));
+      ups = rw (qu, ru) (omega arith);
+      downs = rw (qd, rd) (div-add-mod (suc a) m);
+      quot = omega (arith, div-le-self (suc a) m);
+      rem = omega (arith, mod-lt (suc a) h);
     }
-
--- the triangle inequality
-pub abs-add : (a b : ℤ) → natAbs (a +ℤ b) ≤ natAbs a + natAbs b
-abs-add a b = omega (arith, add-parts a b, abs-parts a, abs-parts b, abs-parts (a +ℤ b))

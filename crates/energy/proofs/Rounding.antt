@@ -1,41 +1,24 @@
 -- Rounding: the promises of specs/Rounding proved of `nearest`, and the laws by which code rounds. `nearest-by` shows that a number is the nearest,
 -- `nearest-within` says where the nearest lies, both by the parts of the integer kit.
-use mathlib.Core.Path.{_≡_, refl, sym, _∙_, ap, subst}
+use mathlib.Core.Path.{_≡_, sym, ap, subst}
 use mathlib.Core.Logic.{_⊎_, inl, inr, ⊎-elim}
-use mathlib.Core.Bool.{Bool, true, false, cond}
 use Prim.Native.Nat.{ℕ, suc, _+_, _*_, _-_, _/_, _≤_, _<_}
-use native.Mathlib.Nat.{mul-add, mul-comm, suc-mul, div-add-mod', div-lt-iff-lt-mul, mod-lt, div-eq-of-lt-le, mul-le-mul-left, lt-of-mul-lt-mul-left}
+use native.Mathlib.Nat.{mul-add, mul-comm, suc-mul, div-add-mod', div-lt-iff-lt-mul, mod-lt, mul-le-mul-left, lt-of-mul-lt-mul-left}
 use native.Mathlib.Nat.{le-of-lt, le-of-eq}
 use native.Mathlib.Omega.{arith}
 use lib.IntN.{ℤ, pos, negsuc, natAbs, _+ℤ_, _-ℤ_, _*ℤ_}
 use lib.Signed.{shrZ, leZ, _≤ℤ_, _<ℤ_}
 use Rattle.energy.specs.Number.{lesser, nearest, up, down, Within}
 use Rattle.energy.specs.Rounding.{Nearest, Rounding·theorem, distance}
-use Rattle.energy.proofs.Integers.{exact, abs-parts, abs-le, order, from-parts, <-apart, leZ-true, leZ-false, add-parts, diff-parts, mul-parts, arithℤ}
+use Rattle.energy.proofs.Tests.{either}
+use Rattle.energy.proofs.Integers.{exact, abs-parts, order, from-parts, leZ-on, leZ-yes}
+use Rattle.energy.proofs.Integers.{<-apart, ≤-apart, add-parts, diff-parts, mul-parts, arithℤ}
 
--- ---- the floor of z / m: its bounds, and the only number within them
-pub record Floor (z : ℤ) (m : ℕ) (q : ℤ) : Type 0 where
-  pub low : (pos m *ℤ q) ≤ℤ z
-  pub high : z <ℤ (pos m *ℤ q +ℤ pos m)
-
-pub floor-bounds : (z : ℤ) (m : ℕ) → 0 < m → Floor z m (shrZ z m)
-floor-bounds (pos a) m h = record {
-  low = omega (arithℤ, div-add-mod' a m);
-  high = omega (arithℤ, div-add-mod' a m, mod-lt a h);
-}
-floor-bounds (negsuc a) m h = record {
-  low = omega (arithℤ, div-add-mod' a m, mod-lt a h, mul-parts (pos m) (negsuc (a / m)));
-  high = omega (arithℤ, div-add-mod' a m, mul-parts (pos m) (negsuc (a / m)), add-parts (pos m *ℤ negsuc (a / m)) (pos m));
-}
-
-pub floor-only : (z : ℤ) (m : ℕ) (q : ℤ) → Floor z m q → q ≡ shrZ z m
-floor-only (pos a) m (pos k) f = ap pos (sym (div-eq-of-lt-le {k = k} m {m = a} (omega (arithℤ, f)) (omega (arithℤ, f))))
-floor-only (pos a) m (negsuc k) f = absurd (omega (arithℤ, f, mul-parts (pos m) (negsuc k), add-parts (pos m *ℤ negsuc k) (pos m)))
-floor-only (negsuc a) m (pos k) f = absurd (omega (arithℤ, f))
-floor-only (negsuc a) m (negsuc k) f =
-    let p = mul-parts (pos m) (negsuc k) in
-    let s = add-parts (pos m *ℤ negsuc k) (pos m) in
-    ap negsuc (sym (div-eq-of-lt-le {k = k} m {m = a} (omega (arithℤ, f)) (omega (arithℤ, f))))
+-- ---- the floor q of z / m: m q ≤ z < m q + m, by the parts
+floor-bounds : (z : ℤ) (m : ℕ) → 0 < m
+    → (m * up (shrZ z m) + down z ≤ up z + m * down (shrZ z m)) × (up z + m * down (shrZ z m) < m * up (shrZ z m) + down z + m)
+floor-bounds (pos a) m h = omega (arith, div-add-mod' a m, mod-lt a h)
+floor-bounds (negsuc a) m h = omega (arith, div-add-mod' a m, mod-lt a h)
 
 -- ---- the nearest number, by the parts: 2 d q ≤ 2 n + d < 2 d q + 2 d
 abbrev pub By : ℤ → ℕ → ℤ → Type 0
@@ -43,73 +26,46 @@ By n d q =
     (2 * (d * up q) + 2 * down n ≤ 2 * up n + d + 2 * (d * down q))
     × (2 * up n + d + 2 * (d * down q) < 2 * (d * up q) + 2 * down n + 2 * d)
 
-pub nearest-by : (n : ℤ) (d : ℕ) (q : ℤ) → By n d q → q ≡ nearest n d
-unfolding nearest
-nearest-by n d q h =
-    let p = mul-parts (pos (2 * d)) q in
-    let m = mul-parts (pos 2) n in
-    let s = add-parts (pos 2 *ℤ n) (pos d) in
-    floor-only (pos 2 *ℤ n +ℤ pos d) (2 * d) q (record { low = omega arithℤ; high = omega (arithℤ, add-parts (pos (2 * d) *ℤ q) (pos (2 * d))) })
-
 pub nearest-within : (n : ℤ) (d : ℕ) → 0 < d → By n d (nearest n d)
 unfolding nearest
 nearest-within n d h =
-    let q = shrZ (pos 2 *ℤ n +ℤ pos d) (2 * d) in
-    let f : Floor (pos 2 *ℤ n +ℤ pos d) (2 * d) q = floor-bounds (pos 2 *ℤ n +ℤ pos d) (2 * d) (omega arith) in
-    omega (arithℤ, f, mul-parts (pos (2 * d)) q, mul-parts (pos 2) n, add-parts (pos 2 *ℤ n) (pos d), add-parts (pos (2 * d) *ℤ q) (pos (2 * d)))
+    let z = pos 2 *ℤ n +ℤ pos d in
+    omega (arith, floor-bounds z (2 * d) (omega arith), mul-parts (pos 2) n, add-parts (pos 2 *ℤ n) (pos d))
+
+-- and no other number lies so
+pub nearest-by : (n : ℤ) (d : ℕ) (q : ℤ) → By n d q → q ≡ nearest n d
+nearest-by n d q h =
+    let w : By n d (nearest n d) = nearest-within n d (omega arith) in
+    ⊎-elim (λ l. absurd (omega (arith, mul-le-mul-left d (<-apart l))))
+    (λ g. ⊎-elim (λ l. absurd (omega (arith, mul-le-mul-left d (<-apart l)))) (λ k. omega arithℤ) (order (nearest n d) q))
+    (order q (nearest n d))
 
 -- ---- the promises
+
+-- how far off a number is, by the parts
+off : (n : ℤ) (d : ℕ) (z : ℤ) → distance n d z ≡ (up n + d * down z) - (down n + d * up z) + ((down n + d * up z) - (up n + d * down z))
+off n d z = omega (arith, mul-parts (pos d) z, exact (diff-parts n (pos d *ℤ z)), abs-parts (n -ℤ pos d *ℤ z))
+
 module _ (n : ℤ) (d : ℕ) (d>0 : 1 ≤ d) (k : ℤ) where
-  -- how far off the nearest number is, and another, with their signs
-  e : ℤ
-  e = n -ℤ pos d *ℤ nearest n d
-
-  e′ : ℤ
-  e′ = n -ℤ pos d *ℤ k
-
-  record Facts : Type 0 where
-    within : (2 * down e ≤ 2 * up e + d) × (2 * up e < 2 * down e + d)
-    other : up e′ + (down n + d * up k) ≡ up n + d * down k + down e′
-    near : up e + (down n + d * up (nearest n d)) ≡ up n + d * down (nearest n d) + down e
-    size : natAbs e′ ≡ up e′ + down e′
-
-  facts : Facts
-  unfolding e e′
-  facts =
-      let q = nearest n d in
-      let a = diff-parts n (pos d *ℤ q) in
-      let b = mul-parts (pos d) q in
-      record {
-        within = omega (arith, nearest-within n d d>0);
-        other = omega (arith, diff-parts n (pos d *ℤ k), mul-parts (pos d) k);
-        near = omega arith;
-        size = abs-parts (n -ℤ pos d *ℤ k);
-      }
+  abbrev q : ℤ
+  q = nearest n d
 
   -- a larger number is farther off
-  above : nearest n d <ℤ k → natAbs e < natAbs e′
-  above h =
-      let m = mul-le-mul-left d (<-apart h) in
-      let g : natAbs e ≤ natAbs e′ - 1 = abs-le e (natAbs e′ - 1) (omega (arith, facts)) (omega (arith, facts)) in
-      omega (arith, facts)
+  above : q <ℤ k → distance n d q < distance n d k
+  above h = omega (arith, nearest-within n d d>0, mul-le-mul-left d (<-apart h), off n d q, off n d k)
 
-  -- a smaller one is no nearer
-  below : k <ℤ nearest n d → natAbs e ≤ natAbs e′
-  below h = let m = mul-le-mul-left d (<-apart h) in abs-le e (natAbs e′) (omega (arith, facts)) (omega (arith, facts))
+  -- no other is nearer
+  below : k ≤ℤ q → distance n d q ≤ distance n d k
+  below h =
+      ⊎-elim (λ l. omega (arith, nearest-within n d d>0, mul-le-mul-left d (<-apart l), off n d q, off n d k))
+      (λ g. le-of-eq (ap (distance n d) (from-parts q k (omega (arithℤ, h, g))))) (order k q)
 
 pub nearest-is : (n : ℤ) (d : ℕ) → 1 ≤ d → Nearest n d (nearest n d)
-unfolding e e′
-nearest-is n d h = record { closest = closest; larger = larger }
-  where
-    closest : (k : ℤ) → distance n d (nearest n d) ≤ distance n d k
-    closest k =
-        ⊎-elim
-        (λ a. le-of-lt (above n d h k a))
-        (λ b. ⊎-elim (λ a. below n d h k a) (λ a. le-of-eq (ap (distance n d) (from-parts (nearest n d) k (omega (arithℤ, a, b))))) (order k (nearest n d)))
-        (order (nearest n d) k)
-
-    larger : (k : ℤ) → distance n d k ≡ distance n d (nearest n d) → k ≤ℤ nearest n d
-    larger k e = ⊎-elim (λ a. absurd (omega (arith, above n d h k a))) (λ b. b) (order (nearest n d) k)
+nearest-is n d h =
+    record {
+      closest = λ k. ⊎-elim (λ a. le-of-lt (above n d h k a)) (λ b. below n d h k b) (order (nearest n d) k);
+      larger = λ k e. ⊎-elim (λ a. absurd (omega (arith, above n d h k a))) (λ b. b) (order (nearest n d) k);
+    }
 
 pub nearest-only : (n : ℤ) (d : ℕ) (q : ℤ) → 1 ≤ d → Nearest n d q → q ≡ nearest n d
 nearest-only n d q h f =
@@ -118,10 +74,7 @@ nearest-only n d q h f =
     omega (arithℤ, g .larger q same, f .larger (nearest n d) (sym same))
 
 pub nearest-error : (n : ℤ) (d : ℕ) → 1 ≤ d → 2 * distance n d (nearest n d) ≤ d
-nearest-error n d h =
-    let q = nearest n d in
-    let z = n -ℤ pos d *ℤ q in
-    omega (arith, nearest-within n d h, exact (diff-parts n (pos d *ℤ q)), mul-parts (pos d) q, abs-parts z)
+nearest-error n d h = omega (arith, nearest-within n d h, off n d (nearest n d))
 
 pub nearest-mono : (a b : ℤ) (d : ℕ) → 1 ≤ d → a ≤ℤ b → nearest a d ≤ℤ nearest b d
 nearest-mono a b d p h =
@@ -130,21 +83,21 @@ nearest-mono a b d p h =
     (λ le. le)
     (order (nearest b d) (nearest a d))
 
-pub lesser-cases : (a b : ℤ) → ((lesser a b ≡ a) × (a ≤ℤ b)) ⊎ ((lesser a b ≡ b) × (b ≤ℤ a))
+lesser-first : (a b : ℤ) → a ≤ℤ b → lesser a b ≡ a
 unfolding lesser
-lesser-cases a b = go (leZ a b) refl
-  where
-    go : (t : Bool) → leZ a b ≡ t → ((cond t a b ≡ a) × (a ≤ℤ b)) ⊎ ((cond t a b ≡ b) × (b ≤ℤ a))
-    go true e = inl (refl, omega (arithℤ, leZ-true a b e))
-    go false e = inr (refl, omega (arithℤ, leZ-false a b e))
+lesser-first a b h = rw (leZ-yes a b (≤-apart h))
+
+lesser-second : (a b : ℤ) → b ≤ℤ a → lesser a b ≡ b
+unfolding lesser
+lesser-second a b h = either (leZ a b) (λ e. rw e (omega (arithℤ, leZ-on a b e))) (λ e. rw e)
+
+pub lesser-cases : (a b : ℤ) → ((lesser a b ≡ a) × (a ≤ℤ b)) ⊎ ((lesser a b ≡ b) × (b ≤ℤ a))
+lesser-cases a b = ⊎-elim (λ l. let h : a ≤ℤ b = omega arithℤ in inl (lesser-first a b h, h)) (λ h. inr (lesser-second a b h, h)) (order a b)
 
 pub lesser-nearest : (a b : ℤ) (d : ℕ) → 1 ≤ d → lesser (nearest a d) (nearest b d) ≡ nearest (lesser a b) d
 lesser-nearest a b d p =
-    let rounded = lesser-cases (nearest a d) (nearest b d) in
-    ⊎-elim
-    (λ x. ⊎-elim (λ y. y .0 ∙ rw (x .0) refl) (λ y. y .0 ∙ rw (x .0) (omega (arithℤ, y .1, nearest-mono a b d p (x .1)))) rounded)
-    (λ x. ⊎-elim (λ y. y .0 ∙ rw (x .0) (omega (arithℤ, y .1, nearest-mono b a d p (x .1)))) (λ y. y .0 ∙ rw (x .0) refl) rounded)
-    (lesser-cases a b)
+    ⊎-elim (λ x. rw (x .0, lesser-first (nearest a d) (nearest b d) (nearest-mono a b d p (x .1))))
+    (λ x. rw (x .0, lesser-second (nearest a d) (nearest b d) (nearest-mono b a d p (x .1)))) (lesser-cases a b)
 
 pub rounding : Rounding·theorem
 rounding = record { is = nearest-is; only = nearest-only; error = nearest-error; monotone = nearest-mono; least = lesser-nearest }

@@ -1,5 +1,6 @@
 // Energy and money: the four kinds of number, rounding, energy and pence. Everything else builds on these promises.
 pub mod limits;
+pub mod magnitude;
 pub mod money;
 pub mod quarters;
 pub mod ramp;

@@ -1,20 +1,19 @@
 -- Laws of operands put one after the other, and of the rows by which a command is written.
-use mathlib.Core.Path.{_≡_, refl, sym, _∙_, ap}
+use mathlib.Core.Path.{_≡_, refl, _∙_, ap}
 use mathlib.Core.List.{List, [], _∷_, _++_, append-assoc, append-nil}
 use Prim.Native.Nat.{ℕ, zero, suc, _+_, _-_, _≤_, _<_}
-use native.Mathlib.Nat.{not-suc-le-zero, le-of-suc-le-suc, le-of-lt, add-assoc, add-sub-cancel-left}
+use native.Mathlib.Nat.{not-suc-le-zero, le-of-suc-le-suc, add-sub-cancel-left}
 use native.Mathlib.Numerals.{add-one}
 use native.Mathlib.Omega.{arith}
 use lib.ListN.{length, getD, take, drop, length-append, length-drop}
 use lib.Seq.{length-take-le}
-use Rattle.energy.specs.Lists.{putAt}
-use Rattle.energy.proofs.Puts.{put-none, length-put, put-part, put-put}
+use Rattle.energy.specs.Lists.{Laid}
+use Rattle.energy.proofs.Puts.{put-part, laid-long, laid-both}
 use Rattle.rules.specs.File.{table, widthsOf, total, bytesOf, byteOf, operandsOf, writeOperands, write}
 use Rattle.commands.specs.declared.entries.Command.{Command}
 use Rattle.commands.specs.declared.entries.Command.the-variants.{Contract as contractᶜ, Window as windowᶜ, Instruction as instructionᶜ}
 use Rattle.commands.specs.declared.entries.Command.the-variants.{Default as defaultᶜ, Reading as readingᶜ, Close as closeᶜ}
 use Rattle.file_table.specs.Table.{padded, rowOf, rowIn, rowFor}
-use Rattle.file_table.proofs.Operands.{total-more}
 
 -- ---- operands as bytes
 
@@ -37,54 +36,26 @@ operand-suc (w ∷ ws) [] k h j = absurd (not-suc-le-zero j)
 operand-suc (w ∷ ws) (n ∷ v) zero h j = append-nil (bytesOf w n)
 operand-suc (w ∷ ws) (n ∷ v) (suc k) h j = rw (operand-suc ws v k (le-of-suc-le-suc h) (le-of-suc-le-suc j), append-assoc)
 
--- a loop over the operands of a command, from a position on: where the next one goes, and what the memory holds
-pub record Put (m : List ℕ) (at : ℕ) (widths v out : List ℕ) (place k : ℕ) : Type 0 where
-  pub stands : place ≡ at + total (take k widths)
-  pub holds : out ≡ putAt (writeOperands (take k widths) v) m at
-
-pub put-nothing : (m : List ℕ) (at : ℕ) (widths v : List ℕ) → Put m at widths v m at 0
-unfolding total writeOperands
-put-nothing m at widths v = record { stands = omega arith; holds = sym (put-none m at) }
-
-module _ (m : List ℕ) (at : ℕ) (widths v out : List ℕ) (place k : ℕ) (p : Put m at widths v out place k) where
-  reached : k ≤ length widths → k ≤ length v → place ≡ at + length (writeOperands (take k widths) v)
-  reached h j =
+-- a loop over the operands of a command, from a position on: those passed are laid, and the next one goes behind them
+module _ (widths v : List ℕ) (k : ℕ) {m : List ℕ} {at : ℕ} {out : List ℕ} {place : ℕ}
+    (p : Laid (writeOperands (take k widths) v) m at out place) where
+  pub stands : k ≤ length widths → k ≤ length v → place ≡ at + total (take k widths)
+  stands h j =
       let long = length-take-le k widths h in
-      p .stands ∙ ap (λ n. at + n) (sym (length-operand-bytes (take k widths) v (omega arith)))
-
-  -- the memory keeps its length
-  pub put-long : k ≤ length widths → k ≤ length v → place ≤ length m → length out ≡ length m
-  put-long h j room = ap length (p .holds) ∙ length-put (writeOperands (take k widths) v) m at (rw (reached h j) at room)
+      p .ends ∙ ap (λ n. at + n) (length-operand-bytes (take k widths) v (omega arith))
 
   -- the next operand, in a part of the memory of its width
-  module _ (inside : k < length widths) (has : k < length v) (room : place + getD widths k 0 ≤ length m) where
-    width : place + getD widths k 0 - place ≡ getD widths k 0
-    width = add-sub-cancel-left place (getD widths k 0)
-
-    part : length (take (place + getD widths k 0 - place) (drop place out)) ≡ getD widths k 0
-    part =
-        let long = put-long (le-of-lt inside) (le-of-lt has) (omega arith) in
-        rw width (length-take-le (getD widths k 0) (drop place out) (rw length-drop (omega arith)))
-
-    pub put-more : (b : List ℕ) → b ≡ bytesOf (length (take (place + getD widths k 0 - place) (drop place out))) (getD v k 0)
-        → Put m at widths v (take place out ++ (b ++ drop (place + getD widths k 0 - place) (drop place out))) (place + getD widths k 0) (k + 1)
-    put-more b e =
-        record {
-          stands = rw (total-more widths k inside, p .stands, add-assoc);
-          holds =
-              rw (
-                e,
-                part,
-                width,
-                put-part (bytesOf (getD widths k 0) (getD v k 0)) out place (getD widths k 0)
-                    (length-bytes (getD widths k 0) (getD v k 0)),
-                p .holds,
-                add-one k,
-                operand-suc widths v k inside has,
-              )
-              (put-put (writeOperands (take k widths) v) (bytesOf (getD widths k 0) (getD v k 0)) m at place (reached (le-of-lt inside) (le-of-lt has))
-              (omega arith));
-        }
+  pub put-more : k < length widths → k < length v → place + getD widths k 0 ≤ length m
+      → (b : List ℕ) → b ≡ bytesOf (length (take (place + getD widths k 0 - place) (drop place out))) (getD v k 0)
+      → Laid (writeOperands (take (k + 1) widths) v) m at (take place out ++ (b ++ drop (place + getD widths k 0 - place) (drop place out)))
+      (place + getD widths k 0)
+  put-more inside has room b e =
+      let w = getD widths k 0 in
+      let long = laid-long (omega (arith, p .ends)) p in
+      let part : length (take w (drop place out)) ≡ w = length-take-le w (drop place out) (rw length-drop (omega arith)) in
+      let next : Laid (bytesOf w (getD v k 0)) out place (take place out ++ (bytesOf w (getD v k 0) ++ drop w (drop place out))) (place + w) =
+      record { ends = rw length-bytes; holds = put-part (bytesOf w (getD v k 0)) out place w (length-bytes w (getD v k 0)) } in
+      rw (e, add-sub-cancel-left, part, add-one k, operand-suc widths v k inside has) (laid-both (omega arith) p next)
 
 -- ---- commands
 

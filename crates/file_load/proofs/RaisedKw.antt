@@ -35,12 +35,6 @@ module _ (n : ℕ) (fits : n < 2 ^ 32) where
   high : 2 ^ 32 - 500000 ≤ n → pos (raised n) -ℤ pos 500000 ≡ negsuc (2 ^ 32 - suc n)
   high h = omega (arithℤ, diff-parts (pos (raised n)) (pos 500000))
 
-  far-up : 2 ^ 31 ≤ n → isReading (pos n) ≡ false
-  far-up h = lt-leb n 500000 (omega arith)
-
-  far-down : n < 2 ^ 32 - 500000 → isReading (negsuc (2 ^ 32 - suc n)) ≡ false
-  far-down h = rw (lt-leb (2 ^ 32 - suc n) 499999 (omega arith))
-
   -- lowered again, it is the same reading, or none
   pub near-cell : cellReading (pos (raised n) -ℤ pos 500000) ≡ cellReading (signedOf n)
   unfolding signedOf
@@ -51,27 +45,18 @@ module _ (n : ℕ) (fits : n < 2 ^ 32) where
       go true y e f = ap cellReading (low (omega (arith, ltb-true n (2 ^ 31) e)))
       go false true e f =
           let h = ltb-true n (2 ^ 32 - 500000) f in
-          rw (low h, far-up (ltb-false n (2 ^ 31) e), far-down h)
+          rw (low h, lt-leb n 500000 (omega (arith, ltb-false n (2 ^ 31) e)), lt-leb (2 ^ 32 - suc n) 499999 (omega arith))
       go false false e f = ap cellReading (high (ltb-false n (2 ^ 32 - 500000) f))
 
 -- two numbers of which a cellReading says the same
-module _ (k z : ℤ) (e : cellReading k ≡ cellReading z) where
-  pub same-test : isReading k ≡ isReading z
-  same-test = go (isReading k) (isReading z) e
-    where
-      go : (x y : Bool) → cond x (some k) none ≡ cond y (some z) none → x ≡ y
-      go true true e = refl
-      go true false e = absurd (Option·none-ne-some k (sym e))
-      go false true e = absurd (Option·none-ne-some z e)
-      go false false e = refl
-
-  pub same-number : T (isReading k) → k ≡ z
-  same-number = go (isReading k) (isReading z) e
-    where
-      go : (x y : Bool) → cond x (some k) none ≡ cond y (some z) none → T x → k ≡ z
-      go true true e t = cc
-      go true false e t = absurd (Option·none-ne-some k (sym e))
-      go false y e t = absurd t
+alike : (k z : ℤ) → cellReading k ≡ cellReading z → (isReading k ≡ isReading z) × (T (isReading k) → k ≡ z)
+alike k z e = go (isReading k) (isReading z) e
+  where
+    go : (x y : Bool) → cond x (some k) none ≡ cond y (some z) none → (x ≡ y) × (T x → k ≡ z)
+    go true true e = (refl, λ t. cc)
+    go true false e = absurd (Option·none-ne-some k (sym e))
+    go false true e = absurd (Option·none-ne-some z e)
+    go false false e = (refl, λ t. absurd t)
 
 -- ---- the reading
 
@@ -92,10 +77,10 @@ reads s at room byte =
 module _ (span : ℕ) (meter : Memory) (r o : Reading) (minute : r .minute .0 ≡ o .minute .0) (kw : cellReading (r .kw .0) ≡ cellReading (o .kw .0)) where
   taken-alike : takesReading span meter (readingᶜ r) ≡ takesReading span meter (readingᶜ o)
   unfolding takesReading
-  taken-alike = rw (input-none (readingᶜ r), input-none (readingᶜ o), minute, same-test (r .kw .0) (o .kw .0) kw)
+  taken-alike = rw (input-none (readingᶜ r), input-none (readingᶜ o), minute, alike (r .kw .0) (o .kw .0) kw .0)
 
   put-alike : takesReading span meter (readingᶜ r) ≡ true → putMeter meter (readingᶜ r) ≡ putMeter meter (readingᶜ o)
-  put-alike t = rw (minute, same-number (r .kw .0) (o .kw .0) kw (taken-fits span meter r t .1))
+  put-alike t = rw (minute, alike (r .kw .0) (o .kw .0) kw .1 (taken-fits span meter r t .1))
 
 -- a turn at a whole reading, as the code takes it
 module _ (span : ℕ) (s : List ℕ) (at : ℕ) (meter : Memory) (room : at + 7 ≤ length s) (byte : getD s at 0 ≡ 0x4D) (r : Reading)

@@ -11,8 +11,8 @@ use lib.ListN.{length, getD, drop}
 use Rattle.energy.specs.Lists.{else}
 use Rattle.energy.proofs.Tests.{on-and}
 use Rattle.commands.specs.declared.entries.Command.{Command}
-use Rattle.commands.specs.declared.entries.Command.the-variants.{Contract as contractᶜ, Window as windowᶜ, Instruction as instructionᶜ}
-use Rattle.commands.specs.declared.entries.Command.the-variants.{Default as defaultᶜ, Reading as readingᶜ, Close as closeᶜ}
+use Rattle.commands.specs.Command.{always}
+use Rattle.commands.proofs.ByKind.{reading-or-not}
 use Rattle.rules.specs.File.{table, widthsOf, total, operands, byteOf, readAt}
 use Rattle.rules.specs.declared.file.Read.{Read}
 use Rattle.rules.specs.declared.file.Read.the-variants.{Got, End, Refused as refusedʳ}
@@ -62,12 +62,7 @@ module _ (span : ℕ) (s : List ℕ) (at : ℕ) (meter : Memory) where
   -- no reading is taken of a command with another byte
   other-byte : (c : Command) → eqb (byteOf c) 0x4D ≡ false → Left c
   unfolding takesReading
-  other-byte (contractᶜ k) e = refl
-  other-byte (windowᶜ w) e = refl
-  other-byte (instructionᶜ i) e = refl
-  other-byte (defaultᶜ d) e = refl
-  other-byte (readingᶜ r) e = absurd (true≢false e)
-  other-byte closeᶜ e = refl
+  other-byte = reading-or-not (λ c. eqb (byteOf c) 0x4D ≡ false → Left c) (λ r e. absurd (true≢false e)) (λ c o e. o _ _ (always false))
 
   -- a command that is there whole and no whole reading has another byte
   not-whole : (ws : List ℕ) → wholeReading s at ≡ false → at < length s → widthsOf (getD s at 0) table ≡ some ws → 1 + total ws ≤ length s - at
@@ -87,14 +82,11 @@ module _ (span : ℕ) (s : List ℕ) (at : ℕ) (meter : Memory) where
   unfolding standAt
   no-reading w = go (found s at)
     where
-      left : (c : Command) (next : ℕ) → takesReading span meter c ≡ false → standBy span at meter (Got c next) ≡ record { at = at; meter = meter }
-      left c next e = rw e
-
       go : {r : Read} → Found s at r → standBy span at meter r ≡ record { at = at; meter = meter }
       go (ended h) = refl
       go (unknown h e) = refl
       go (short h e k) = refl
-      go (entire {ws} {c} h e k g) = left c _ (other-byte c (rw (byte-back (getD s at 0) (operands ws (drop (at + 1) s)) c g) (not-whole ws w h e k)))
+      go (entire {ws} {c} h e k g) = rw (other-byte c (rw (byte-back (getD s at 0) (operands ws (drop (at + 1) s)) c g) (not-whole ws w h e k)))
 
   -- where a turn stands still, meter memory is as it was
   unmoved : standAt span s at meter .at ≡ at → standAt span s at meter .meter ≡ meter

@@ -1,14 +1,15 @@
 -- A turn of the loop over a file: what is left of the file after it, and that the loop ends.
 use mathlib.Core.Path.{_≡_, refl, sym, ap, _∙_}
-use mathlib.Core.Bool.{Bool, true, false, cond, true≢false, false≢true}
+use mathlib.Core.Bool.{Bool, true, false, cond}
 use mathlib.Core.List.{List}
 use Prim.Native.Nat.{ℕ, zero, suc, _+_, _-_, _≤_, _<_}
 use native.Mathlib.Omega.{arith}
 use lib.ListN.{length, length-set}
 use Rattle.rules.specs.File.{readAt}
 use Rattle.commands.specs.declared.entries.Command.{Command}
-use Rattle.commands.specs.declared.entries.Command.the-variants.{Contract as contractᶜ, Window as windowᶜ, Instruction as instructionᶜ}
-use Rattle.commands.specs.declared.entries.Command.the-variants.{Default as defaultᶜ, Reading as readingᶜ, Close as closeᶜ}
+use Rattle.commands.specs.declared.entries.Command.the-variants.{Reading as readingᶜ}
+use Rattle.commands.specs.Command.{always}
+use Rattle.commands.proofs.ByKind.{reading-or-not}
 use Rattle.commands.specs.declared.entries.Reading.{Reading}
 use Rattle.rules.specs.declared.answer.Answer.{Answer}
 use Rattle.rules.specs.declared.answer.Answer.the-variants.{Taken, Refused}
@@ -33,66 +34,36 @@ abbrev pub rest : List ℕ → Bool → Loaded → Memory → LoadedFile
 rest s true l meter = from s (l .at) (l .book) meter
 rest s false l meter = record { loaded = l; meter = meter }
 
+-- one turn more while the loop goes on
+abbrev pub more : Bool → ℕ
+more true = 1
+more false = 0
+
+-- what is known of a turn t at a position, where f was left of the file: its rest is that, a position within the file stays there, it has moved if
+-- it goes on, and the book stays sound
+pub record After (s : List ℕ) (at : ℕ) (b : Book) (f : LoadedFile) (t : Turn) (after : Memory) : Type 0 where
+  pub again : f ≡ rest s (t .going) (t .loaded) after
+  pub inside : at ≤ length s → t .loaded .at ≤ length s
+  pub less : at ≤ length s → (length s - t .loaded .at) + more (t .going) < (length s - at) + 1
+  pub keeps : Kept b → Kept (t .loaded .book)
+
 module _ (s : List ℕ) (at : ℕ) (b : Book) (meter : Memory) where
-  -- the turn and its rest are what was left before it
-  pub turn-rest : from s at b meter ≡ rest s (turnAt s at b meter .turn .going) (turnAt s at b meter .turn .loaded) (turnAt s at b meter .meter)
+  -- a turn of the loop, as the code has it
+  pub turned : {t : Turn} {after : Memory} → (t ≡ turnAt s at b meter .turn) × (after ≡ turnAt s at b meter .meter)
+      → After s at b (from s at b meter) t after
   unfolding turnAt
-  turn-rest = from-step s at b meter ∙ go (readAt s at)
+  turned e = rw (e .0, e .1, from-step s at b meter) (go (readAt s at) refl)
     where
-      answered : (next : ℕ) (a : Answer) (e : Entered)
-          → carriesOn (λ b m. from s next b m) at a e ≡ rest s (goesBy at next a (e .entry .book) .going) (goesBy at next a (e .entry .book) .loaded) (e .meter)
-      answered next Taken e = refl
-      answered next (Refused n) e = refl
+      answered : (next : ℕ) (a : Answer) (e : Entered) → (at < next) × (next ≤ length s) → (Kept b → Kept (e .entry .book))
+          → After s at b (carriesOn (λ b m. from s next b m) at a e) (goesBy at next a (e .entry .book)) (e .meter)
+      answered next Taken e h k = record { again = refl; inside = λ l. h .1; less = λ l. omega arith; keeps = k }
+      answered next (Refused n) e h k = record { again = refl; inside = λ l. l; less = λ l. omega arith; keeps = k }
 
-      go : (r : Read) → loadsOn (λ next b m. from s next b m) at b meter r ≡ rest s (turnBy at b meter r .turn .going) (turnBy at b meter r .turn .loaded)
-          (turnBy at b meter r .meter)
-      go (Got c next) = answered next (enterBook b meter c .entry .answer) (enterBook b meter c)
-      go (refusedʳ n) = refl
-      go End = refl
-
-  -- where it goes on, it has moved within the file
-  pub turn-moves : turnAt s at b meter .turn .going ≡ true → (at < turnAt s at b meter .turn .loaded .at) × (turnAt s at b meter .turn .loaded .at ≤ length s)
-  unfolding turnAt
-  turn-moves = go (readAt s at) refl
-    where
-      answered : (next : ℕ) (a : Answer) (e : Book) → (at < next) × (next ≤ length s) → goesBy at next a e .going ≡ true
-          → (at < goesBy at next a e .loaded .at) × (goesBy at next a e .loaded .at ≤ length s)
-      answered next Taken e h g = h
-      answered next (Refused n) e h g = absurd (false≢true g)
-
-      go : (r : Read) → readAt s at ≡ r → turnBy at b meter r .turn .going ≡ true
-          → (at < turnBy at b meter r .turn .loaded .at) × (turnBy at b meter r .turn .loaded .at ≤ length s)
-      go (Got c next) e g = answered next (enterBook b meter c .entry .answer) (enterBook b meter c .entry .book) (got-within s at e) g
-      go (refusedʳ n) e g = absurd (false≢true g)
-      go End e g = absurd (false≢true g)
-
-  -- where it does not, it stands where it stood
-  pub turn-stays : turnAt s at b meter .turn .going ≡ false → turnAt s at b meter .turn .loaded .at ≡ at
-  unfolding turnAt
-  turn-stays = go (readAt s at)
-    where
-      answered : (next : ℕ) (a : Answer) (e : Book) → goesBy at next a e .going ≡ false → goesBy at next a e .loaded .at ≡ at
-      answered next Taken e g = absurd (true≢false g)
-      answered next (Refused n) e g = refl
-
-      go : (r : Read) → turnBy at b meter r .turn .going ≡ false → turnBy at b meter r .turn .loaded .at ≡ at
-      go (Got c next) g = answered next (enterBook b meter c .entry .answer) (enterBook b meter c .entry .book) g
-      go (refusedʳ n) g = refl
-      go End g = refl
-
-  -- the book stays sound
-  pub turn-keeps : Kept b → Kept (turnAt s at b meter .turn .loaded .book)
-  unfolding turnAt
-  turn-keeps k = go (readAt s at)
-    where
-      answered : (next : ℕ) (a : Answer) (e : Book) → Kept e → Kept (goesBy at next a e .loaded .book)
-      answered next Taken e k = k
-      answered next (Refused n) e k = k
-
-      go : (r : Read) → Kept (turnBy at b meter r .turn .loaded .book)
-      go (Got c next) = answered next (enterBook b meter c .entry .answer) (enterBook b meter c .entry .book) (kept b meter c k)
-      go (refusedʳ n) = k
-      go End = k
+      go : (r : Read) → readAt s at ≡ r
+          → After s at b (loadsOn (λ next b m. from s next b m) at b meter r) (turnBy at b meter r .turn) (turnBy at b meter r .meter)
+      go (Got c next) e = answered next (enterBook b meter c .entry .answer) (enterBook b meter c) (got-within s at e) (kept b meter c)
+      go (refusedʳ n) e = record { again = refl; inside = λ l. l; less = λ l. omega arith; keeps = λ k. k }
+      go End e = record { again = refl; inside = λ l. l; less = λ l. omega arith; keeps = λ k. k }
 
 -- ---- a turn without the book
 
@@ -130,12 +101,9 @@ module _ (span : ℕ) (s : List ℕ) (at : ℕ) (meter : Memory) where
       answered false next r = refl
 
       go : (r : Read) → roomIn (standBy span at meter r .meter) ≡ roomIn meter
-      go (Got (contractᶜ k) next) = refl
-      go (Got (windowᶜ w) next) = refl
-      go (Got (instructionᶜ i) next) = refl
-      go (Got (defaultᶜ d) next) = refl
-      go (Got (readingᶜ r) next) = answered (takesReading span meter (readingᶜ r)) next r
-      go (Got closeᶜ next) = refl
+      go (Got c next) =
+          reading-or-not (λ c. roomIn (chosen (takesReading span meter c) at next meter c .meter) ≡ roomIn meter)
+          (λ r. answered (takesReading span meter (readingᶜ r)) next r) (λ c o. rw (o _ _ (always false)) refl) c
       go (refusedʳ n) = refl
       go End = refl
 
@@ -153,42 +121,6 @@ module _ (span : ℕ) (s : List ℕ) (x : Stand) where
   stands-rest b k o (suc n) =
       stands-rest b k o n
       ∙ stand-rest span s (stands n span s x .at) (stands n span s x .meter) b k (o ∙ ap (openSpan b) (sym (stands-room n)))
-
--- ---- the loop
-
--- one turn more while the loop goes on
-abbrev pub more : Bool → ℕ
-more true = 1
-more false = 0
-
--- a turn of the loop, as the code has it
-module _ (s : List ℕ) (at : ℕ) (b : Book) (meter : Memory) (r : Turn) (after : Memory) (turned : r ≡ turnAt s at b meter .turn)
-    (left : after ≡ turnAt s at b meter .meter) where
-  pub again : from s at b meter ≡ rest s (r .going) (r .loaded) after
-  again = turn-rest s at b meter ∙ sym (rw (turned, left) refl)
-
-  pub keeps : Kept b → Kept (r .loaded .book)
-  keeps k = rw turned (turn-keeps s at b meter k)
-
-  moves : r .going ≡ true → (at < r .loaded .at) × (r .loaded .at ≤ length s)
-  moves = rw turned (turn-moves s at b meter)
-
-  stays : r .going ≡ false → r .loaded .at ≡ at
-  stays = rw turned (turn-stays s at b meter)
-
-  pub inside : at ≤ length s → r .loaded .at ≤ length s
-  inside h = go (r .going) refl
-    where
-      go : (b : Bool) → r .going ≡ b → r .loaded .at ≤ length s
-      go true e = moves e .1
-      go false e = omega (arith, stays e)
-
-  pub less : at ≤ length s → (length s - r .loaded .at) + more (r .going) < (length s - at) + 1
-  less h = go (r .going) refl
-    where
-      go : (b : Bool) → r .going ≡ b → (length s - r .loaded .at) + more b < (length s - at) + 1
-      go true e = omega (arith, moves e)
-      go false e = omega (arith, stays e)
 
 -- a run of turns without the book, as the code has it
 pub run-again : (s : List ℕ) (at : ℕ) (b : Book) (span : ℕ) (meter : Memory) (next : ℕ) (after : Memory) → Run span s at meter next after → Kept b

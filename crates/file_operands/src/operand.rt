@@ -1,6 +1,7 @@
 // The operands of a command, as numbers without a sign.
 use commands::contract::Contract;
 use commands::entries::Command;
+use energy::magnitude::magnitude;
 use file_table::table::CLOSE_BYTE;
 use file_table::table::CONTRACT_BYTE;
 use file_table::table::DEFAULT_BYTE;
@@ -9,7 +10,6 @@ use file_table::table::READING_BYTE;
 use file_table::table::WINDOW_BYTE;
 ghost use mathlib.Core.Path.{_≡_};
 ghost use mathlib.Core.List.{[], _∷_};
-ghost use lib.IntN.{natAbs};
 ghost use Rattle.rules.specs.File.{byteOf, operandsOf, unsignedOf};
 ghost use Rattle.commands.specs.declared.entries.Command.the-variants.{Contract as contractᶜ};
 ghost use Rattle.file_table.specs.Table.{padded};
@@ -25,18 +25,6 @@ pub fn byte_of(command: Command) -> u8
         Command::Default(_) => DEFAULT_BYTE,
         Command::Reading(_) => READING_BYTE,
         Command::Close => CLOSE_BYTE,
-    }
-}
-
-// How far a number is from 0.
-fn magnitude(number: i64) -> u64
-    ensures { λ r. ⌜ r ≡ natAbs number ⌝ }
-{
-    if number < 0 {
-        let below = 0 - (number + 1);
-        below as u64 + 1
-    } else {
-        number as u64
     }
 }
 

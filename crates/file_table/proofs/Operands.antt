@@ -7,21 +7,20 @@ use native.Mathlib.Numerals.{add-one}
 use native.Mathlib.Omega.{arith}
 use lib.Dec.{lit<}
 use lib.ListN.{length, getD, take, drop, set, replicate, length-append}
-use lib.Seq.{length-take-le, getD-drop, drop-drop, set-at}
+use lib.Seq.{length-take-le, getD-drop, drop-drop, set-at, take-suc}
 use Rattle.rules.specs.File.{total, wordFrom, operands, commandOf}
 use Rattle.file_table.specs.Table.{padded}
 use Rattle.file_table.proofs.Words.{Bytes, word-below}
 
 -- ---- the widths passed
 
-total-suc : (ws : List ℕ) (k : ℕ) → k < length ws → total (take (suc k) ws) ≡ total (take k ws) + getD ws k 0
+total-snoc : (ws : List ℕ) (w : ℕ) → total (ws ++ (w ∷ [])) ≡ total ws + w
 unfolding total
-total-suc [] k h = absurd (not-suc-le-zero h)
-total-suc (w ∷ ws) zero h = omega arith
-total-suc (w ∷ ws) (suc k) h = omega (arith, total-suc ws k (le-of-suc-le-suc h))
+total-snoc [] w = omega arith
+total-snoc (v ∷ ws) w = omega (arith, total-snoc ws w)
 
 pub total-more : (ws : List ℕ) (k : ℕ) → k < length ws → total (take (k + 1) ws) ≡ total (take k ws) + getD ws k 0
-total-more ws k h = rw (add-one k) (total-suc ws k h)
+total-more ws k h = rw (add-one k, take-suc ws k 0) (total-snoc (take k ws) (getD ws k 0))
 
 pub total-within : (ws : List ℕ) (k n : ℕ) → k ≤ n → total (take k ws) ≤ total (take n ws)
 unfolding total
@@ -42,16 +41,14 @@ unfolding operands
 length-operands [] s = refl
 length-operands (w ∷ ws) s = ap suc (length-operands ws (drop w s))
 
-operands-suc : (ws s : List ℕ) (k : ℕ) → k < length ws
-    → operands (take (suc k) ws) s ≡ operands (take k ws) s ++ (wordFrom 0 (take (getD ws k 0) (drop (total (take k ws)) s)) ∷ [])
+operands-snoc : (ws s : List ℕ) (w : ℕ) → operands (ws ++ (w ∷ [])) s ≡ operands ws s ++ (wordFrom 0 (take w (drop (total ws) s)) ∷ [])
 unfolding operands total
-operands-suc [] s k h = absurd (not-suc-le-zero h)
-operands-suc (w ∷ ws) s zero h = refl
-operands-suc (w ∷ ws) s (suc k) h = rw (operands-suc ws (drop w s) k (le-of-suc-le-suc h), drop-drop)
+operands-snoc [] s w = refl
+operands-snoc (v ∷ ws) s w = rw (operands-snoc ws (drop v s) w, drop-drop)
 
 pub operands-more : (ws s : List ℕ) (k : ℕ) → k < length ws
     → operands (take (k + 1) ws) s ≡ operands (take k ws) s ++ (wordFrom 0 (take (getD ws k 0) (drop (total (take k ws)) s)) ∷ [])
-operands-more ws s k h = rw (add-one k) (operands-suc ws s k h)
+operands-more ws s k h = rw (add-one k, take-suc ws k 0) (operands-snoc (take k ws) s (getD ws k 0))
 
 -- ---- numbers in eleven places
 

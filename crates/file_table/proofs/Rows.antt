@@ -4,7 +4,6 @@ use mathlib.Core.Bool.{Bool, true, false, _&&_, cond}
 use mathlib.Core.List.{List, [], _∷_}
 use mathlib.Core.Option.{Option, none, some}
 use Prim.Native.Nat.{ℕ, zero, suc, _+_, _≤_, _<_}
-use native.Mathlib.Nat.{not-suc-le-zero, le-of-suc-le-suc}
 use native.Mathlib.Numerals.{add-one}
 use native.Mathlib.Omega.{arith}
 use borrow.Author.Tests.{eq-eqb, ne-eqb}
@@ -17,12 +16,6 @@ use Rattle.rules.specs.File.{Layout, table, widthsOf, total}
 use Rattle.file_table.specs.Table.{padded, rowOf, layoutAt, rowIn, rowFor, byteWidths}
 use Rattle.file_table.specs.Operands.{Narrow}
 use Rattle.file_table.proofs.Operands.{getD-padded}
-
--- within a list the default is not used
-pub getD-any : {A : Type 0} (l : List A) (k : ℕ) (d e : A) → k < length l → getD l k d ≡ getD l k e
-getD-any [] k d e h = absurd (not-suc-le-zero h)
-getD-any (x ∷ l) zero d e h = refl
-getD-any (x ∷ l) (suc k) d e h = getD-any l k d e (le-of-suc-le-suc h)
 
 -- ---- a search for a command byte that has come to a place
 module _ (b k : ℕ) (searched : widthsOf b table ≡ widthsOf b (drop k table)) where

@@ -2,13 +2,13 @@
 use mathlib.Core.Path.{_≡_, refl, sym, _∙_}
 use mathlib.Core.List.{List, [], _∷_, _++_}
 use Prim.Native.Nat.{ℕ, zero, suc, _+_, _-_, _*_, _/_, _%_, _^_, _≤_, _<_, zero-le}
-use native.Mathlib.Nat.{not-suc-le-zero, le-of-suc-le-suc, sub-self, sub-zero, div-one, pow-suc, pow-succ', mul-assoc, mul-le-mul-right}
+use native.Mathlib.Nat.{le-of-lt, sub-self, sub-zero, div-one, pow-suc, pow-succ', mul-assoc, mul-le-mul-right}
 use native.Mathlib.Nat.{mul-le-mul-left, lt-of-lt-of-le, pow-le-pow-right, div-div-eq-div-mul}
 use native.Mathlib.Numerals.{add-one}
 use native.Mathlib.Omega.{arith}
 use lib.Dec.{lit<}
 use lib.ListN.{length, getD, take, drop, set, length-set}
-use lib.Seq.{take-suc, drop-length}
+use lib.Seq.{take-suc, drop-length, drop-at, set-split, length-take-le}
 use Rattle.rules.specs.File.{wordFrom, bytesOf}
 
 -- ---- reading
@@ -40,9 +40,7 @@ word-below i s h = omega (arith, below i 0 s h)
 -- ---- writing
 
 drop-set : (l : List ℕ) (i a : ℕ) → i < length l → drop i (set l i a) ≡ a ∷ drop (suc i) l
-drop-set [] i a h = absurd (not-suc-le-zero h)
-drop-set (x ∷ l) zero a h = refl
-drop-set (x ∷ l) (suc i) a h = drop-set l i a (le-of-suc-le-suc h)
+drop-set l i a h = rw (set-split l i a h) (drop-at (take i l) (a ∷ drop (suc i) l) i (length-take-le i l (le-of-lt h)))
 
 -- the last bytes, as many as are below the next one, are the number's lowest, and the rest is what the number has above them
 pub record Lowest (number size : ℕ) (out : List ℕ) (rest below : ℕ) : Type 0 where

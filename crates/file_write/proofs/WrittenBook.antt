@@ -9,7 +9,6 @@ use native.Mathlib.Omega.{arith}
 use borrow.Author.Tests.{lt-ltb, le-ltb}
 use lib.ListN.{length, length-map}
 use Rattle.energy.specs.Lists.{concatMap, run, between, putAt}
-use Rattle.rules.specs.Ledger.{spanIn}
 use Rattle.commands.specs.Input.{lowest, mostMinute}
 use Rattle.rules.specs.File.{readingAt, written, fileOf}
 use Rattle.commands.specs.declared.contract.Contract.{Contract}
@@ -70,25 +69,17 @@ readings-part b meter =
     concatMap-ext _ _ (bookSpan b - 0) 0
     (λ m h. ap (λ (inside : Bool). readingAt (cond inside (cellReading (kwAt meter m)) none) m) (lt-ltb m (bookSpan b) (omega arith)))
 
-module _ (b : Book) (meter : Memory) (e : sound b ≡ true) where
-  readings-written : concatMap (λ m. readingAt (ledgerIn b meter .reading m) m) (between 0 (spanIn (ledgerIn b meter))) ≡ readings meter (bookSpan b)
-  readings-written = ap (λ n. concatMap (λ m. readingAt (ledgerIn b meter .reading m) m) (between 0 n)) (span-sound b meter e) ∙ readings-part b meter
-
-  written-parts : written (ledgerIn b meter) ≡ parts b meter
-  unfolding written parts ledgerIn
-  written-parts =
-      ap₂ _++_
-      (ap₂ _++_
-      (ap₂ _++_
-      (ap₂ _++_ (ap₂ _++_ (contract-part (b .agreed) (b .contract)) (sym (take-map windowᶜ (b .nwindows) (b .windows))))
-      (sym (take-map instructionᶜ (b .ninstructions) (b .instructions))))
-      (sym (take-map defaultᶜ (b .ndefaults) (b .defaults))))
-      readings-written)
-      refl
-
-  file-is : fileOf (ledgerIn b meter) ≡ fileBytes (parts b meter)
-  unfolding fileOf
-  file-is = ap fileBytes written-parts
+file-is : (b : Book) (meter : Memory) → sound b ≡ true → fileOf (ledgerIn b meter) ≡ fileBytes (parts b meter)
+unfolding fileOf written parts
+file-is b meter e =
+    ap fileBytes (unfold ledgerIn in rw (
+      contract-part (b .agreed) (b .contract),
+      ← take-map windowᶜ (b .nwindows) (b .windows),
+      ← take-map instructionᶜ (b .ninstructions) (b .instructions),
+      ← take-map defaultᶜ (b .ndefaults) (b .defaults),
+      span-sound b meter e,
+      readings-part b meter,
+    ))
 
 -- ---- the answer, and the bytes after it
 

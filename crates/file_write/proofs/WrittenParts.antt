@@ -24,10 +24,10 @@ use Rattle.rules.proofs.Taken.{concatMap-append}
 use Rattle.book_memory.specs.Meter.{cellReading, Memory, kwAt}
 use Rattle.book.specs.declared.Book.{Book}
 use Rattle.rules.proofs.Lists.{getD-within}
-use Rattle.file_write.specs.Laid.{fileBytes, Room, Laid, placesIn, usedIn, entries, readings, parts, Tabled}
+use Rattle.file_write.specs.Laid.{fileBytes, placesIn, usedIn, entries, readings, parts, Tabled}
 use Rattle.file_write.specs.declared.entries.Table.{Table}
 use Rattle.file_write.specs.declared.entries.Table.the-variants.{Windows, Instructions, Defaults}
-use Rattle.file_write.proofs.WrittenLaid.{bytes-one, length-both, room-first, room-next, laid-both, Turns}
+use Rattle.file_write.proofs.WrittenLaid.{bytes-one, length-both, Turns}
 
 -- ---- how long a command is
 
@@ -88,34 +88,37 @@ entries-turns places n few = record { more = λ i h. rw (add-one i, take-suc pla
 
 -- ---- the readings
 
-pub cell-command : (z : ℤ) (m : ℕ) → readingAt (cellReading z) m ≡ cond (isReading z) (readingᶜ (record { minute = record { 0 = m }; kw = record { 0 = z } })
-    ∷ []) []
+-- the kW of a cell as a command, and whether the cell holds it
+abbrev reading : ℤ → ℕ → Command
+reading z m = readingᶜ (record { minute = record { 0 = m }; kw = record { 0 = z } })
+
+pub cell-command : (z : ℤ) (m : ℕ) → readingAt (cellReading z) m ≡ cond (isReading z) (reading z m ∷ []) []
 cell-command z m = go (isReading z)
   where
-    go : (b : Bool) → readingAt (cond b (some z) none) m ≡ cond b (readingᶜ (record { minute = record { 0 = m }; kw = record { 0 = z } }) ∷ []) []
+    go : (b : Bool) → readingAt (cond b (some z) none) m ≡ cond b (reading z m ∷ []) []
     go true = refl
     go false = refl
 
-cell-count : (z : ℤ) (m : ℕ) → length (readingAt (cellReading z) m) ≡ cond (isReading z) 1 0
-cell-count z m = go (isReading z)
-  where
-    go : (b : Bool) → length (readingAt (cond b (some z) none) m) ≡ cond b 1 0
-    go true = refl
-    go false = refl
-
+-- a command that may be left out
 pub once-most : (holds : Bool) → cond holds 1 0 ≤ 1
 once-most true = le-refl 1
 once-most false = omega arith
 
+once-count : (holds : Bool) (c : Command) → length (cond holds (c ∷ []) []) ≡ cond holds 1 0
+once-count true c = refl
+once-count false c = refl
+
+pub once-length : {n long : ℕ} (holds : Bool) (c : Command) → n ≡ cond holds 1 0 → long ≡ n * length (write c)
+    → long ≡ length (fileBytes (cond holds (c ∷ []) []))
+unfolding concatMap
+once-length true c e f = f ∙ rw (e, one-mul) (sym (ap length (bytes-one c)))
+once-length false c e f = f ∙ rw (e, zero-mul)
+
 cell-length : (z : ℤ) (m : ℕ) → length (fileBytes (readingAt (cellReading z) m)) ≡ length (readingAt (cellReading z) m) * 7
-unfolding concatMap table widthsOf total
-cell-length z m = go (isReading z)
-  where
-    go : (b : Bool) → length (fileBytes (readingAt (cond b (some z) none) m)) ≡ length (readingAt (cond b (some z) none) m) * 7
-    go true =
-        ap length (bytes-one (readingᶜ (record { minute = record { 0 = m }; kw = record { 0 = z } })))
-        ∙ write-long (readingᶜ (record { minute = record { 0 = m }; kw = record { 0 = z } }))
-    go false = refl
+unfolding table widthsOf total
+cell-length z m =
+    rw (cell-command z m, once-count (isReading z) (reading z m))
+    (sym (once-length (isReading z) (reading z m) refl refl) ∙ rw (write-long (reading z m)))
 
 module _ (meter : Memory) where
   abbrev turn : ℕ → List Command
@@ -133,7 +136,8 @@ module _ (meter : Memory) where
   pub readings-count : (m : ℕ) → length (readings meter (m + 1)) ≡ length (readings meter m) + cond (isReading (kwAt meter m)) 1 0
   readings-count m =
       ap length (readings-turns (m + 1) .more m (omega arith)) ∙ length-append (readings meter m) (turn m)
-      ∙ ap (λ n. length (readings meter m) + n) (cell-count (kwAt meter m) m)
+      ∙ ap (λ n. length (readings meter m) + n)
+      (rw (cell-command (kwAt meter m) m) (once-count (isReading (kwAt meter m)) (reading (kwAt meter m) m)))
 
   pub readings-few : (n : ℕ) → length (readings meter n) ≤ n
   readings-few zero = rw readings-none (le-refl 0)
@@ -153,16 +157,8 @@ module _ (meter : Memory) where
 
 -- ---- all of them
 
-pub once-length : {n long : ℕ} (holds : Bool) (c : Command) → n ≡ cond holds 1 0 → long ≡ n * length (write c)
-    → long ≡ length (fileBytes (cond holds (c ∷ []) []))
-unfolding concatMap
-once-length true c e f = f ∙ rw (e, one-mul) (sym (ap length (bytes-one c)))
-once-length false c e f = f ∙ rw (e, zero-mul)
-
 once-short : (holds : Bool) (c : Command) → length (fileBytes (cond holds (c ∷ []) [])) ≤ 32
-unfolding concatMap
-once-short true c = rw (bytes-one c) (write-short c)
-once-short false c = omega arith
+once-short holds c = omega (arith, bytes-short (cond holds (c ∷ []) []), once-count holds c, once-most holds)
 
 module _ (b : Book) (meter : Memory) where
   -- the length of the whole is that of the parts
@@ -190,77 +186,20 @@ module _ (b : Book) (meter : Memory) where
         once-short (b .closed) closeᶜ,
       )
 
--- room for each part after those before it
-module _ (b : Book) (meter : Memory) {m : List ℕ} (room : Room (parts b meter) m 0) where
-  abbrev contracts : List Command
-  contracts = cond (b .agreed) (contractᶜ (b .contract) ∷ []) []
+-- the parts one after the other: part k, and those before it
+module _ (b : Book) (meter : Memory) where
+  abbrev pub part : ℕ → List Command
+  part k =
+      getD
+      (cond (b .agreed) (contractᶜ (b .contract) ∷ []) [] ∷ entries b Windows ∷ entries b Instructions ∷ entries b Defaults
+      ∷ readings meter (bookSpan b)
+      ∷ cond (b .closed) (closeᶜ ∷ []) []
+      ∷ [])
+      k []
 
-  abbrev windows : List Command
-  windows = contracts ++ entries b Windows
+  abbrev pub before : ℕ → List Command
+  before zero = []
+  before (suc k) = before k ++ part k
 
-  abbrev instructions : List Command
-  instructions = windows ++ entries b Instructions
-
-  abbrev defaults : List Command
-  defaults = instructions ++ entries b Defaults
-
-  abbrev read : List Command
-  read = defaults ++ readings meter (bookSpan b)
-
-  abbrev close : List Command
-  close = cond (b .closed) (closeᶜ ∷ []) []
-
-  all-room : Room (read ++ close) m 0
-  unfolding parts
-  all-room = room
-
-  read-room : Room read m 0
-  read-room = room-first read close all-room
-
-  defaults-room : Room defaults m 0
-  defaults-room = room-first defaults (readings meter (bookSpan b)) read-room
-
-  instructions-room : Room instructions m 0
-  instructions-room = room-first instructions (entries b Defaults) defaults-room
-
-  windows-room : Room windows m 0
-  windows-room = room-first windows (entries b Instructions) instructions-room
-
-  pub room-contract : Room contracts m 0
-  room-contract = room-first contracts (entries b Windows) windows-room
-
-  module _ {m₁ : List ℕ} {at₁ : ℕ} (l₁ : Laid contracts m 0 m₁ at₁) where
-    pub room-windows : Room (entries b Windows) m₁ at₁
-    room-windows = room-next contracts (entries b Windows) windows-room l₁
-
-    module _ {m₂ : List ℕ} {at₂ : ℕ} (l₂ : Laid (entries b Windows) m₁ at₁ m₂ at₂) where
-      laid₂ : Laid windows m 0 m₂ at₂
-      laid₂ = laid-both contracts (entries b Windows) windows-room l₁ l₂
-
-      pub room-instructions : Room (entries b Instructions) m₂ at₂
-      room-instructions = room-next windows (entries b Instructions) instructions-room laid₂
-
-      module _ {m₃ : List ℕ} {at₃ : ℕ} (l₃ : Laid (entries b Instructions) m₂ at₂ m₃ at₃) where
-        laid₃ : Laid instructions m 0 m₃ at₃
-        laid₃ = laid-both windows (entries b Instructions) instructions-room laid₂ l₃
-
-        pub room-defaults : Room (entries b Defaults) m₃ at₃
-        room-defaults = room-next instructions (entries b Defaults) defaults-room laid₃
-
-        module _ {m₄ : List ℕ} {at₄ : ℕ} (l₄ : Laid (entries b Defaults) m₃ at₃ m₄ at₄) where
-          laid₄ : Laid defaults m 0 m₄ at₄
-          laid₄ = laid-both instructions (entries b Defaults) defaults-room laid₃ l₄
-
-          pub room-readings : Room (readings meter (bookSpan b)) m₄ at₄
-          room-readings = room-next defaults (readings meter (bookSpan b)) read-room laid₄
-
-          module _ {m₅ : List ℕ} {at₅ : ℕ} (l₅ : Laid (readings meter (bookSpan b)) m₄ at₄ m₅ at₅) where
-            laid₅ : Laid read m 0 m₅ at₅
-            laid₅ = laid-both defaults (readings meter (bookSpan b)) read-room laid₄ l₅
-
-            pub room-close : Room close m₅ at₅
-            room-close = room-next read close all-room laid₅
-
-            pub parts-laid : {m₆ : List ℕ} {at₆ : ℕ} → Laid close m₅ at₅ m₆ at₆ → Laid (parts b meter) m 0 m₆ at₆
-            unfolding parts
-            parts-laid l₆ = laid-both read close all-room laid₅ l₆
+  pub part-turns : Turns before part 6
+  part-turns = record { more = λ k h. rw (add-one k) }

@@ -1,6 +1,6 @@
 -- Settling a book into numbers, by its answer and by the room for the sums. Where they have none, no line memory is lent on: then no line is written,
 -- and the number differs from that of settling into all lines only where it would be 26 or none, which are both answered 26.
-use mathlib.Core.Path.{_≡_, refl, sym, _∙_, ap, ap₂}
+use mathlib.Core.Path.{_≡_, refl, _∙_}
 use mathlib.Core.Bool.{Bool, true, false, not, cond}
 use mathlib.Core.List.{List, [], _∷_, _++_, append-nil}
 use mathlib.Core.Option.{Option, none, some}
@@ -26,7 +26,7 @@ use Rattle.book.specs.declared.Book.{Book}
 use Rattle.settle_numbers.specs.Numbers.{numbersOf, numberBook, numberedBy}
 use Rattle.settle.specs.declared.Settlement.{Settlement}
 use Rattle.host.specs.Answers.{numberOf}
-use Rattle.host.specs.Calls.{SettledBook, settledBook, settleInto, shortNumber, sumsBy}
+use Rattle.host.specs.Calls.{settledBook, settleInto, shortNumber, sumsBy}
 use Rattle.host_sums.specs.Sums.{sumCount, sumsOf}
 
 -- a statement's lines fit the memory lent for them: else it gets 26
@@ -84,54 +84,36 @@ same-number b meter memory = number-by (not (sound b)) _ _ _ _ _ (ledgerIn b met
 
 -- ---- a book, settled into the line memory that is lent on
 
+-- `part` is what the lent memory holds after it; the rest of line memory is as it was
 module _
     (b : Book) (meter : Memory) (lines sums part : List ℤ) (room : ℕ) (s : Settlement)
     (er : room ≡ cond (ltb (length sums) sumCount) 0 (length lines))
     (es : s ≡ numberBook b meter (take room lines) .settlement) (ep : part ≡ numberBook b meter (take room lines) .memory) where
-  -- line memory after it
-  abbrev after : List ℤ
-  after = part ++ drop room lines
-
-  abbrev whole : SettledBook
-  whole = settleInto b meter lines sums
-
-  short : ltb (length sums) sumCount ≡ true → settledBook (shortNumber (s .answer)) after sums ≡ whole
+  short : ltb (length sums) sumCount ≡ true → settledBook (shortNumber (s .answer)) (part ++ drop room lines) sums ≡ settleInto b meter lines sums
   unfolding settleInto
   short e =
-      let z : room ≡ 0 = er ∙ ap (λ t. cond t 0 (length lines)) e in
-      let l : part ≡ [] = ep ∙ ap (λ n. numberBook b meter (take n lines) .memory) z ∙ nothing-written b meter in
-      let n : shortNumber (s .answer) ≡ shortNumber (numberBook b meter lines .settlement .answer) =
-      ap (λ (x : Settlement). shortNumber (x .answer)) (es ∙ ap (λ n. numberBook b meter (take n lines) .settlement) z)
-      ∙ same-number b meter lines in
-      rw e (ap₂ (λ x y. settledBook x y sums) n (ap₂ (λ x m. x ++ drop m lines) l z))
+      let z : room ≡ 0 = er ∙ rw e in
+      rw (es, ep, z, e, nothing-written b meter, same-number b meter lines)
 
   long : ltb (length sums) sumCount ≡ false
-      → settledBook (numberOf (s .answer)) after (sumsBy (s .answer) (s .statement) (b .nwindows) sums) ≡ whole
+      → settledBook (numberOf (s .answer)) (part ++ drop room lines) (sumsBy (s .answer) (s .statement) (b .nwindows) sums)
+      ≡ settleInto b meter lines sums
   unfolding settleInto
   long e =
-      let all : room ≡ length lines = er ∙ ap (λ t. cond t 0 (length lines)) e in
-      let same : take room lines ≡ lines = ap (λ n. take n lines) all ∙ take-length lines in
-      let l : after ≡ numberBook b meter lines .memory =
-      ap₂ (λ x m. x ++ drop m lines) (ep ∙ ap (λ m. numberBook b meter m .memory) same) all
-      ∙ ap (λ m. numberBook b meter lines .memory ++ m) (drop-length lines)
-      ∙ append-nil (numberBook b meter lines .memory) in
-      rw e (ap₂ (λ (x : Settlement) y. settledBook (numberOf (x .answer)) y (sumsBy (x .answer) (x .statement) (b .nwindows) sums))
-      (es ∙ ap (λ m. numberBook b meter m .settlement) same) l)
+      let all : room ≡ length lines = er ∙ rw e in
+      rw (es, ep, all, take-length lines, drop-length lines, append-nil, e)
 
   -- by the answer
-  pub short-taken : length sums < sumCount → s .answer ≡ Taken → settledBook 26 after sums ≡ whole
-  short-taken h e = ap (λ a. settledBook (shortNumber a) after sums) (sym e) ∙ short (lt-ltb (length sums) sumCount h)
+  pub short-taken : length sums < sumCount → s .answer ≡ Taken → settledBook 26 (part ++ drop room lines) sums ≡ settleInto b meter lines sums
+  short-taken h e = rw e at (short (lt-ltb (length sums) sumCount h))
 
   pub long-taken : (sums′ : List ℤ) → sumCount ≤ length sums → s .answer ≡ Taken → sums′ ≡ sumsOf (s .statement) (b .nwindows) ++ drop sumCount sums
-      → settledBook 0 after sums′ ≡ whole
-  long-taken sums′ h e q =
-      ap (settledBook 0 after) q
-      ∙ ap (λ a. settledBook (numberOf a) after (sumsBy a (s .statement) (b .nwindows) sums)) (sym e)
-      ∙ long (le-ltb (length sums) sumCount h)
+      → settledBook 0 (part ++ drop room lines) sums′ ≡ settleInto b meter lines sums
+  long-taken sums′ h e q = rw (e, ← q) at (long (le-ltb (length sums) sumCount h))
 
-  refused-by : (n : ℕ) → s .answer ≡ Refused n → (t : Bool) → ltb (length sums) sumCount ≡ t → settledBook n after sums ≡ whole
-  refused-by n e true h = ap (λ a. settledBook (shortNumber a) after sums) (sym e) ∙ short h
-  refused-by n e false h = ap (λ a. settledBook (numberOf a) after (sumsBy a (s .statement) (b .nwindows) sums)) (sym e) ∙ long h
-
-  pub refused : (n : ℕ) → s .answer ≡ Refused n → settledBook n after sums ≡ whole
-  refused n e = refused-by n e (ltb (length sums) sumCount) refl
+  pub refused : (n : ℕ) → s .answer ≡ Refused n → settledBook n (part ++ drop room lines) sums ≡ settleInto b meter lines sums
+  refused n e = go (ltb (length sums) sumCount) refl
+    where
+      go : (t : Bool) → ltb (length sums) sumCount ≡ t → settledBook n (part ++ drop room lines) sums ≡ settleInto b meter lines sums
+      go true h = rw e at (short h)
+      go false h = rw e at (long h)

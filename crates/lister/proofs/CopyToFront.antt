@@ -1,6 +1,6 @@
 -- Elements copied to the front of their own list, from the first on: those still to come are untouched.
 use mathlib.Core.Path.{_≡_, refl, sym, ap, _∙_}
-use mathlib.Core.List.{List, [], _∷_, _++_}
+use mathlib.Core.List.{List}
 use Prim.Native.Nat.{ℕ, _+_, _-_, _≤_, _<_}
 use native.Mathlib.Nat.{add-comm}
 use native.Mathlib.Numerals.{add-one}
@@ -18,22 +18,15 @@ module _ (from : ℕ) (old : List ℕ) where
   copied-none = record { front = refl; behind = refl }
 
   module _ (new : List ℕ) (i : ℕ) (h : from + i < length old) (long : length new ≡ length old) (c : Copied from old new i) where
-    same : getD new (from + i) 0 ≡ getD (drop from old) i 0
-    same =
-        ap (λ k. getD new k 0) (add-comm from i) ∙ sym (getD-drop i new from 0) ∙ ap (λ l. getD l from 0) (c .behind) ∙ getD-drop i old from 0
-        ∙ ap (λ k. getD old k 0) (add-comm i from)
-        ∙ sym (getD-drop from old i 0)
-
     pub copied-more : Copied from old (set new i (getD new (from + i) 0)) (i + 1)
     copied-more =
+        let same : getD new (from + i) 0 ≡ getD (drop from old) i 0 =
+        rw (getD-drop from old i 0, add-comm from i, ← getD-drop i new from 0, ← getD-drop i old from 0, c .behind) in
         let v : ℕ = getD new (from + i) 0 in
+        let left : i < length (drop from old) = rw length-drop (omega arith) in
         record {
-          front =
-              ap (λ k. take k (set new i v)) (add-one i) ∙ take-suc-set new i v (omega arith) ∙ ap (λ l. l ++ (v ∷ [])) (c .front)
-              ∙ ap (λ x. take i (drop from old) ++ (x ∷ [])) same
-              ∙ sym (take-suc (drop from old) i 0 (rw length-drop (omega arith)))
-              ∙ ap (λ k. take k (drop from old)) (sym (add-one i));
-          behind = drop-set-lt (i + 1) new i v (omega arith) ∙ sym (drop-drop 1 i new) ∙ ap (drop 1) (c .behind) ∙ drop-drop 1 i old;
+          front = rw (add-one i, take-suc-set new i v (omega arith), take-suc (drop from old) i 0 left, c .front, same);
+          behind = rw (drop-set-lt (i + 1) new i v (omega arith), ← drop-drop 1 i new, ← drop-drop 1 i old, c .behind);
         }
 
   -- all up to `to`

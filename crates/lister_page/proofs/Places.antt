@@ -5,14 +5,11 @@ use Prim.Native.Nat.{ℕ, zero, suc, _+_, _*_, _≤_, _<_, min}
 use native.Mathlib.Nat.{add-zero, zero-min, min-zero, suc-min-suc}
 use native.Mathlib.Numerals.{add-one}
 use native.Mathlib.Omega.{arith}
-use lib.IntN.{pos}
 use lib.ListN.{length, getD, take}
 use lib.Seq.{take-suc, take-append-seam, length-take-le}
 use Rattle.energy.specs.Lists.{concatMap, Laid}
 use Rattle.energy.proofs.Puts.{laid-none, laid-long, laid-both}
 use Rattle.rules.proofs.Folds.{concatMap-snoc}
-use Rattle.rules.specs.declared.statement.Stage.the-variants.{Up}
-use Rattle.rules.specs.declared.statement.Rate.the-variants.{Utilisation}
 use Rattle.rules.specs.declared.statement.Line.{Line}
 use Rattle.rules.specs.declared.statement.Available.{Available}
 use Rattle.lister_rows.specs.Row.{Counted, rowOf}
@@ -32,20 +29,6 @@ take-most r n xs long e = rw (e, ← long) (take-min n xs)
 pub row-bytes : {r : Row} (bs : List ℕ) → r ≡ rowOf bs → take (r .len) (r .bytes) ≡ bs
 unfolding rowOf
 row-bytes bs e = rw e (take-append-seam bs _)
-
--- what stands past the lines
-abbrev pub blank : Line
-blank =
-    record {
-      instruction = 0;
-      period = 0;
-      stage = Up;
-      rate = Utilisation;
-      expected = record { 0 = pos 0 };
-      delivered = record { 0 = pos 0 };
-      capped = record { 0 = pos 0 };
-      pence = record { 0 = pos 0 };
-    }
 
 -- one line more
 pub lines-more : (lines : List Line) (i : ℕ) (d : Line) → i < length lines
@@ -69,30 +52,35 @@ windows-more windows i d h =
 
 -- ---- a loop that puts a row each turn
 
--- i rows of n are laid, each of at most 128 bytes
-pub record Rows (n : ℕ) (so m : List ℕ) (at : ℕ) (out : List ℕ) (place i : ℕ) : Type 0 where
+-- i rows of n are laid, each of at most 128 bytes; `so i` are the bytes of the first i
+pub record Rows (so : ℕ → List ℕ) (n : ℕ) (m : List ℕ) (at : ℕ) (out : List ℕ) (place i : ℕ) : Type 0 where
   pub few : i ≤ n
   pub near : place ≤ at + 128 * i
-  pub laid : Laid so m at out place
+  pub laid : Laid (so i) m at out place
 
-pub rows-none : (n : ℕ) (m : List ℕ) (at : ℕ) → Rows n [] m at m at 0
-rows-none n m at = record { few = omega arith; near = omega arith; laid = laid-none m at }
+pub rows-none : {so : ℕ → List ℕ} {n : ℕ} {m : List ℕ} {at : ℕ} → so 0 ≡ [] → Rows so n m at m at 0
+rows-none {m = m} {at} e = record { few = omega arith; near = omega arith; laid = rw e (laid-none m at) }
 
 -- there is room for all n
-module _ {n : ℕ} {so m : List ℕ} {at : ℕ} {out : List ℕ} {place i : ℕ} (room : at + 128 * n ≤ length m) (rows : Rows n so m at out place i) where
+module _ {so : ℕ → List ℕ} {n : ℕ} {m : List ℕ} {at : ℕ} {out : List ℕ} {place i : ℕ} (room : at + 128 * n ≤ length m)
+    (rows : Rows so n m at out place i) where
   pub rows-long : length out ≡ length m
   rows-long = laid-long (omega (arith, rows .laid .ends)) (rows .laid)
 
+  pub rows-all : n ≤ i → Laid (so n) m at out place × (place ≤ at + 128 * n)
+  rows-all h = let end : i ≡ n = omega (arith, rows .few) in (rw end at (rows .laid), rw end at (rows .near))
+
   -- one more
   module _ (r : Row) (long : length (r .bytes) ≡ 128) (counted : Counted r) (less : i < n) where
-    pub row-room : place + r .len ≤ length out
-    row-room = omega (arith, rows-long)
+    pub row-room : Counted r × (place + r .len ≤ length out)
+    row-room = (counted, omega (arith, rows-long))
 
-    pub row-more : (bs : List ℕ) {after : List ℕ} {next : ℕ} → r ≡ rowOf bs → Laid (take (r .len) (r .bytes)) out place after next
-        → Rows n (so ++ bs) m at after next (i + 1)
-    row-more bs e l =
+    pub row-more : (bs : List ℕ) {after : List ℕ} {next : ℕ} → so (i + 1) ≡ so i ++ bs → r ≡ rowOf bs
+        → Laid (take (r .len) (r .bytes)) out place after next
+        → Rows so n m at after next (i + 1)
+    row-more bs more e l =
         record {
           few = omega arith;
           near = omega (arith, l .ends);
-          laid = laid-both (omega arith) (rows .laid) (rw (row-bytes bs e) at l);
+          laid = rw more (laid-both (omega arith) (rows .laid) (rw (row-bytes bs e) at l));
         }

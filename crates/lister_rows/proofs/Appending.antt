@@ -1,5 +1,5 @@
 -- Laws of appending: what a row holds after it, as long as there is room.
-use mathlib.Core.Path.{_≡_, refl, sym, _∙_, ap, subst}
+use mathlib.Core.Path.{_≡_, refl, sym, _∙_, ap}
 use mathlib.Core.List.{List, [], _∷_, _++_, append-nil, append-assoc}
 use Prim.Native.Nat.{ℕ, suc, _+_, _-_, _/_, _%_, _≤_, _<_}
 use native.Mathlib.Omega.{arith}
@@ -25,10 +25,7 @@ put-one bs b h =
 -- bytes put behind others, as long as there is room
 put-all : (bs cs : List ℕ) → length bs + length cs ≤ 128 → putAll (rowOf bs) cs ≡ rowOf (bs ++ cs)
 put-all bs [] h = ap rowOf (sym (append-nil bs))
-put-all bs (c ∷ cs) h =
-    ap (λ r. putAll r cs) (put-one bs c (omega arith))
-    ∙ put-all (bs ++ (c ∷ [])) cs (rw length-append (omega arith))
-    ∙ ap rowOf (append-snoc bs c cs)
+put-all bs (c ∷ cs) h = rw (put-one bs c (omega arith), put-all (bs ++ (c ∷ [])) cs (rw length-append (omega arith)), append-snoc bs c cs)
 
 -- bytes put in two parts
 pub put-append : (r : Row) (xs ys : List ℕ) → putAll r (xs ++ ys) ≡ putAll (putAll r xs) ys
@@ -58,9 +55,8 @@ unfolding fieldsOf
 fields-on bs [] h = put-one bs lineFeed (omega arith)
 fields-on bs (f ∷ fs) h =
     let size : length ((space ∷ f) ++ fieldsOf fs) ≡ suc (length f) + length (fieldsOf fs) = length-append (space ∷ f) (fieldsOf fs) in
-    ap (λ r. putByte (putFields r fs) lineFeed) (put-all bs (space ∷ f) (omega arith))
-    ∙ fields-on (bs ++ (space ∷ f)) fs (rw length-append (omega arith))
-    ∙ ap rowOf (append-assoc bs (space ∷ f) (fieldsOf fs))
+    let rest = fields-on (bs ++ (space ∷ f)) fs (rw length-append (omega arith)) in
+    rw (put-all bs (space ∷ f) (omega arith), rest, append-assoc bs (space ∷ f) (fieldsOf fs))
 
 -- the bytes of fields and of what stands around them
 abbrev pub fieldsLength : List (List ℕ) → ℕ
@@ -72,21 +68,16 @@ unfolding fieldsOf
 fields-length [] = refl
 fields-length (f ∷ fs) = length-append (space ∷ f) (fieldsOf fs) ∙ ap (λ n. suc (length f) + n) (fields-length fs)
 
--- a letter, its fields and a line feed are the row of that letter and these fields
-pub row-put :
-    (letter : ℕ) (fs : List (List ℕ)) → suc (fieldsLength fs) ≤ 128
-    → putByte (putFields (putByte (rowOf []) letter) fs) lineFeed ≡ rowOf (row letter fs)
-unfolding row
-row-put letter fs h =
-    ap (λ r. putByte (putFields r fs) lineFeed) (put-one [] letter (omega arith))
-    ∙ fields-on (letter ∷ []) fs (omega (arith, fields-length fs))
-
 row-counted : (bs : List ℕ) → Counted (rowOf bs)
 unfolding rowOf
 row-counted bs =
     let zeros : List ℕ = replicate (128 - length bs) 0 in
     (rw length-append (omega arith), ap length (sym (take-append-seam bs zeros)))
 
--- a row's equation, with what follows from it for whoever lends its bytes
-pub counted : {r : Row} (bs : List ℕ) → r ≡ rowOf bs → (r ≡ rowOf bs) × Counted r
-counted bs e = (e, subst Counted (sym e) (row-counted bs))
+-- a letter, its fields and a line feed are the row of that letter and these fields, of which whoever lends its bytes knows how many count
+pub row-put :
+    {r : Row} (letter : ℕ) (fs : List (List ℕ)) → suc (fieldsLength fs) ≤ 128 → r ≡ putByte (putFields (putByte (rowOf []) letter) fs) lineFeed
+    → (r ≡ rowOf (row letter fs)) × Counted r
+unfolding row
+row-put letter fs h e =
+    rw (e, put-one [] letter (omega arith), fields-on (letter ∷ []) fs (omega (arith, fields-length fs))) (refl, row-counted (letter ∷ fieldsOf fs))

@@ -3,6 +3,7 @@ ghost use mathlib.Core.List.{[]};
 ghost use mathlib.Core.Path.{_≡_};
 ghost use Rattle.lister_rows.specs.Row.{putAll, putByte, rowOf};
 ghost use Rattle.lister_rows.specs.Rows.{digits, signedDigits};
+use energy::magnitude::magnitude;
 
 // The longest row has 112 bytes: an L row with counts of ten digits and amounts of 20 bytes. Bytes past the length are zeros.
 pub struct Row {
@@ -43,14 +44,14 @@ impl Row {
         self.number(n / 10).put(b'0' + (n % 10) as u8)
     }
 
-    // A number with a sign. The least one has no opposite in its type, so n + 1 is turned round, and the 1 that lacks comes after.
+    // A number with a sign.
     pub fn signed(self, n: i64) -> Row
         ensures { λ r. ⌜ r ≡ putAll self (signedDigits n) ⌝ }
     {
+        let size = magnitude(n);
         if n < 0 {
-            let size = (0 - (n + 1)) as u64 + 1;
             return self.put(b'-').number(size);
         }
-        self.number(n as u64)
+        self.number(size)
     }
 }

@@ -10,7 +10,7 @@ use lib.ListN.{length}
 use Rattle.energy.specs.Lists.{sum, sumℕ}
 use Rattle.energy.specs.Number.{up, down, nearest}
 use Rattle.energy.specs.Energy.{kwh, capped, payment}
-use Rattle.energy.proofs.Integers.{distrib, abs-le, abs-parts, add-parts, diff-parts, mul-parts, arithℤ}
+use Rattle.energy.proofs.Integers.{distrib, exact, abs-parts, add-parts, diff-parts, mul-parts, arithℤ}
 use Rattle.energy.proofs.Rounding.{nearest-error, lesser-nearest}
 use Rattle.rules.specs.Ledger.{Ledger, contractOf}
 use Rattle.rules.specs.Segment.{price, Segment, segments}
@@ -27,7 +27,7 @@ record Apart (a b : ℤ) (d : ℕ) : Type 0 where
   sides : (up a + down b ≤ down a + up b + d) × (down a + up b ≤ up a + down b + d)
 
 differ : {a b : ℤ} {d : ℕ} → Apart a b d → Differ a b d
-differ {a} {b} {d} h = abs-le (a -ℤ b) d (omega (arith, diff-parts a b)) (omega (arith, diff-parts a b))
+differ {a} {b} {d} h = omega (arith, exact (diff-parts a b), abs-parts (a -ℤ b))
 
 -- a rounded quotient, with a divisor of 2 h
 halved : (n : ℤ) (h : ℕ) → 0 < h → Apart (pos (2 * h) *ℤ nearest n (2 * h)) n h

@@ -1,48 +1,29 @@
 -- The numbers of conditions, by computation: the lists have the same length for every command and book. Of numbers that do not fall the first that
 -- applies is the lowest, by the list.
-use mathlib.Core.Path.{_≡_, refl, sym, ap, _∙_}
+use mathlib.Core.Path.{_≡_, sym, ap, _∙_}
 use mathlib.Core.Logic.{⊎-elim}
 use mathlib.Core.Bool.{Bool, true, false, _&&_, true≢false}
 use mathlib.Core.List.{List, [], _∷_, List·Memᴰ·head, List·Memᴰ·tail, List·Memᴰ·not-nil, List·Memᴰ·cases-cons}
-use mathlib.Core.Option.{Option, some, Option·none-ne-some, Option·some-injective}
+use mathlib.Core.Option.{some, Option·none-ne-some, Option·some-injective}
 use Prim.Native.Nat.{ℕ, _≤_}
 use native.Mathlib.Omega.{arith}
 use lib.Dec.{T, leb, leb→le}
-use Rattle.energy.proofs.Tests.{T-and}
-use Rattle.commands.specs.Input.{Condition, _when_, lowest}
+use Rattle.energy.proofs.Tests.{T-and, either}
+use Rattle.commands.specs.Input.{Condition, lowest}
 use Rattle.rules.specs.Conditions.{Numbered, Applies, GivesLowest, Lowest}
+use Rattle.rules.proofs.Taken.{at-first, past-first}
 use Rattle.rules.proofs.Definitions.{opened}
 
 pub numbered : Numbered
 unfolding opened
-numbered =
-    record {
-      command = λ unsound size g c. refl;
-      settling = λ unsound size room g. refl;
-      writing = λ unsound size room g. refl;
-    }
+numbered = search
 
 -- ---- a condition more
 
-either : {X : Type 0} (c : Condition) → (c .holds ≡ true → X) → (c .holds ≡ false → X) → X
-either {X} c held not-held = go (c .holds) refl
-  where
-    go : (b : Bool) → c .holds ≡ b → X
-    go true h = held h
-    go false h = not-held h
-
 module _ (c : Condition) (cs : List Condition) where
-  at-first : c .holds ≡ true → lowest (c ∷ cs) ≡ some (c .number)
-  unfolding lowest
-  at-first h = ap (λ b. elim b as (λ x. Option ℕ) [ true ↦ some (c .number) | false ↦ lowest cs ]) h
-
-  past-first : c .holds ≡ false → lowest (c ∷ cs) ≡ lowest cs
-  unfolding lowest
-  past-first h = ap (λ b. elim b as (λ x. Option ℕ) [ true ↦ some (c .number) | false ↦ lowest cs ]) h
-
   -- the number given is the first's where it holds
   its-number : c .holds ≡ true → (n : ℕ) → lowest (c ∷ cs) ≡ some n → c .number ≡ n
-  its-number h n e = Option·some-injective (c .number) n (sym (at-first h) ∙ e)
+  its-number h n e = Option·some-injective (c .number) n (sym (at-first c cs h) ∙ e)
 
   -- a number that applies is that of a later condition where the first does not hold
   applies-past : c .holds ≡ false → (m : ℕ) → Applies m (c ∷ cs) → Applies m cs
@@ -54,13 +35,14 @@ applies-of : (cs : List Condition) (n : ℕ) → lowest cs ≡ some n → Applie
 unfolding lowest
 applies-of [] n e = absurd (Option·none-ne-some n e)
 applies-of (c ∷ cs) n e =
-    either c (λ h. let p = its-number c cs h n e in List·Memᴰ·head (λ i. record { number = sym p i; holds = sym h i }))
+    either (c .holds) (λ h. let p = its-number c cs h n e in List·Memᴰ·head (λ i. record { number = sym p i; holds = sym h i }))
     (λ h. List·Memᴰ·tail (applies-of cs n (sym (past-first c cs h) ∙ e)))
 
 whenever-of : (cs : List Condition) (m : ℕ) → Applies m cs → (n : ℕ) × (lowest cs ≡ some n)
 whenever-of [] m a = absurd (List·Memᴰ·not-nil a)
 whenever-of (c ∷ cs) m a =
-    either c (λ h. (c .number, at-first c cs h)) (λ h. let r = whenever-of cs m (applies-past c cs h m a) in (r .0, past-first c cs h ∙ r .1))
+    either (c .holds) (λ h. (c .number, at-first c cs h))
+    (λ h. let r = whenever-of cs m (applies-past c cs h m a) in (r .0, past-first c cs h ∙ r .1))
 
 -- ---- the lowest, where numbers do not fall, from b
 
@@ -81,7 +63,7 @@ unfolding rising
 least-of b [] r n m e a = absurd (List·Memᴰ·not-nil a)
 least-of b (c ∷ cs) r n m e a =
     let rest = T-and (leb b (c .number)) (rising (c .number) cs) r .1 in
-    either c
+    either (c .holds)
     (λ h.
     let p = its-number c cs h n e in
     ⊎-elim (λ q. omega (arith, ap (λ (x : Condition). x .number) q)) (λ t. omega (arith, above (c .number) cs rest m t)) (List·Memᴰ·cases-cons a))
@@ -92,9 +74,4 @@ gives-lowest cs r = record { applies = applies-of cs; least = least-of 0 cs r; w
 
 pub lowest-given : Lowest
 unfolding opened rising
-lowest-given =
-    record {
-      command = λ unsound size g c. gives-lowest _ tt;
-      settling = λ unsound size room g. gives-lowest _ tt;
-      writing = λ unsound size room g. gives-lowest _ tt;
-    }
+lowest-given = search gives-lowest

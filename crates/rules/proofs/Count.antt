@@ -1,19 +1,18 @@
 -- How many segments an instruction has: the periods that each of its three stages touches.
 use mathlib.Core.Path.{_≡_, refl, sym, ap, _∙_}
-use mathlib.Core.Bool.{Bool, true, false, cond}
-use mathlib.Core.List.{[], _∷_}
+use mathlib.Core.Bool.{cond}
 use Prim.Native.Nat.{ℕ, zero, suc, _+_, _-_, _*_, _/_, _≤_, _<_, min}
 use native.Mathlib.Nat.{le-refl}
 use native.Mathlib.Omega.{arith}
-use native.Mathlib.Decide.{decLe, decLt}
 use lib.Dec.{ltb}
 use lib.ListN.{length}
 use borrow.Author.Tests.{ltb-true, ltb-false, lt-ltb, le-ltb}
+use Rattle.energy.proofs.Tests.{either, either-le}
 use Rattle.rules.specs.Ledger.{expiry, rampStart, endOf}
 use Rattle.rules.specs.Segment.{segmentsOf}
 use Rattle.commands.specs.declared.contract.Contract.{Contract}
 use Rattle.commands.specs.declared.entries.Instruction.{Instruction}
-use Rattle.rules.proofs.Cuts.{split, rises, cut, cutsFrom, segmentAt, segments-cuts, Timed}
+use Rattle.rules.proofs.Cuts.{split, rises, cut, cutsFrom, segments-cuts, Timed}
 use Rattle.rules.specs.Cuts.{cutOf, touched}
 
 touched-yes : (a b : ℕ) → a < b → touched a b ≡ (b - 1) / 30 - a / 30 + 1
@@ -25,11 +24,7 @@ unfolding touched
 touched-no a b h = rw (le-ltb a b h) refl
 
 touched-most : (a b : ℕ) → touched a b ≤ (b - 1) / 30 - a / 30 + 1
-touched-most a b = go (decLt a b)
-  where
-    go : Dec (a < b) → touched a b ≤ (b - 1) / 30 - a / 30 + 1
-    go (yes h) = omega (arith, touched-yes a b h)
-    go (no d) = omega (arith, touched-no a b (omega (arith, d)))
+touched-most a b = either-le b a (λ h. omega (arith, touched-no a b h)) (λ h. omega (arith, touched-yes a b h))
 
 -- three stages, one after the other, touch few periods twice
 pub stages-most : (a e c f : ℕ) → a < e → e ≤ c → c < f → touched a e + touched e c + touched c f + a / 30 ≤ 3 + (f - 1) / 30
@@ -57,42 +52,37 @@ module _ (e c f : ℕ) (o : e ≤ c) (o′ : c ≤ f) where
 
   -- a stage from m to s: one segment, and the rest of the stage or what is after it
   stage-step : (m s : ℕ) → m < s → touched m s ≡ suc (touched (min s (30 * (m / 30) + 30)) s)
-  stage-step m s h = go (decLe s (30 * (m / 30) + 30))
-    where
-      go : Dec (s ≤ 30 * (m / 30) + 30) → touched m s ≡ suc (touched (min s (30 * (m / 30) + 30)) s)
-      go (yes l) = omega (arith, touched-yes m s h, touched-no (min s (30 * (m / 30) + 30)) s (omega arith))
-      go (no d) =
-          let p : 30 * (m / 30) + 30 < s = omega (arith, d) in omega (arith, touched-yes m s h, touched-yes (min s (30 * (m / 30) + 30)) s (omega arith))
+  stage-step m s h =
+      let next = min s (30 * (m / 30) + 30) in
+      either-le s (30 * (m / 30) + 30) (λ l. omega (arith, touched-yes m s h, touched-no next s (omega arith)))
+      (λ l. omega (arith, touched-yes m s h, touched-yes next s (omega arith)))
 
   -- at the end of a stage the rest is what comes after it
   from-expiry : left e ≡ touched e c + touched c f
-  from-expiry = go (decLt e c)
-    where
-      go : Dec (e < c) → left e ≡ touched e c + touched c f
-      go (yes l) = steady-left e (le-refl e) l
-      go (no d) =
-          let q : c ≡ e = omega (arith, d) in down-left e (le-refl e) (omega arith) ∙ omega (arith, touched-no e c (omega arith), ap (λ z. touched z f) q)
+  from-expiry =
+      either-le c e
+      (λ l. let q : c ≡ e = omega arith in down-left e (le-refl e) l ∙ omega (arith, touched-no e c l, ap (λ z. touched z f) q))
+      (λ l. steady-left e (le-refl e) l)
 
   step-left : (m : ℕ) → m < f → left m ≡ suc (left (cutOf e c f m))
   unfolding cutOf
   step-left m h =
       split e c m (λ p q. left m ≡ suc (left (min (cond p e (cond q c f)) (30 * (m / 30) + 30))))
-      (λ l q. in-up l (decLt (min e (30 * (m / 30) + 30)) e)) (λ k l. in-steady k l (decLt (min c (30 * (m / 30) + 30)) c)) (λ k l. in-down k l)
-    where
-      in-up : m < e → Dec (min e (30 * (m / 30) + 30) < e) → left m ≡ suc (left (min e (30 * (m / 30) + 30)))
-      in-up l (yes k) = omega (arith, up-left m l, up-left (min e (30 * (m / 30) + 30)) k, stage-step m e l)
-      in-up l (no d) =
-          let q : min e (30 * (m / 30) + 30) ≡ e = omega (arith, d) in
-          omega (arith, up-left m l, stage-step m e l, touched-no (min e (30 * (m / 30) + 30)) e (omega arith), ap left q, from-expiry)
-
-      in-steady : e ≤ m → m < c → Dec (min c (30 * (m / 30) + 30) < c) → left m ≡ suc (left (min c (30 * (m / 30) + 30)))
-      in-steady k l (yes i) = omega (arith, steady-left m k l, steady-left (min c (30 * (m / 30) + 30)) (omega arith) i, stage-step m c l)
-      in-steady k l (no d) =
-          let q : min c (30 * (m / 30) + 30) ≡ c = omega (arith, d) in
-          omega (arith, steady-left m k l, stage-step m c l, touched-no (min c (30 * (m / 30) + 30)) c (omega arith), ap left q, down-left c o (le-refl c))
-
-      in-down : e ≤ m → c ≤ m → left m ≡ suc (left (min f (30 * (m / 30) + 30)))
-      in-down k l = omega (arith, down-left m k l, down-left (min f (30 * (m / 30) + 30)) (omega arith) (omega arith), stage-step m f h)
+      (λ l q.
+      let next = min e (30 * (m / 30) + 30) in
+      let here = up-left m l in
+      let step = stage-step m e l in
+      either-le e next
+      (λ d. let same : next ≡ e = omega arith in omega (arith, touched-no next e (omega arith), ap left same, from-expiry))
+      (λ d. omega (arith, up-left next d)))
+      (λ k l.
+      let next = min c (30 * (m / 30) + 30) in
+      let here = steady-left m k l in
+      let step = stage-step m c l in
+      either-le c next
+      (λ d. let same : next ≡ c = omega arith in omega (arith, touched-no next c (omega arith), ap left same, down-left c o (le-refl c)))
+      (λ d. omega (arith, steady-left next (omega arith) d)))
+      (λ k l. omega (arith, down-left m k l, down-left (min f (30 * (m / 30) + 30)) (omega arith) (omega arith), stage-step m f h))
 
 module _ (k : Contract) (n : ℕ) (i : Instruction) (t : Timed k i) where
   abbrev o′ : i .cease .0 ≤ endOf k i
@@ -101,16 +91,13 @@ module _ (k : Contract) (n : ℕ) (i : Instruction) (t : Timed k i) where
   count-go : (u m : ℕ) → endOf k i ≤ m + u → length (cutsFrom k n i u m) ≡ left (expiry k i) (i .cease .0) (endOf k i) (t .steady) o′ m
   unfolding cutsFrom
   count-go zero m h = sym (left-none (expiry k i) (i .cease .0) (endOf k i) (t .steady) o′ m (omega arith))
-  count-go (suc u) m h = go (ltb m (endOf k i)) refl (count-go u (cut k i m))
-    where
-      go : (b : Bool) → ltb m (endOf k i) ≡ b
-          → (endOf k i ≤ cut k i m + u → length (cutsFrom k n i u (cut k i m)) ≡ left (expiry k i) (i .cease .0) (endOf k i) (t .steady) o′ (cut k i m))
-          → length (cond b (segmentAt k n i m ∷ cutsFrom k n i u (cut k i m)) []) ≡ left (expiry k i) (i .cease .0) (endOf k i) (t .steady) o′ m
-      go true e rest =
-          let a : m < endOf k i = ltb-true m (endOf k i) e in
-          ap suc (rest (omega (arith, rises (expiry k i) (i .cease .0) (endOf k i) (t .steady) o′ .above m a)))
-          ∙ sym (step-left (expiry k i) (i .cease .0) (endOf k i) (t .steady) o′ m a)
-      go false e rest = sym (left-none (expiry k i) (i .cease .0) (endOf k i) (t .steady) o′ m (ltb-false m (endOf k i) e))
+  count-go (suc u) m h =
+      either (ltb m (endOf k i))
+      (λ e.
+      let a : m < endOf k i = ltb-true m (endOf k i) e in
+      let further = rises (expiry k i) (i .cease .0) (endOf k i) (t .steady) o′ .above m a in
+      rw e (ap suc (count-go u (cut k i m) (omega arith)) ∙ sym (step-left (expiry k i) (i .cease .0) (endOf k i) (t .steady) o′ m a)))
+      (λ e. rw e (sym (left-none (expiry k i) (i .cease .0) (endOf k i) (t .steady) o′ m (ltb-false m (endOf k i) e))))
 
   -- the number of segments
   pub count-segments : 0 < expiry k i - rampStart k i

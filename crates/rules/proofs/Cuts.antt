@@ -1,17 +1,17 @@
 -- A segment's minutes are an interval: from its first minute up to the end of its stage or of its period, whichever is first. So the segments
 -- of an instruction are the cuts of its active minutes, one after the other.
 use mathlib.Core.Path.{_≡_, refl, sym, ap, ap₂, _∙_, subst}
-use mathlib.Core.Logic.{_⊎_, inl, inr, ⊎-elim, _≢_}
-use mathlib.Core.Bool.{Bool, true, false, cond, not, _&&_, _||_, and-false, or-true}
+use mathlib.Core.Logic.{_⊎_, inl, inr, ⊎-elim}
+use mathlib.Core.Bool.{Bool, true, false, cond, not, _&&_, _||_, or-true}
 use mathlib.Core.List.{List, [], _∷_, _++_, append-nil, map}
 use Prim.Native.Nat.{ℕ, zero, suc, _+_, _-_, _*_, _/_, _≤_, _<_, zero-le, min}
-use native.Mathlib.Nat.{le-refl}
+use native.Mathlib.Nat.{le-refl, le-of-lt}
 use native.Mathlib.Omega.{arith}
-use native.Mathlib.Decide.{ℕ-discrete, decLe}
 use lib.Dec.{T, ltb, eqb, eqb→eq}
 use borrow.Author.Tests.{ltb-true, ltb-false, eq-eqb, ne-eqb}
 use Rattle.energy.specs.Lists.{filter, between}
 use Rattle.energy.proofs.Sums.{between-split, between-cons}
+use Rattle.energy.proofs.Tests.{T-and, and-T, to-T, same-test, either, either-le}
 use Rattle.rules.specs.Ledger.{expiry, rampStart, endOf}
 use Rattle.rules.specs.Cuts.{stageAt, stageEnd, cutOf}
 use Rattle.rules.specs.Segment.{periodOf, stageOf, sameStage, alike, heads, active, Segment, segmentsOf}
@@ -32,6 +32,16 @@ pub record Rises (r cut : ℕ → ℕ) (B : ℕ) : Type 0 where
 -- x is the first of its run, from A on
 unfoldable pub headTest : (ℕ → ℕ) → ℕ → ℕ → Bool
 headTest r A x = eqb x A || not (eqb (r (x - 1)) (r x))
+
+-- it is A, or above the one before it
+pub head-yes : (r : ℕ → ℕ) (A m : ℕ) → (m ≡ A) ⊎ (r (m - 1) < r m) → headTest r A m ≡ true
+unfolding headTest
+head-yes r A m (inl e) = rw (eq-eqb m A e)
+head-yes r A m (inr j) = rw (ne-eqb (r (m - 1)) (r m) (λ e. omega arith)) (or-true (eqb m A))
+
+pub head-no : (r : ℕ → ℕ) (A x : ℕ) → A < x → r (x - 1) ≡ r x → headTest r A x ≡ false
+unfolding headTest
+head-no r A x h e = rw (ne-eqb x A (λ q. omega arith), eq-eqb (r (x - 1)) (r x) e)
 
 module _ (r cut : ℕ → ℕ) (A B : ℕ) (R : Rises r cut B) where
   abbrev Head : ℕ → Type 0
@@ -55,21 +65,13 @@ module _ (r cut : ℕ → ℕ) (A B : ℕ) (R : Rises r cut B) where
 
   -- the first of the runs from m on: m, and then those from the cut on
   heads-cons : (m : ℕ) → A ≤ m → m < B → Head m → filter (headTest r A) (between m B) ≡ m ∷ filter (headTest r A) (between (cut m) B)
-  unfolding headTest
   heads-cons m h l q =
       let u : m < cut m = R .above m l in let v : cut m ≤ B = R .inside m l in
       ap (filter (headTest r A)) (between-cons m B l ∙ ap (λ z. m ∷ z) (between-split (suc m) (cut m) B u v))
-      ∙ filter-yes (headTest r A) m (between (suc m) (cut m) ++ between (cut m) B) (yes-head q)
+      ∙ filter-yes (headTest r A) m (between (suc m) (cut m) ++ between (cut m) B) (head-yes r A m q)
       ∙ ap (λ z. m ∷ z) (filter-append (headTest r A) (between (suc m) (cut m)) (between (cut m) B)
-      ∙ ap (λ z. z ++ filter (headTest r A) (between (cut m) B)) (filter-none (headTest r A) (suc m) (cut m) (λ x i k. no-head x i k)))
-    where
-      yes-head : Head m → headTest r A m ≡ true
-      yes-head (inl e) = rw (eq-eqb m A e) refl
-      yes-head (inr j) = rw (ne-eqb (r (m - 1)) (r m) (λ e. omega arith)) (or-true (eqb m A))
-
-      no-head : (x : ℕ) → suc m ≤ x → x < cut m → headTest r A x ≡ false
-      no-head x i k =
-          rw (ne-eqb x A (λ e. omega arith), eq-eqb (r (x - 1)) (r x) (R .flat m (x - 1) (omega arith) (omega arith) ∙ sym (R .flat m x (omega arith) k))) refl
+      ∙ ap (λ z. z ++ filter (headTest r A) (between (cut m) B)) (filter-none (headTest r A) (suc m) (cut m)
+      (λ x i k. head-no r A x (omega arith) (R .flat m (x - 1) (omega arith) (omega arith) ∙ sym (R .flat m x (omega arith) k)))))
 
   head-next : (m : ℕ) → m < B → cut m < B → Head (cut m)
   head-next m l k = inr (omega (arith, R .jump m k, R .flat m (cut m - 1) (omega (arith, R .above m l)) (omega (arith, R .above m l))))
@@ -87,12 +89,10 @@ rank e c m = periodOf m + stageIx (stageAt e c m)
 -- the three stages of a minute
 pub split : (e c m : ℕ) (P : Bool → Bool → Type 0) → (m < e → (q : Bool) → P true q) → (e ≤ m → m < c → P false true) → (e ≤ m → c ≤ m → P false false)
     → P (ltb m e) (ltb m c)
-split e c m P up steady down = go (ltb m e) (ltb m c) refl refl
-  where
-    go : (p q : Bool) → ltb m e ≡ p → ltb m c ≡ q → P p q
-    go true q a b = up (ltb-true m e a) q
-    go false true a b = steady (ltb-false m e a) (ltb-true m c b)
-    go false false a b = down (ltb-false m e a) (ltb-false m c b)
+split e c m P up steady down =
+    either (ltb m e) (λ a. rw a (up (ltb-true m e a) (ltb m c)))
+    (λ a.
+    either (ltb m c) (λ b. rw (a, b) (steady (ltb-false m e a) (ltb-true m c b))) (λ b. rw (a, b) (down (ltb-false m e a) (ltb-false m c b))))
 
 abbrev ixOf : Bool → Bool → ℕ
 ixOf p q = stageIx (cond p Up (cond q Steady Down))
@@ -125,43 +125,39 @@ rises e c f o o′ =
       above = λ m h. split e c m (λ p q. m < min (cond p e (cond q c f)) (30 * (m / 30) + 30)) (λ l q. omega arith) (λ k l. omega arith) (λ k l. omega arith);
       inside = λ m h. split e c m (λ p q. min (cond p e (cond q c f)) (30 * (m / 30) + 30) ≤ f) (λ l q. omega arith) (λ k l. omega arith) (λ k l. omega arith);
       flat = λ m x h k. let i : stageIx (stageAt e c x) ≡ stageIx (stageAt e c m) = ix-flat e c f m x h (omega arith) in omega arith;
-      jump = λ m h. go m h (decLe (stageEnd e c f m) (30 * (m / 30) + 30));
+      jump = λ m h.
+          -- the stage ends within the period, or goes on after it
+          either-le (stageEnd e c f m) (30 * (m / 30) + 30)
+          (λ l.
+          let a : min (stageEnd e c f m) (30 * (m / 30) + 30) ≡ stageEnd e c f m = omega arith in
+          let b : m ≤ stageEnd e c f m =
+          split e c m (λ p q. cond p e (cond q c f) < f → m ≤ cond p e (cond q c f)) (λ l q z. omega arith) (λ k l z. omega arith)
+          (λ k l z. absurd (omega arith)) (omega arith) in
+          rw a (omega (arith, ix-jump e c f m o (omega arith))))
+          (λ l.
+          let a : min (stageEnd e c f m) (30 * (m / 30) + 30) ≡ 30 * (m / 30) + 30 = omega arith in
+          rw a (omega (arith, ix-mono e c m (30 * (m / 30) + 30) (omega arith))));
     }
-  where
-    go : (m : ℕ) → min (stageEnd e c f m) (30 * (m / 30) + 30) < f → Dec (stageEnd e c f m ≤ 30 * (m / 30) + 30)
-        → rank e c m < rank e c (min (stageEnd e c f m) (30 * (m / 30) + 30))
-    go m h (yes l) =
-        let a : min (stageEnd e c f m) (30 * (m / 30) + 30) ≡ stageEnd e c f m = omega arith in
-        let b : m ≤ stageEnd e c f m =
-        split e c m (λ p q. cond p e (cond q c f) < f → m ≤ cond p e (cond q c f)) (λ l q z. omega arith) (λ k l z. omega arith)
-        (λ k l z. absurd (omega arith)) (omega arith) in
-        rw a (omega (arith, ix-jump e c f m o (omega arith)))
-    go m h (no d) =
-        let a : min (stageEnd e c f m) (30 * (m / 30) + 30) ≡ 30 * (m / 30) + 30 = omega (arith, d) in
-        rw a (omega (arith, ix-mono e c m (30 * (m / 30) + 30) (omega arith)))
 
 -- ---- two minutes are alike where this number is the same
+-- the stage of a number is got back from it
+ix-back : (s : Stage) → stageAt 1 2 (stageIx s) ≡ s
+ix-back Up = refl
+ix-back Steady = refl
+ix-back Down = refl
+
 ix-same : (s t : Stage) → stageIx s ≡ stageIx t → s ≡ t
-ix-same Up Up p = refl
-ix-same Up Steady p = absurd (omega arith)
-ix-same Up Down p = absurd (omega arith)
-ix-same Steady Up p = absurd (omega arith)
-ix-same Steady Steady p = refl
-ix-same Steady Down p = absurd (omega arith)
-ix-same Down Up p = absurd (omega arith)
-ix-same Down Steady p = absurd (omega arith)
-ix-same Down Down p = refl
+ix-same s t p = sym (ix-back s) ∙ ap (stageAt 1 2) p ∙ ix-back t
+
+by-stage : (P : Stage → Type 0) → P Up → P Steady → P Down → (s : Stage) → P s
+by-stage P u s d Up = u
+by-stage P u s d Steady = s
+by-stage P u s d Down = d
 
 same-ix : (s t : Stage) → sameStage s t ≡ eqb (stageIx s) (stageIx t)
-same-ix Up Up = refl
-same-ix Up Steady = refl
-same-ix Up Down = refl
-same-ix Steady Up = refl
-same-ix Steady Steady = refl
-same-ix Steady Down = refl
-same-ix Down Up = refl
-same-ix Down Steady = refl
-same-ix Down Down = refl
+same-ix Up = by-stage (λ t. sameStage Up t ≡ eqb 0 (stageIx t)) refl refl refl
+same-ix Steady = by-stage (λ t. sameStage Steady t ≡ eqb 1 (stageIx t)) refl refl refl
+same-ix Down = by-stage (λ t. sameStage Down t ≡ eqb 2 (stageIx t)) refl refl refl
 
 -- a test of two stages, and what it tells
 pub same-stage : (s t : Stage) → T (sameStage s t) → s ≡ t
@@ -171,15 +167,13 @@ pub stage-same : (s : Stage) → sameStage s s ≡ true
 stage-same s = same-ix s s ∙ eq-eqb (stageIx s) (stageIx s) refl
 
 both-eq : (p q a b : ℕ) → ((p ≤ q) × (a ≤ b)) ⊎ ((q ≤ p) × (b ≤ a)) → (eqb p q && eqb a b) ≡ eqb (p + a) (q + b)
-both-eq p q a b h = go (ℕ-discrete p q) (ℕ-discrete a b)
-  where
-    apart : (p ≡ q → a ≡ b → ⊥) → p + a ≢ q + b
-    apart d e = ⊎-elim (λ w. d (omega (arith, w .0, w .1)) (omega (arith, w .0, w .1))) (λ w. d (omega (arith, w .0, w .1)) (omega (arith, w .0, w .1))) h
-
-    go : Dec (p ≡ q) → Dec (a ≡ b) → (eqb p q && eqb a b) ≡ eqb (p + a) (q + b)
-    go (yes d) (yes e) = rw (eq-eqb p q d, eq-eqb a b e, eq-eqb (p + a) (q + b) (ap₂ _+_ d e)) refl
-    go (yes d) (no e) = rw (ne-eqb a b e, ne-eqb (p + a) (q + b) (apart (λ x y. e y))) (and-false (eqb p q))
-    go (no d) e = rw (ne-eqb p q d, ne-eqb (p + a) (q + b) (apart (λ x y. d x))) refl
+both-eq p q a b h =
+    same-test (eqb p q && eqb a b) (eqb (p + a) (q + b))
+    (λ t. let s = T-and (eqb p q) (eqb a b) t in to-T (eq-eqb (p + a) (q + b) (ap₂ _+_ (eqb→eq p q (s .0)) (eqb→eq a b (s .1)))))
+    (λ t.
+    let e : p + a ≡ q + b = eqb→eq (p + a) (q + b) t in
+    let (d, d′) : (p ≡ q) × (a ≡ b) = ⊎-elim (λ w. omega arith) (λ w. omega arith) h in
+    and-T (eqb p q) (eqb a b) (to-T (eq-eqb p q d)) (to-T (eq-eqb a b d′)))
 
 -- of the minutes of an instruction
 abbrev pub rankOf : Contract → Instruction → ℕ → ℕ
@@ -192,15 +186,12 @@ pub alike-rank : (k : Contract) (i : Instruction) (m n : ℕ) → alike k i m n 
 unfolding alike stageOf
 alike-rank k i m n =
     ap (λ x. eqb (periodOf m) (periodOf n) && x) (same-ix (stage m) (stage n))
-    ∙ both-eq (periodOf m) (periodOf n) (stageIx (stage m)) (stageIx (stage n)) (go (decLe m n))
+    ∙ both-eq (periodOf m) (periodOf n) (stageIx (stage m)) (stageIx (stage n))
+    (either-le m n (λ h. inl (omega arith, ix-mono (expiry k i) (i .cease .0) m n h))
+    (λ l. inr (omega arith, ix-mono (expiry k i) (i .cease .0) n m (le-of-lt l))))
   where
     stage : ℕ → Stage
     stage = stageAt (expiry k i) (i .cease .0)
-
-    go : Dec (m ≤ n)
-        → ((periodOf m ≤ periodOf n) × (stageIx (stage m) ≤ stageIx (stage n))) ⊎ ((periodOf n ≤ periodOf m) × (stageIx (stage n) ≤ stageIx (stage m)))
-    go (yes h) = inl (omega arith, ix-mono (expiry k i) (i .cease .0) m n h)
-    go (no d) = let h : n ≤ m = omega (arith, d) in inr (omega arith, ix-mono (expiry k i) (i .cease .0) n m h)
 
 -- the heads of an instruction's segments are the first minutes of each rank
 pub heads-rank : (k : Contract) (i : Instruction) → heads k i ≡ filter (headTest (rankOf k i) (rampStart k i)) (active k i)
@@ -252,18 +243,16 @@ module _ (k : Contract) (n : ℕ) (i : Instruction) (t : Timed k i) where
   cuts-go : (u m : ℕ) → endOf k i ≤ m + u → rampStart k i ≤ m → (m < endOf k i → Hd m) → map seg (filter test (between m (endOf k i))) ≡ cutsFrom k n i u m
   unfolding cutsFrom
   cuts-go zero m h l q = ap (map seg) (filter-none test m (endOf k i) (λ x a b. absurd (omega arith)))
-  cuts-go (suc u) m h l q = go (ltb m (endOf k i)) refl (cuts-go u (cut k i m))
-    where
-      go : (b : Bool) → ltb m (endOf k i) ≡ b
-          → (endOf k i ≤ cut k i m + u → rampStart k i ≤ cut k i m → (cut k i m < endOf k i → Hd (cut k i m))
-          → map seg (filter test (between (cut k i m) (endOf k i))) ≡ cutsFrom k n i u (cut k i m))
-          → map seg (filter test (between m (endOf k i))) ≡ cond b (segmentAt k n i m ∷ cutsFrom k n i u (cut k i m)) []
-      go true e rest =
-          let a : m < endOf k i = ltb-true m (endOf k i) e in
-          let b : m < cut k i m = R .above m a in
-          ap (map seg) (heads-cons r (cut k i) (rampStart k i) (endOf k i) R m l a (q a))
-          ∙ ap₂ _∷_ (seg-at m l a (q a)) (rest (omega arith) (omega arith) (λ z. head-next r (cut k i) (rampStart k i) (endOf k i) R m a z))
-      go false e rest = ap (map seg) (filter-none test m (endOf k i) (λ x a b. absurd (omega (arith, ltb-false m (endOf k i) e))))
+  cuts-go (suc u) m h l q =
+      either (ltb m (endOf k i))
+      (λ e.
+      let a : m < endOf k i = ltb-true m (endOf k i) e in
+      let b : m < cut k i m = R .above m a in
+      rw e
+      (ap (map seg) (heads-cons r (cut k i) (rampStart k i) (endOf k i) R m l a (q a))
+      ∙ ap₂ _∷_ (seg-at m l a (q a))
+      (cuts-go u (cut k i m) (omega arith) (omega arith) (λ z. head-next r (cut k i) (rampStart k i) (endOf k i) R m a z))))
+      (λ e. rw e (ap (map seg) (filter-none test m (endOf k i) (λ x a b. absurd (omega (arith, ltb-false m (endOf k i) e))))))
 
   -- the segments of an instruction, one after the other
   pub segments-cuts : segmentsOf k n i ≡ cutsFrom k n i (endOf k i - rampStart k i) (rampStart k i)

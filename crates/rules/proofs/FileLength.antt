@@ -1,19 +1,19 @@
 -- What a command that is taken costs in bytes it takes off the room that the ledger has left: for a contract, in its tables, in its minutes, and for a close.
-use mathlib.Core.Path.{_≡_, refl, sym, ap, _∙_, subst}
+use mathlib.Core.Path.{_≡_, refl, sym, ap, _∙_}
 use mathlib.Core.Bool.{Bool, true, false, not, _&&_, or-false, false≢true}
 use mathlib.Core.List.{List, [], _∷_, _++_, append-nil}
 use mathlib.Core.Option.{Option, none, some}
-use Prim.Native.Nat.{ℕ, zero, suc, _+_, _-_, _*_, _≤_, _<_}
-use native.Mathlib.Nat.{le-refl}
+use Prim.Native.Nat.{ℕ, suc, _+_, _-_, _*_, _≤_, _<_, zero-le}
+use native.Mathlib.Nat.{le-refl, le-of-lt}
 use native.Mathlib.Omega.{arith}
 use borrow.Author.Tests.{eq-eqb, leb-false}
-use lib.Dec.{T, leb, leb→le}
 use lib.IntN.{ℤ}
 use lib.ListN.{length, length-append}
-use Rattle.energy.specs.Lists.{concatMap, count, isEmpty, isSome, later, run, between, any}
-use Rattle.energy.proofs.Tests.{to-T}
+use Rattle.energy.specs.Lists.{concatMap, count, isEmpty, isSome, later, between, any}
+use Rattle.energy.proofs.Sums.{between-split, between-cons}
+use Rattle.energy.proofs.Tests.{either}
 use Rattle.rules.specs.Ledger.{Ledger, ledgerOf, spanIn, cellsIn, readingIn, readingOf}
-use Rattle.rules.specs.Refusal.{refusal, joined, takenAfter, taken}
+use Rattle.rules.specs.Refusal.{refusal, taken}
 use Rattle.rules.specs.File.{total, table, widthsOf, write}
 use Rattle.rules.specs.Reached.{Reached, untouched, agreed}
 use Rattle.rules.specs.FileLength.{FileLength·theorem, mostTaken}
@@ -21,10 +21,12 @@ use Rattle.commands.specs.declared.entries.Reading.{Reading}
 use Rattle.commands.specs.declared.entries.Command.{Command}
 use Rattle.commands.specs.declared.entries.Command.the-variants.{Contract as contractᶜ, Window as windowᶜ, Instruction as instructionᶜ}
 use Rattle.commands.specs.declared.entries.Command.the-variants.{Default as defaultᶜ, Reading as readingᶜ, Close as closeᶜ}
+use Rattle.rules.proofs.Lists.{count-yes, count-no, count-append}
+use Rattle.rules.proofs.Folds.{count-all}
 use Rattle.rules.proofs.Reached.{step as keeps, start}
 use Rattle.rules.proofs.Operands.{write-long}
 use Rattle.rules.proofs.Span.{span-cells, cells-none}
-use Rattle.rules.proofs.Taken.{grown, ledgerOf-snoc, concatMap-append, Allowed, allowed}
+use Rattle.rules.proofs.Taken.{grown, ledgerOf-snoc, concatMap-snoc, Allowed, allowed, taken-ind}
 
 -- ---- fewer minutes pass a test
 
@@ -32,45 +34,26 @@ module _ (f g : ℕ → Bool) (less : (m : ℕ) → g m ≡ true → f m ≡ tru
   fewer : (xs : List ℕ) → count g xs ≤ count f xs
   unfolding count
   fewer [] = le-refl 0
-  fewer (x ∷ xs) = go (g x) (f x) (less x) (fewer xs)
-    where
-      go : (a b : Bool) → (a ≡ true → b ≡ true) → count g xs ≤ count f xs
-          → elim a as (λ z. ℕ) [ true ↦ suc (count g xs) | false ↦ count g xs ] ≤ elim b as (λ z. ℕ) [ true ↦ suc (count f xs) | false ↦ count f xs ]
-      go true true h l = omega arith
-      go true false h l = let z : _≡_ {A = Bool} false true = h refl in absurd (subst (λ b. T b) (sym z) tt)
-      go false true h l = omega arith
-      go false false h l = l
+  fewer (x ∷ xs) =
+      let rest = fewer xs in
+      either (g x) (λ e. omega (arith, count-yes g x xs e, count-yes f x xs (less x e)))
+      (λ e. either (f x) (λ d. omega (arith, count-no g x xs e, count-yes f x xs d)) (λ d. omega (arith, count-no g x xs e, count-no f x xs d)))
 
-  one-fewer : (n a m : ℕ) → a ≤ m → m < a + n → f m ≡ true → g m ≡ false → suc (count g (run a n)) ≤ count f (run a n)
-  unfolding count run
-  one-fewer zero a m l h p q = absurd (omega arith)
-  one-fewer (suc n) a m l h p q = at (leb (suc a) m) refl
-      (λ k. later-on (g a) (f a) (less a) (one-fewer n (suc a) m k (omega arith) p q))
-      (λ e. here (ap f e ∙ p) (ap g e ∙ q) (fewer (run (suc a) n)))
-    where
-      cg : ℕ
-      cg = count g (run (suc a) n)
-
-      cf : ℕ
-      cf = count f (run (suc a) n)
-
-      Goal : Bool → Bool → Type 0
-      Goal x y = suc (elim y as (λ z. ℕ) [ true ↦ suc cg | false ↦ cg ]) ≤ elim x as (λ z. ℕ) [ true ↦ suc cf | false ↦ cf ]
-
-      -- m comes later
-      later-on : (y x : Bool) → (y ≡ true → x ≡ true) → suc cg ≤ cf → Goal x y
-      later-on true true t k = omega arith
-      later-on true false t k = absurd (false≢true (t refl))
-      later-on false true t k = omega arith
-      later-on false false t k = k
-
-      -- m is here
-      here : f a ≡ true → g a ≡ false → cg ≤ cf → Goal (f a) (g a)
-      here e₁ e₂ k = rw (e₁, e₂) (omega arith)
-
-      at : (b : Bool) → leb (suc a) m ≡ b → (suc a ≤ m → Goal (f a) (g a)) → (a ≡ m → Goal (f a) (g a)) → Goal (f a) (g a)
-      at true e x y = x (leb→le (suc a) m (to-T e))
-      at false e x y = y (omega (arith, leb-false (suc a) m e))
+  -- and one of them no longer
+  one-fewer : (n m : ℕ) → m < n → f m ≡ true → g m ≡ false → suc (count g (between 0 n)) ≤ count f (between 0 n)
+  one-fewer n m l p q =
+      let before = between 0 m in
+      let after = between (suc m) n in
+      rw (between-split 0 m n zero-le (le-of-lt l), between-cons m n l)
+      (omega (
+        arith,
+        count-append g before (m ∷ after),
+        count-append f before (m ∷ after),
+        count-no g m after q,
+        count-yes f m after p,
+        fewer before,
+        fewer after,
+      ))
 
 -- ---- the room that a ledger has left, in bytes
 
@@ -88,10 +71,6 @@ room size g =
     32 * (1 - length (g .contracts)) + 6 * (128 - length (g .windows)) + 5 * (64 - length (g .instructions)) + 5 * (128 - length (g .defaults))
     + 7 * count (bare g) (between 0 size)
     + toClose (g .closed)
-
--- one entry more
-longer : {A : Type 0} (xs : List A) (x : A) → length (xs ++ (x ∷ [])) ≡ length xs + 1
-longer xs x = length-append xs (x ∷ [])
 
 -- no contract is there yet
 none-yet : {A : Type 0} (xs : List A) → (not (isEmpty xs) && true) ≡ false → length xs ≡ 0
@@ -115,31 +94,22 @@ module _ (g : Ledger) (r : Reading) (new : isSome (g .reading (r .minute .0)) �
   read-now = rw (eq-eqb (r .minute .0) (r .minute .0) refl)
 
   fewer-bare : (size : ℕ) → r .minute .0 < size → suc (count (bare (grown g (readingᶜ r))) (between 0 size)) ≤ count (bare g) (between 0 size)
-  unfolding between
-  fewer-bare size l = one-fewer (bare g) (bare (grown g (readingᶜ r))) read-more (size - 0) 0 (r .minute .0) (omega arith) (omega arith) (ap not new) read-now
+  fewer-bare size l = one-fewer (bare g) (bare (grown g (readingᶜ r))) read-more size (r .minute .0) l (ap not new) read-now
 
 step : (size : ℕ) (g : Ledger) (c : Command) → spanIn g ≤ size → Allowed size g c → length (write c) + room size (grown g c) ≤ room size g
 unfolding room later table widthsOf total
 step size g (contractᶜ k) s a =
-    let cost : length (write (contractᶜ k)) ≡ 32 = write-long (contractᶜ k) in
-    simp (append-nil, length-append, or-false) (omega (arith, none-yet (g .contracts) (a .book .only)))
+    simp (append-nil, length-append, or-false) (omega (arith, write-long (contractᶜ k), none-yet (g .contracts) (a .book .only)))
 step size g (windowᶜ w) s a =
-    let cost : length (write (windowᶜ w)) ≡ 6 = write-long (windowᶜ w) in
-    simp (append-nil, length-append, or-false) (omega (arith, leb-false 128 (length (g .windows)) (a .kind .room)))
+    simp (append-nil, length-append, or-false) (omega (arith, write-long (windowᶜ w), leb-false 128 (length (g .windows)) (a .kind .room)))
 step size g (instructionᶜ i) s a =
-    let cost : length (write (instructionᶜ i)) ≡ 5 = write-long (instructionᶜ i) in
-    simp (append-nil, length-append, or-false) (omega (arith, leb-false 64 (length (g .instructions)) (a .kind .room)))
+    simp (append-nil, length-append, or-false) (omega (arith, write-long (instructionᶜ i), leb-false 64 (length (g .instructions)) (a .kind .room)))
 step size g (defaultᶜ d) s a =
-    let cost : length (write (defaultᶜ d)) ≡ 5 = write-long (defaultᶜ d) in
-    simp (append-nil, length-append, or-false) (omega (arith, leb-false 128 (length (g .defaults)) (a .kind .room)))
+    simp (append-nil, length-append, or-false) (omega (arith, write-long (defaultᶜ d), leb-false 128 (length (g .defaults)) (a .kind .room)))
 step size g (readingᶜ r) s a =
-    let cost : length (write (readingᶜ r)) ≡ 7 = write-long (readingᶜ r) in
     let inside : r .minute .0 < size = omega (arith, leb-false (spanIn g) (r .minute .0) (a .kind .inside)) in
-    let less : suc (count (bare (grown g (readingᶜ r))) (between 0 size)) ≤ count (bare g) (between 0 size) = fewer-bare g r (a .kind .unread) size inside in
-    simp (append-nil, or-false) (omega arith)
-step size g closeᶜ s a =
-    let cost : length (write closeᶜ) ≡ 1 = write-long closeᶜ in
-    simp append-nil (rw (a .book .notClosed) (omega arith))
+    simp (append-nil, or-false) (omega (arith, write-long (readingᶜ r), fewer-bare g r (a .kind .unread) size inside))
+step size g closeᶜ s a = simp append-nil (rw (a .book .notClosed) (omega (arith, write-long closeᶜ)))
 
 -- ---- a list
 
@@ -152,48 +122,30 @@ cells-fit (agreed a) = a .cells
 pub span-fits : {size : ℕ} {g : Ledger} → Reached size g → spanIn g ≤ size
 span-fits {g = g} r = omega (arith, cells-fit r, span-cells g)
 
--- at most all of some numbers pass a test
-count-most : (f : ℕ → Bool) (n a : ℕ) → count f (run a n) ≤ n
-unfolding count run
-count-most f zero a = le-refl 0
-count-most f (suc n) a = go (f a) (count-most f n (suc a))
-  where
-    go : (b : Bool) → count f (run (suc a) n) ≤ n → elim b as (λ z. ℕ) [ true ↦ suc (count f (run (suc a) n)) | false ↦ count f (run (suc a) n) ] ≤ suc n
-    go true h = omega arith
-    go false h = omega arith
-
 -- the room before the first command
 all-room : (size : ℕ) → room size (ledgerOf []) ≤ mostTaken size
-unfolding mostTaken room ledgerOf concatMap any readingOf between
-all-room size = omega (arith, count-most (bare (ledgerOf [])) (size - 0) 0)
+unfolding mostTaken room ledgerOf concatMap any readingOf
+all-room size =
+    let all : ℕ → Bool = λ m. true in
+    omega (arith, fewer all (bare (ledgerOf [])) (λ m e. refl) (between 0 size), count-all all 0 size (λ m. refl))
 
-one-command : (c : Command) → concatMap write (c ∷ []) ≡ write c
-unfolding concatMap
-one-command c = append-nil (write c)
+-- a command more, in bytes
+pub written-longer : (cs : List Command) (c : Command) → length (concatMap write (cs ++ (c ∷ []))) ≡ length (concatMap write cs) + length (write c)
+written-longer cs c = ap length (concatMap-snoc write cs c) ∙ length-append (concatMap write cs) (write c)
 
-spends : (size : ℕ) (t cs : List Command) → Reached size (ledgerOf t)
-    → length (concatMap write (takenAfter size t cs)) + room size (ledgerOf (takenAfter size t cs)) ≤ length (concatMap write t) + room size (ledgerOf t)
-unfolding takenAfter
-spends size t [] r = le-refl (length (concatMap write t) + room size (ledgerOf t))
-spends size t (c ∷ cs) r = go (refusal false size (ledgerOf t) c) refl (λ t′ r′. spends size t′ cs r′)
-  where
-    Less : List Command → List Command → Type 0
-    Less t′ t = length (concatMap write t′) + room size (ledgerOf t′) ≤ length (concatMap write t) + room size (ledgerOf t)
+-- what the commands taken are written as, and the room that they leave
+Spent : ℕ → List Command → Type 0
+Spent size t = Reached size (ledgerOf t) × (length (concatMap write t) + room size (ledgerOf t) ≤ mostTaken size)
 
-    go : (o : Option ℕ) → refusal false size (ledgerOf t) c ≡ o → ((t′ : List Command) → Reached size (ledgerOf t′) → Less (takenAfter size t′ cs) t′)
-        → Less (takenAfter size (joined o t c) cs) t
-    go none e rest =
-        let more : length (concatMap write (t ++ (c ∷ []))) ≡ length (concatMap write t) + length (write c) =
-        ap length (concatMap-append write t (c ∷ [])) ∙ length-append (concatMap write t) (concatMap write (c ∷ []))
-        ∙ ap (λ l. length (concatMap write t) + length l) (one-command c) in
-        let g : room size (ledgerOf (t ++ (c ∷ []))) ≡ room size (grown (ledgerOf t) c) = ap (room size) (ledgerOf-snoc t c) in
-        let kept = subst (Reached size) (sym (ledgerOf-snoc t c)) (keeps size (ledgerOf t) c r e) in
-        omega (arith, rest (t ++ (c ∷ [])) kept, step size (ledgerOf t) c (span-fits r) (allowed size (ledgerOf t) c e))
-    go (some n) e rest = rest t r
+spends : (size : ℕ) (t : List Command) (c : Command) → Spent size t → refusal false size (ledgerOf t) c ≡ none → Spent size (t ++ (c ∷ []))
+unfolding Spent
+spends size t c s e =
+    let less = step size (ledgerOf t) c (span-fits (s .0)) (allowed size (ledgerOf t) c e) in
+    rw ledgerOf-snoc (keeps size (ledgerOf t) c (s .0) e, omega (arith, s .1, written-longer t c))
 
 within : (size : ℕ) (cs : List Command) → length (concatMap write (taken size cs)) ≤ mostTaken size
-unfolding taken concatMap
-within size cs = omega (arith, spends size [] cs (start size), all-room size)
+unfolding taken concatMap Spent
+within size cs = let all = taken-ind size (Spent size) (spends size) [] cs (start size, omega (arith, all-room size)) in omega (arith, all .1)
 
 pub file-length : FileLength·theorem
 unfolding mostTaken

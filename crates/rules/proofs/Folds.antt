@@ -1,30 +1,20 @@
 -- A test, a number or a list that grows with the first n elements is the whole list's at its length.
 use mathlib.Core.Path.{_≡_, refl, sym, _∙_, ap, ap₂}
 use mathlib.Core.Bool.{Bool, true, false, cond, _&&_, _||_}
-use mathlib.Core.List.{List, [], _∷_, _++_, map, append-assoc, append-nil}
+use mathlib.Core.List.{List, [], _∷_, _++_, map}
 use Prim.Native.Nat.{ℕ, zero, suc, _+_, _-_, _≤_, _<_, zero-le}
 use native.Mathlib.Nat.{le-refl}
 use native.Mathlib.Omega.{arith}
 use lib.IntN.{ℤ, _+ℤ_, +ℤ-idr}
 use lib.ListN.{length, getD, take, length-map}
 use lib.Seq.{take-suc, take-length}
-use Rattle.energy.specs.Lists.{any, concatMap, count, filter, sum, run, between}
-use Rattle.energy.proofs.Sums.{between-snoc, sum-append}
+use Rattle.energy.specs.Lists.{any, count, filter, sum, run, between}
+use Rattle.energy.proofs.Sums.{between-snoc, between-ind, length-between, sum-append}
+use Rattle.energy.proofs.Tests.{any-snoc}
+use Rattle.rules.proofs.Lists.{count-append, count-yes}
+pub use Rattle.rules.proofs.Taken.{concatMap-snoc}
 
 module _ {A : Type 0} where
-  any-snoc : (f : A → Bool) (xs : List A) (x : A) → any f (xs ++ (x ∷ [])) ≡ (any f xs || f x)
-  unfolding any
-  any-snoc f [] x = or-false (f x)
-    where
-      or-false : (b : Bool) → (b || false) ≡ b
-      or-false true = refl
-      or-false false = refl
-  any-snoc f (y ∷ xs) x = ap (λ z. f y || z) (any-snoc f xs x) ∙ assoc (f y) (any f xs) (f x)
-    where
-      assoc : (a b c : Bool) → (a || (b || c)) ≡ ((a || b) || c)
-      assoc true b c = refl
-      assoc false b c = refl
-
   any-to : (f : A → Bool) (d : A) (xs : List A) (r : ℕ → Bool) → r 0 ≡ false → ((n : ℕ) → n < length xs → r (suc n) ≡ (r n || f (getD xs n d))) → (n : ℕ)
       → n ≤ length xs → r n ≡ any f (take n xs)
   unfolding any
@@ -45,18 +35,11 @@ module _ {A : Type 0} where
 
   pub count-snoc : (f : A → Bool) (xs : List A) (x : A) → count f (xs ++ (x ∷ [])) ≡ count f xs + cond (f x) 1 0
   unfolding count
-  count-snoc f [] x = go (f x)
+  count-snoc f xs x = count-append f xs (x ∷ []) ∙ ap (λ n. count f xs + n) (go (f x))
     where
-      go : (b : Bool) → _≡_ {A = ℕ} (elim b [ true ↦ 1 | false ↦ 0 ]) (0 + cond b 1 0)
+      go : (b : Bool) → _≡_ {A = ℕ} (elim b [ true ↦ 1 | false ↦ 0 ]) (cond b 1 0)
       go true = refl
       go false = refl
-  count-snoc f (y ∷ xs) x = go (f y) (count-snoc f xs x)
-    where
-      go : (b : Bool) → count f (xs ++ (x ∷ [])) ≡ count f xs + cond (f x) 1 0
-          → _≡_ {A = ℕ} (elim b [ true ↦ suc (count f (xs ++ (x ∷ []))) | false ↦ count f (xs ++ (x ∷ [])) ])
-          ((elim b [ true ↦ suc (count f xs) | false ↦ count f xs ]) + cond (f x) 1 0)
-      go true e = omega (arith, e)
-      go false e = e
 
   pub sum-snoc : (f : A → ℤ) (xs : List A) (x : A) → sum f (xs ++ (x ∷ [])) ≡ sum f xs +ℤ f x
   unfolding sum
@@ -77,11 +60,6 @@ module _ {A B : Type 0} where
   pub map-snoc : (f : A → B) (xs : List A) (x : A) → map f (xs ++ (x ∷ [])) ≡ map f xs ++ (f x ∷ [])
   map-snoc f [] x = refl
   map-snoc f (y ∷ xs) x = ap (λ l. f y ∷ l) (map-snoc f xs x)
-
-  pub concatMap-snoc : (f : A → List B) (xs : List A) (x : A) → concatMap f (xs ++ (x ∷ [])) ≡ concatMap f xs ++ f x
-  unfolding concatMap
-  concatMap-snoc f [] x = append-nil (f x)
-  concatMap-snoc f (y ∷ xs) x = ap (λ l. f y ++ l) (concatMap-snoc f xs x) ∙ sym (append-assoc (f y) (concatMap f xs) (f x))
 
   -- an array's length, as owning it tells, is that of the list of its elements' values
   pub length-mapped : (f : A → B) (l : List A) (n : ℕ) → length (map f l) ≡ n → length l ≡ n
@@ -110,26 +88,15 @@ pub count-shift : (f g : ℕ → Bool) (a b c d : ℕ) → b - a ≡ d - c → (
 unfolding between
 count-shift f g a b c d e h = count-go f g a c (b - a) h ∙ ap (λ n. count g (run c n)) e
 
-run-all : (f : ℕ → Bool) (a n : ℕ) → ((m : ℕ) → f m ≡ true) → count f (run a n) ≡ n
-unfolding count run
-run-all f a zero h = refl
-run-all f a (suc n) h = rw (h a) (ap suc (run-all f (suc a) n h))
-
 -- a test that all pass
 pub count-all : (f : ℕ → Bool) (a b : ℕ) → ((m : ℕ) → f m ≡ true) → count f (between a b) ≡ b - a
-unfolding between
-count-all f a b h = run-all f a (b - a) h
+unfolding count
+count-all f a b h = between-ind (λ l. count f l ≡ length l) a b refl (λ m l i k r. count-yes f m l (h m) ∙ ap suc r) ∙ length-between a b
 
 -- what f gives of the first n numbers
-length-run : (a n : ℕ) → length (run a n) ≡ n
-unfolding run
-length-run a zero = refl
-length-run a (suc n) = ap suc (length-run (suc a) n)
-
 module _ {A : Type 0} (f : ℕ → A) where
   pub length-first : (n : ℕ) → length (map f (between 0 n)) ≡ n
-  unfolding between
-  length-first n = length-map (run 0 (n - 0)) f ∙ length-run 0 (n - 0) ∙ omega arith
+  length-first n = length-map (between 0 n) f ∙ length-between 0 n ∙ omega arith
 
   pub first-snoc : (n : ℕ) → map f (between 0 (n + 1)) ≡ map f (between 0 n) ++ (f n ∷ [])
   first-snoc n = ap (map f) (between-snoc 0 n zero-le) ∙ map-snoc f (between 0 n) n

@@ -14,12 +14,7 @@ pub mod MostLines
 pub mod Definitions
 pub mod Conditions
 pub mod Figures
-pub mod Minutes
-pub mod Rates
-pub mod Delivered
-pub mod Availability
-pub mod Amounts
-pub mod WrittenOrder
+pub mod Examples
 pub mod Bounds
 pub mod Operands
 pub mod Reread

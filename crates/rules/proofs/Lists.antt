@@ -1,16 +1,16 @@
 -- Laws of what a test keeps of a list, and how many it keeps; and what stands within a list.
 use mathlib.Core.Path.{_≡_, refl, sym, ap, ap₂, _∙_, subst}
 use mathlib.Core.Logic.{⊎-elim}
-use mathlib.Core.Bool.{Bool, true, false, _&&_, true≢false}
+use mathlib.Core.Bool.{Bool, true, false, _&&_}
 use mathlib.Core.List.{List, [], _∷_, _++_, map, List·Memᴰ, List·Memᴰ·head, List·Memᴰ·tail, List·Memᴰ·not-nil, List·Memᴰ·cases-cons}
-use Prim.Native.Nat.{ℕ, zero, suc, _+_, _-_, _≤_, _<_}
-use native.Mathlib.Decide.{ℕ-discrete}
-use native.Mathlib.Nat.{le-refl, zero-add}
+use Prim.Native.Nat.{ℕ, zero, suc, _+_, _≤_, _<_}
+use native.Mathlib.Nat.{zero-add}
 use native.Mathlib.Omega.{arith}
 use lib.Dec.{T}
 use lib.ListN.{length, getD}
-use Rattle.energy.specs.Lists.{filter, count, run, between}
-use Rattle.energy.proofs.Tests.{to-T}
+use Rattle.energy.specs.Lists.{filter, count, between}
+use Rattle.energy.proofs.Sums.{between-ind}
+use Rattle.energy.proofs.Tests.{to-T, either}
 
 -- ---- filter
 
@@ -32,22 +32,14 @@ module _ {A : Type 0} (f : A → Bool) where
 
   -- a list filtered, by what the test of its first element gives
   pub filter-cases : (P : List A → Type 0) (x : A) (xs : List A) → (f x ≡ true → P (x ∷ filter f xs)) → (f x ≡ false → P (filter f xs)) → P (filter f (x ∷ xs))
-  filter-cases P x xs p q = go (f x) refl
-    where
-      go : (b : Bool) → f x ≡ b → P (filter f (x ∷ xs))
-      go true e = subst P (sym (filter-yes x xs e)) (p e)
-      go false e = subst P (sym (filter-no x xs e)) (q e)
+  filter-cases P x xs p q = either (f x) (λ e. rw (filter-yes x xs e) (p e)) (λ e. rw (filter-no x xs e) (q e))
 
   pub filter-append : (xs ys : List A) → filter f (xs ++ ys) ≡ filter f xs ++ filter f ys
   unfolding filter
   filter-append [] ys = refl
-  filter-append (x ∷ xs) ys = go (f x) (filter-append xs ys)
-    where
-      go : (b : Bool) → filter f (xs ++ ys) ≡ filter f xs ++ filter f ys
-          → elim b as (λ z. List A) [ true ↦ x ∷ filter f (xs ++ ys) | false ↦ filter f (xs ++ ys) ]
-          ≡ elim b as (λ z. List A) [ true ↦ x ∷ filter f xs | false ↦ filter f xs ] ++ filter f ys
-      go true e = ap (λ l. x ∷ l) e
-      go false e = e
+  filter-append (x ∷ xs) ys =
+      either (f x) (λ e. rw (filter-yes x (xs ++ ys) e, filter-yes x xs e) (ap (λ l. x ∷ l) (filter-append xs ys)))
+      (λ e. rw (filter-no x (xs ++ ys) e, filter-no x xs e) (filter-append xs ys))
 
   -- what is kept was there, and passes the test
   pub kept-was : (xs : List A) {a : A} → List·Memᴰ a (filter f xs) → List·Memᴰ a xs × T (f a)
@@ -60,55 +52,21 @@ module _ {A : Type 0} (f : A → Bool) where
       (λ e m. let r = kept-was xs m in (List·Memᴰ·tail (r .0), r .1))
       h
 
-  -- and what was there and passes it is kept
-  pub was-kept : (xs : List A) {a : A} → List·Memᴰ a xs → f a ≡ true → List·Memᴰ a (filter f xs)
-  was-kept [] h e = absurd (List·Memᴰ·not-nil h)
-  was-kept (x ∷ xs) {a} h e =
-      filter-cases (λ l. List·Memᴰ a l) x xs
-      (λ q. ⊎-elim (λ s. List·Memᴰ·head s) (λ r. List·Memᴰ·tail (was-kept xs r e)) (List·Memᴰ·cases-cons h))
-      (λ q. ⊎-elim (λ s. absurd (true≢false (sym e ∙ ap f s ∙ q))) (λ r. was-kept xs r e) (List·Memᴰ·cases-cons h))
-
 -- ---- numbers in a row
 
-pub in-run : (n a m : ℕ) → List·Memᴰ m (run a n) → (a ≤ m) × (m < a + n)
-unfolding run
-in-run zero a m h = absurd (List·Memᴰ·not-nil h)
-in-run (suc n) a m h = ⊎-elim (λ e. (omega arith, omega arith)) (λ q. go (in-run n (suc a) m q)) (List·Memᴰ·cases-cons h)
-  where
-    go : (suc a ≤ m) × (m < suc a + n) → (a ≤ m) × (m < a + suc n)
-    go w = (omega arith, omega arith)
-
-pub run-has : (n a m : ℕ) → a ≤ m → m < a + n → List·Memᴰ m (run a n)
-unfolding run
-run-has zero a m h l = absurd (omega arith)
-run-has (suc n) a m h l = go (ℕ-discrete m a) (λ k. run-has n (suc a) m k (omega arith))
-  where
-    go : Dec (m ≡ a) → (suc a ≤ m → List·Memᴰ m (run (suc a) n)) → List·Memᴰ m (a ∷ run (suc a) n)
-    go (yes e) rest = List·Memᴰ·head e
-    go (no d) rest = List·Memᴰ·tail (rest (omega (arith, d)))
+pub in-between : (a b m : ℕ) → List·Memᴰ m (between a b) → (a ≤ m) × (m < b)
+in-between a b m =
+    between-ind (λ l. List·Memᴰ m l → (a ≤ m) × (m < b)) a b (λ h. absurd (List·Memᴰ·not-nil h))
+    (λ x l i k r h. ⊎-elim (λ e. omega arith) r (List·Memᴰ·cases-cons h))
 
 module _ (f : ℕ → Bool) where
-  all-run : (a n : ℕ) → ((x : ℕ) → a ≤ x → x < a + n → f x ≡ true) → filter f (run a n) ≡ run a n
-  unfolding filter run
-  all-run a zero h = refl
-  all-run a (suc n) h =
-      let e : f a ≡ true = h a (le-refl a) (omega arith) in
-      rw e (ap (λ l. a ∷ l) (all-run (suc a) n (λ x l k. h x (omega arith) (omega arith))))
-
-  none-run : (a n : ℕ) → ((x : ℕ) → a ≤ x → x < a + n → f x ≡ false) → filter f (run a n) ≡ []
-  unfolding filter run
-  none-run a zero h = refl
-  none-run a (suc n) h =
-      let e : f a ≡ false = h a (le-refl a) (omega arith) in
-      rw e (none-run (suc a) n (λ x l k. h x (omega arith) (omega arith)))
-
   pub filter-all : (a b : ℕ) → ((x : ℕ) → a ≤ x → x < b → f x ≡ true) → filter f (between a b) ≡ between a b
-  unfolding between
-  filter-all a b h = all-run a (b - a) (λ x l k. h x l (omega arith))
+  unfolding filter
+  filter-all a b h = between-ind (λ l. filter f l ≡ l) a b refl (λ x l i k r. filter-yes f x l (h x i k) ∙ ap (λ l. x ∷ l) r)
 
   pub filter-none : (a b : ℕ) → ((x : ℕ) → a ≤ x → x < b → f x ≡ false) → filter f (between a b) ≡ []
-  unfolding between
-  filter-none a b h = none-run a (b - a) (λ x l k. h x l (omega arith))
+  unfolding filter
+  filter-none a b h = between-ind (λ l. filter f l ≡ []) a b refl (λ x l i k r. filter-no f x l (h x i k) ∙ r)
 
 -- ---- count
 
@@ -133,13 +91,9 @@ module _ {A : Type 0} where
   pub count-append : (f : A → Bool) (xs ys : List A) → count f (xs ++ ys) ≡ count f xs + count f ys
   unfolding count
   count-append f [] ys = sym (zero-add (count f ys))
-  count-append f (x ∷ xs) ys = go (f x) (count-append f xs ys)
-    where
-      go : (b : Bool) → count f (xs ++ ys) ≡ count f xs + count f ys
-          → elim b as (λ z. ℕ) [ true ↦ suc (count f (xs ++ ys)) | false ↦ count f (xs ++ ys) ]
-          ≡ elim b as (λ z. ℕ) [ true ↦ suc (count f xs) | false ↦ count f xs ] + count f ys
-      go true e = omega arith
-      go false e = e
+  count-append f (x ∷ xs) ys =
+      either (f x) (λ e. rw (count-yes f x (xs ++ ys) e, count-yes f x xs e) (omega (arith, count-append f xs ys)))
+      (λ e. rw (count-no f x (xs ++ ys) e, count-no f x xs e) (count-append f xs ys))
 
   pub count-filter : (f p : A → Bool) (xs : List A) → count f (filter p xs) ≡ count (λ x. p x && f x) xs
   unfolding count filter
@@ -151,6 +105,10 @@ module _ {A : Type 0} where
           ≡ elim (a && f x) as (λ z. ℕ) [ true ↦ suc (count (λ x. p x && f x) xs) | false ↦ count (λ x. p x && f x) xs ]
       go true e = ap (λ n. elim (f x) as (λ z. ℕ) [ true ↦ suc n | false ↦ n ]) e
       go false e = e
+
+pub count-without : (f : ℕ → Bool) (a b : ℕ) → ((x : ℕ) → a ≤ x → x < b → f x ≡ false) → count f (between a b) ≡ 0
+unfolding count
+count-without f a b h = between-ind (λ l. count f l ≡ 0) a b refl (λ x l i k r. count-no f x l (h x i k) ∙ r)
 
 module _ {A B : Type 0} where
   pub count-map : (f : B → Bool) (g : A → B) (xs : List A) → count f (map g xs) ≡ count (λ x. f (g x)) xs

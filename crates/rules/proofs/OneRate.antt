@@ -1,12 +1,12 @@
 -- The rate is the same throughout a segment: windows of whole periods hold all minutes of a period or none.
 use mathlib.Core.Path.{_≡_, refl, sym, ap, ap₂, _∙_, subst}
-use mathlib.Core.Bool.{Bool, true, false, cond, _&&_, _||_}
+use mathlib.Core.Bool.{Bool, cond, _&&_, _||_}
 use mathlib.Core.List.{List, [], _∷_, List·Memᴰ}
 use Prim.Native.Nat.{ℕ, _%_}
 use native.Mathlib.Omega.{arith}
 use lib.Dec.{T, leb, ltb, eqb, leb→le, le→leb, ltb→lt, lt→ltb, eqb→eq}
 use Rattle.energy.specs.Lists.{any}
-use Rattle.energy.proofs.Tests.{of-T, T-and}
+use Rattle.energy.proofs.Tests.{T-and, same-test}
 use Rattle.rules.specs.Ledger.{Ledger, ledgerOf, contractOf, spanIn, within}
 use Rattle.rules.specs.Refusal.{taken}
 use Rattle.rules.specs.Segment.{periodOf, stageOf, sameStage, alike, active, live, inLive, anchor, rateAt, Segment, segments}
@@ -31,11 +31,6 @@ Whole [] = Unit {0}
 Whole (w ∷ ws) = (w .start .0 % 30 ≡ 0) × (w .end .0 % 30 ≡ 0) × Whole ws
 
 -- ---- minutes of one period stand in the same windows
-
-same-test : (a b : Bool) → (T a → T b) → (T b → T a) → a ≡ b
-same-test true b f g = sym (of-T b (f tt))
-same-test false true f g = absurd (g tt)
-same-test false false f g = refl
 
 module _ (m n : ℕ) (e : periodOf m ≡ periodOf n) where
   same-leb : (a : ℕ) → a % 30 ≡ 0 → leb a m ≡ leb a n

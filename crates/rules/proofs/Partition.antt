@@ -1,18 +1,18 @@
 -- Each active minute belongs to exactly one line, and each line has one: of every ledger.
-use mathlib.Core.Path.{_≡_, refl, sym, ap, ap₂, _∙_, subst}
-use mathlib.Core.Logic.{⊎-elim, _≢_}
-use mathlib.Core.Bool.{Bool, true, false, not, _&&_, _||_, and-false, or-true}
+use mathlib.Core.Path.{_≡_, refl, ap, ap₂, _∙_, subst}
+use mathlib.Core.Logic.{inl, inr, ⊎-elim, _≢_}
+use mathlib.Core.Bool.{Bool, true, false, _&&_, and-false}
 use mathlib.Core.List.{List, [], _∷_, List·Memᴰ, List·Memᴰ·not-nil, List·Memᴰ·append-cases, Memᴰ·of-map}
 use mathlib.Core.Option.{some, Option·some-injective, Option·none-ne-some}
 use Prim.Native.Nat.{ℕ, zero, suc, _+_, _-_, _≤_, _<_}
-use native.Mathlib.Nat.{le-refl}
+use native.Mathlib.Nat.{le-of-lt}
 use native.Mathlib.Omega.{arith}
-use native.Mathlib.Decide.{ℕ-discrete}
 use lib.Dec.{T, eqb}
 use lib.ListN.{getElem?}
 use borrow.Author.Tests.{eq-eqb, ne-eqb}
-use Rattle.energy.specs.Lists.{count, filter, run, between}
-use Rattle.energy.proofs.Tests.{to-T}
+use Rattle.energy.specs.Lists.{count, filter, between}
+use Rattle.energy.proofs.Sums.{between-split, between-cons}
+use Rattle.energy.proofs.Tests.{to-T, either-le, either-eq}
 use Rattle.rules.specs.Ledger.{Ledger, contractOf, rampStart, endOf}
 use Rattle.rules.specs.Segment.{periodOf, stageOf, sameStage, alike, heads, active, Segment, segmentsOf, segmentsFrom, segments}
 use Rattle.rules.specs.Statement.{lineOf, lines}
@@ -22,8 +22,8 @@ use Rattle.commands.specs.declared.entries.Instruction.{Instruction}
 use Rattle.rules.specs.declared.statement.Line.{Line}
 use Rattle.rules.specs.declared.statement.Stage.{Stage}
 use Rattle.commands.proofs.Chain.{together}
-use Rattle.rules.proofs.Lists.{kept-was, in-run, count-yes, count-no, count-ext, count-none, count-append, count-filter, count-map}
-use Rattle.rules.proofs.Cuts.{stage-same, headTest, rankOf, rank-mono, alike-rank, heads-rank}
+use Rattle.rules.proofs.Lists.{kept-was, in-between, count-yes, count-ext, count-none, count-without, count-append, count-filter, count-map}
+use Rattle.rules.proofs.Cuts.{stage-same, headTest, head-yes, head-no, rankOf, rank-mono, alike-rank, heads-rank}
 
 -- ---- of the minutes where a number that never falls has one value, one is the first
 
@@ -35,67 +35,51 @@ module _ (f : ℕ → ℕ) (mono : (x y : ℕ) → x ≤ y → f x ≤ f y) (A v
   unfolding starts
   starts-no x h = ap (λ b. headTest f A x && b) (ne-eqb (f x) v h) ∙ and-false (headTest f A x)
 
-  starts-yes : (a : ℕ) → f (suc a) ≡ v → f a ≢ v → starts (suc a) ≡ true
-  unfolding starts headTest
-  starts-yes a h k =
-      ap₂ (λ b c. (eqb (suc a) A || not b) && c) (ne-eqb (f (suc a - 1)) (f (suc a)) (λ e. k (ap f (omega arith) ∙ e ∙ h))) (eq-eqb (f (suc a)) v h)
-      ∙ ap (λ b. b && true) (or-true (eqb (suc a) A))
+  starts-on : (x : ℕ) → A < x → f (x - 1) ≡ f x → starts x ≡ false
+  unfolding starts
+  starts-on x h e = rw (head-no f A x h e)
 
-  starts-on : (a : ℕ) → A ≤ a → f (suc a) ≡ v → f a ≡ v → starts (suc a) ≡ false
-  unfolding starts headTest
-  starts-on a h k l =
-      ap₂ (λ b c. (b || not c) && eqb (f (suc a)) v) (ne-eqb (suc a) A (λ e. omega arith)) (eq-eqb (f (suc a - 1)) (f (suc a)) (ap f (omega arith) ∙ l ∙ sym k))
-
-  count-past : (n a : ℕ) → A ≤ a → v ≤ f a → count starts (run (suc a) n) ≡ 0
-  unfolding run
-  count-past zero a h k = unfold count in refl
-  count-past (suc n) a h k =
-      let m : f a ≤ f (suc a) = mono a (suc a) (omega arith) in
-      count-no starts (suc a) (run (suc (suc a)) n) (go (ℕ-discrete (f (suc a)) v)) ∙ count-past n (suc a) (omega arith) (omega arith)
+  -- where m is the first with this value, none but m starts
+  alone : (B m : ℕ) → A ≤ m → m < B → f m ≡ v → ((x : ℕ) → A ≤ x → x < m → f x ≢ v) → count starts (between A B) ≡ 1
+  unfolding starts
+  alone B m h l e before =
+      rw (between-split A m B h (le-of-lt l), between-cons m B l)
+      (count-append starts (between A m) (m ∷ between (suc m) B)
+      ∙ ap₂ _+_ (count-without starts A m (λ x i k. starts-no x (before x i k)))
+      (count-yes starts m (between (suc m) B) here ∙ ap suc (count-without starts (suc m) B after)))
     where
-      go : Dec (f (suc a) ≡ v) → starts (suc a) ≡ false
-      go (yes e) = let m : f a ≤ f (suc a) = mono a (suc a) (omega arith) in starts-on a h e (omega arith)
-      go (no d) = starts-no (suc a) d
+      here : starts m ≡ true
+      here =
+          rw (
+            head-yes f A m
+                (either-eq m A inl (λ d. inr (omega (arith, before (m - 1) (omega arith) (omega arith), mono (m - 1) m (omega arith))))),
+            eq-eqb (f m) v e,
+          )
 
-  count-once : (n a x : ℕ) → A ≤ a → f a < v → a < x → x < suc a + n → f x ≡ v → count starts (run (suc a) n) ≡ 1
-  unfolding run
-  count-once zero a x h k l r e = absurd (omega arith)
-  count-once (suc n) a x h k l r e = go (ℕ-discrete (f (suc a)) v) (λ q. count-once n (suc a) x (omega arith) q)
-    where
-      go : Dec (f (suc a) ≡ v) → (f (suc a) < v → suc a < x → x < suc (suc a) + n → f x ≡ v → count starts (run (suc (suc a)) n) ≡ 1)
-          → count starts (suc a ∷ run (suc (suc a)) n) ≡ 1
-      go (yes d) rest =
-          count-yes starts (suc a) (run (suc (suc a)) n) (starts-yes a d (λ q. omega arith))
-          ∙ ap suc (count-past n (suc a) (omega arith) (omega arith))
-      go (no d) rest =
-          let m : f (suc a) ≤ f x = mono (suc a) x (omega arith) in
-          let c : suc a ≢ x = λ q. d (ap f q ∙ e) in
-          count-no starts (suc a) (run (suc (suc a)) n) (starts-no (suc a) d) ∙ rest (omega (arith, d)) (omega arith) (omega arith) e
+      after : (x : ℕ) → suc m ≤ x → x < B → starts x ≡ false
+      after x i k =
+          let up = mono m (x - 1) (omega arith) in
+          let on = mono (x - 1) x (omega arith) in
+          either-eq (f x) v (λ d. starts-on x (omega arith) (omega arith)) (λ d. starts-no x d)
 
-  count-starts : (n m : ℕ) → A ≤ m → m < A + n → f m ≡ v → count starts (run A n) ≡ 1
-  unfolding run starts headTest
-  count-starts zero m h k e = absurd (omega arith)
-  count-starts (suc n) m h k e = go (ℕ-discrete (f A) v)
-    where
-      at-first : f A ≡ v → starts A ≡ true
-      at-first d = ap₂ (λ a b. (a || not (eqb (f (A - 1)) (f A))) && b) (eq-eqb A A refl) (eq-eqb (f A) v d)
-
-      go : Dec (f A ≡ v) → count starts (A ∷ run (suc A) n) ≡ 1
-      go (yes d) = count-yes starts A (run (suc A) n) (at-first d) ∙ ap suc (count-past n A (le-refl A) (omega arith))
-      go (no d) =
-          let l : f A ≤ f m = mono A m h in
-          let c : A ≢ m = λ q. d (ap f q ∙ e) in
-          count-no starts A (run (suc A) n) (starts-no A d) ∙ count-once n A m (le-refl A) (omega (arith, d)) (omega arith) (omega arith) e
+  count-starts : (B m : ℕ) → A ≤ m → m < B → f m ≡ v → count starts (between A B) ≡ 1
+  count-starts B zero h l e = alone B zero h l e (λ x i k. absurd (omega arith))
+  count-starts B (suc m) h l e =
+      either-le A m
+      (λ i. either-eq (f m) v (λ d. count-starts B m i (omega arith) d)
+      (λ d. alone B (suc m) h l e (λ x j k q. omega (arith, mono x m (omega arith), mono m (suc m) (omega arith)))))
+      (λ i. alone B (suc m) h l e (λ x j k. absurd (omega arith)))
 
 -- exactly one segment's first minute is like an active minute m
 heads-once : (k : Contract) (i : Instruction) (m : ℕ) → rampStart k i ≤ m → m < endOf k i → count (λ h. alike k i h m) (heads k i) ≡ 1
-unfolding active between starts
+unfolding active starts
 heads-once k i m h l =
-    ap (count (λ x. alike k i x m)) (heads-rank k i)
-    ∙ count-filter (λ x. alike k i x m) (headTest (rankOf k i) (rampStart k i)) (run (rampStart k i) (endOf k i - rampStart k i))
-    ∙ count-ext (λ x. headTest (rankOf k i) (rampStart k i) x && alike k i x m) (starts (rankOf k i) (rank-mono k i) (rampStart k i) (rankOf k i m))
-    (run (rampStart k i) (endOf k i - rampStart k i)) (λ x. ap (λ b. headTest (rankOf k i) (rampStart k i) x && b) (alike-rank k i x m))
-    ∙ count-starts (rankOf k i) (rank-mono k i) (rampStart k i) (rankOf k i m) (endOf k i - rampStart k i) m h (omega arith) refl
+    let test : ℕ → Bool = headTest (rankOf k i) (rampStart k i) in
+    let minutes : List ℕ = between (rampStart k i) (endOf k i) in
+    ap (count (λ x. alike k i x m)) (heads-rank k i) ∙ count-filter (λ x. alike k i x m) test minutes
+    ∙ count-ext (λ x. test x && alike k i x m) (starts (rankOf k i) (rank-mono k i) (rampStart k i) (rankOf k i m)) minutes
+    (λ x. ap (λ b. test x && b) (alike-rank k i x m))
+    ∙ count-starts (rankOf k i) (rank-mono k i) (rampStart k i) (rankOf k i m) (endOf k i) m h l refl
 
 -- ---- over all instructions
 
@@ -181,12 +165,11 @@ segment-from k (i ∷ is) n s h = ⊎-elim here (λ q. go (segment-from k is (su
 -- a head is an active minute, and the first of its rank
 pub head-active : (k : Contract) (i : Instruction) (m : ℕ) → List·Memᴰ m (heads k i) → (rampStart k i ≤ m) × (m < endOf k i) × T
     (headTest (rankOf k i) (rampStart k i) m)
-unfolding active between
+unfolding active
 head-active k i m h =
-    let q = kept-was (headTest (rankOf k i) (rampStart k i)) (run (rampStart k i) (endOf k i - rampStart k i))
-    (subst (λ l. List·Memᴰ m l) (heads-rank k i) h) in
-    let r = in-run (endOf k i - rampStart k i) (rampStart k i) m (q .0) in
-    (r .0, omega (arith, r .0, r .1), q .1)
+    let q = kept-was (headTest (rankOf k i) (rampStart k i)) (between (rampStart k i) (endOf k i)) (subst (λ l. List·Memᴰ m l) (heads-rank k i) h) in
+    let r = in-between (rampStart k i) (endOf k i) m (q .0) in
+    (r .0, r .1, q .1)
 
 nonempty : (g : Ledger) (l : Line) → List·Memᴰ l (lines g) → MinuteOf g l
 unfolding lines lineOf segments

@@ -1,20 +1,20 @@
 -- A ledger that commands leave is untouched, or has one contract and entries that could be taken under it: by induction over the commands.
 use mathlib.Core.Path.{_≡_, refl, sym, ap, _∙_, subst, subst⁻¹}
-use mathlib.Core.Bool.{Bool, true, false, cond, not, _&&_, true≢false}
+use mathlib.Core.Bool.{Bool, true, false, not, _&&_, true≢false}
 use mathlib.Core.List.{List, [], _∷_, _++_, append-nil}
-use mathlib.Core.Option.{Option, none, some, Option·none-ne-some, Option·some-injective}
-use Prim.Native.Nat.{ℕ, _+_, _≤_, _<_}
+use mathlib.Core.Option.{none, some, Option·none-ne-some, Option·some-injective}
+use Prim.Native.Nat.{ℕ, _≤_, _<_}
 use native.Mathlib.Omega.{arith}
 use lib.IntN.{ℤ}
-use lib.Dec.{T, eqb, leb, ltb, lt→ltb, eqb→eq}
+use lib.Dec.{T, eqb, leb, ltb}
 use lib.ListN.{length, length-append}
-use borrow.Author.Tests.{leb-false, ltb-false}
+use borrow.Author.Tests.{leb-false, ltb-false, lt-ltb, eqb-true}
 use Rattle.energy.specs.Lists.{all, any, concatMap, first, isEmpty, later, pass}
-use Rattle.energy.proofs.Tests.{T-and, and-T, to-T, off-T, off-not, passes, passed, all-snoc}
+use Rattle.energy.proofs.Tests.{T-and, of-T, off-T, off-not, passes, passed, all-snoc, either}
 use Rattle.commands.specs.Input.{from-to, inRange, rampTooLong, isReading, mostMinute}
 use Rattle.rules.specs.Ledger.{Ledger, ledgerOf, contractOf, noContract, contractIn, windowIn, instructionIn, defaultIn, readingIn, readingOf}
 use Rattle.rules.specs.Ledger.{isContract, spanOf, spanIn, cellsIn, within}
-use Rattle.rules.specs.Refusal.{refusal, joined, takenAfter, taken}
+use Rattle.rules.specs.Refusal.{refusal, taken}
 use Rattle.rules.specs.Reached.{windowsSound, instructionsSound, defaultSound, agreedTests, Untouched, Agreed, Reached, Reached·theorem}
 use Rattle.rules.specs.Reached.Reached.{untouched, agreed}
 use Rattle.commands.specs.declared.contract.Contract.{Contract}
@@ -26,9 +26,10 @@ use Rattle.commands.specs.declared.entries.Command.{Command}
 use Rattle.commands.specs.declared.entries.Command.the-variants.{Contract as contractᶜ, Window as windowᶜ, Instruction as instructionᶜ}
 use Rattle.commands.specs.declared.entries.Command.the-variants.{Default as defaultᶜ, Reading as readingᶜ, Close as closeᶜ}
 use Rattle.commands.proofs.Terms.{Terms, terms}
-use Rattle.rules.proofs.Taken.{grown, ledgerOf-snoc, Allowed, allowed}
+use Rattle.rules.proofs.Taken.{grown, ledgerOf-snoc, Allowed, allowed, taken-ind}
 use Rattle.rules.proofs.Span.{span-kept, cells-kept, cells-new}
-use Rattle.rules.proofs.Tables.{lastEnd, last-end, one-window, windows-snoc, ready, ready-recovered, one-instruction, instructions-snoc, defaults-more}
+use Rattle.rules.proofs.Tables.{lastEnd, last-of, one-window, windows-snoc}
+use Rattle.rules.proofs.Tables.{ready, ready-recovered, one-instruction, instructions-snoc, defaults-more}
 
 -- ---- the parts of a ledger under a contract
 
@@ -103,10 +104,6 @@ first-contract k (agreed a) h = absurd (true≢false (sym (ap (λ l. not (isEmpt
 
 -- ---- an entry under a contract
 
--- what a table without a new entry keeps
-kept : {A : Type 0} (P : List A → Type 0) (l : List A) → P l → P (l ++ [])
-kept P l p = subst P (sym (append-nil l)) p
-
 -- one entry more fits a table that has room
 fits : {A : Type 0} (n : ℕ) (l : List A) (a : A) → leb n (length l) ≡ false → length (l ++ (a ∷ [])) ≤ n
 fits n l a e = omega (arith, length-append l (a ∷ []), leb-false n (length l) e)
@@ -135,103 +132,51 @@ module _ {size : ℕ} {g : Ledger} (a : Agreed size g) where
   unfolding later
   read c n m kw q = a .readings m kw (ap (λ o. later (g .reading m) o) (sym (n m)) ∙ q)
 
-  -- no new entry: the tables stay
-  still : Parts k span (g .windows ++ []) (g .instructions ++ []) (g .defaults ++ [])
-  still =
-      record {
-        operands = p .operands;
-        ramps = p .ramps;
-        windows = kept (λ l. T (windowsSound k span 0 l)) (g .windows) (p .windows);
-        instructions = kept (λ l. T (instructionsSound k span 0 l)) (g .instructions) (p .instructions);
-        defaults =
-            kept (λ ds. T (all (defaultSound k span (g .windows ++ [])) ds)) (g .defaults)
-            (kept (λ ws. T (all (defaultSound k span ws) (g .defaults))) (g .windows) (p .defaults));
-      }
-
-  few : Fits (g .windows ++ []) (g .instructions ++ []) (g .defaults ++ [])
-  few =
-      record {
-        windows = kept (λ l. length l ≤ 128) (g .windows) (a .windows);
-        instructions = kept (λ l. length l ≤ 64) (g .instructions) (a .instructions);
-        defaults = kept (λ l. length l ≤ 128) (g .defaults) (a .defaults);
-      }
-
+  -- one entry more: the other tables are found as they were, among p's parts
   with-window : (w : Window) → Allowed size g (windowᶜ w) → Agreed size (grown g (windowᶜ w))
   with-window w h =
-      let one : T (windowsSound k span (lastEnd 0 (g .windows)) (w ∷ [])) =
-      one-window k span (lastEnd 0 (g .windows)) w (h .input .operands) (h .input .shape) (h .kind .inside) (h .kind .verdict)
-      (subst (λ x. ltb (w .start .0) x ≡ false) (last-end (record { start = record { 0 = 0 }; end = record { 0 = 0 }; verdict = 0 }) (g .windows))
-      (h .kind .after)) in
-      keep (windowᶜ w) refl
-      (record {
-        operands = still .operands;
-        ramps = still .ramps;
-        windows = windows-snoc k span 0 (g .windows) w (p .windows) one;
-        instructions = still .instructions;
-        defaults =
-            kept (λ l. T (all (defaultSound k span (g .windows ++ (w ∷ []))) l)) (g .defaults)
-            (defaults-more k span (g .windows) w (g .defaults) (p .defaults));
-      })
-      (record { windows = fits 128 (g .windows) w (h .kind .room); instructions = few .instructions; defaults = few .defaults })
-      (read (windowᶜ w) (λ m. refl))
+      let after : ltb (w .start .0) (lastEnd 0 (g .windows)) ≡ false =
+      rw (last-of (λ (w : Window). w .end .0) (record { start = record { 0 = 0 }; end = record { 0 = 0 }; verdict = 0 }) (g .windows))
+      (h .kind .after) in
+      let one = one-window k span (lastEnd 0 (g .windows)) w (h .input .operands) (h .input .shape) (h .kind .inside) (h .kind .verdict) after in
+      let windows = windows-snoc k span 0 (g .windows) w (p .windows) one in
+      let defaults = defaults-more k span (g .windows) w (g .defaults) (p .defaults) in
+      keep (windowᶜ w) refl (simp append-nil (let rest = p in search))
+      (simp append-nil (omega (arith, fits 128 (g .windows) w (h .kind .room)))) (read (windowᶜ w) (λ m. refl))
 
   with-instruction : (i : Instruction) → Allowed size g (instructionᶜ i) → Agreed size (grown g (instructionᶜ i))
   with-instruction i h =
-      let one : T (instructionsSound k span (ready k 0 (g .instructions)) (i ∷ [])) =
-      one-instruction k span (ready k 0 (g .instructions)) i (h .input .operands) (h .kind .inside) (h .kind .ceased)
-      (subst (λ x. ltb (i .issue .0) x ≡ false) (sym (ready-recovered k (g .instructions))) (h .kind .recovered)) in
-      keep (instructionᶜ i) refl
-      (record {
-        operands = still .operands;
-        ramps = still .ramps;
-        windows = still .windows;
-        instructions = instructions-snoc k span 0 (g .instructions) i (p .instructions) one;
-        defaults = still .defaults;
-      })
-      (record { windows = few .windows; instructions = fits 64 (g .instructions) i (h .kind .room); defaults = few .defaults })
-      (read (instructionᶜ i) (λ m. refl))
+      let after : ltb (i .issue .0) (ready k 0 (g .instructions)) ≡ false = rw (ready-recovered k (g .instructions)) (h .kind .recovered) in
+      let one = one-instruction k span (ready k 0 (g .instructions)) i (h .input .operands) (h .kind .inside) (h .kind .ceased) after in
+      let instructions = instructions-snoc k span 0 (g .instructions) i (p .instructions) one in
+      keep (instructionᶜ i) refl (simp append-nil (let rest = p in search))
+      (simp append-nil (omega (arith, fits 64 (g .instructions) i (h .kind .room)))) (read (instructionᶜ i) (λ m. refl))
 
   with-default : (d : Default) → Allowed size g (defaultᶜ d) → Agreed size (grown g (defaultᶜ d))
   with-default d h =
-      let ok : Bool = inRange (defaultᶜ d) in
-      let below : Bool = ltb (d .minute .0) span in
       let windowed : Bool = any (λ w. within w (d .minute .0)) (g .windows) in
       let one : T (defaultSound k span (g .windows) d) =
-      and-T (ok && below) windowed
-      (and-T ok below (h .input .operands) (lt→ltb (d .minute .0) span (leb-false span (d .minute .0) (h .kind .inside))))
+      rw (of-T (inRange (defaultᶜ d)) (h .input .operands), lt-ltb (d .minute .0) span (leb-false span (d .minute .0) (h .kind .inside)))
       (off-not windowed (h .kind .windowed)) in
-      keep (defaultᶜ d) refl
-      (record {
-        operands = still .operands;
-        ramps = still .ramps;
-        windows = still .windows;
-        instructions = still .instructions;
-        defaults =
-            kept (λ ws. T (all (defaultSound k span ws) (g .defaults ++ (d ∷ [])))) (g .windows)
-            (all-snoc (defaultSound k span (g .windows)) (g .defaults) d (p .defaults) one);
-      })
-      (record { windows = few .windows; instructions = few .instructions; defaults = fits 128 (g .defaults) d (h .kind .room) })
-      (read (defaultᶜ d) (λ m. refl))
+      let defaults = all-snoc (defaultSound k span (g .windows)) (g .defaults) d (p .defaults) one in
+      keep (defaultᶜ d) refl (simp append-nil (let rest = p in search))
+      (simp append-nil (omega (arith, fits 128 (g .defaults) d (h .kind .room)))) (read (defaultᶜ d) (λ m. refl))
 
   with-reading : (r : Reading) → Allowed size g (readingᶜ r) → Agreed size (grown g (readingᶜ r))
   unfolding later
   with-reading r h =
-      keep (readingᶜ r) refl still few
-      (λ m kw q. go (eqb (r .minute .0) m) refl kw q)
-    where
-      go : {m : ℕ} (b : Bool) → eqb (r .minute .0) m ≡ b → (kw : ℤ) → later (g .reading m) (cond b (some (r .kw .0)) none) ≡ some kw
-          → (m < span) × T (isReading kw)
-      go {m} true e kw q =
-          let same : r .minute .0 ≡ m = eqb→eq (r .minute .0) m (to-T e) in
-          let range = T-and (from-to 0 mostMinute (r .minute .0)) (isReading (r .kw .0)) (h .input .operands) in (
-            subst (λ x. x < span) same (leb-false span (r .minute .0) (h .kind .inside)),
-            subst (λ x. T (isReading x)) (Option·some-injective (r .kw .0) kw q) (range .1),
-          )
-      go {m} false e kw q = a .readings m kw q
+      keep (readingᶜ r) refl (simp append-nil p) (simp append-nil (omega arith))
+      (λ m kw q.
+      either (eqb (r .minute .0) m)
+      (λ e.
+      let same : r .minute .0 ≡ m = eqb-true (r .minute .0) m e in
+      let range = T-and (from-to 0 mostMinute (r .minute .0)) (isReading (r .kw .0)) (h .input .operands) in
+      let read : r .kw .0 ≡ kw = Option·some-injective (r .kw .0) kw (rw e at q) in
+      (omega (arith, leb-false span (r .minute .0) (h .kind .inside)), subst (λ x. T (isReading x)) read (range .1)))
+      (λ e. a .readings m kw (rw e at q)))
 
   with-close : Agreed size (grown g closeᶜ)
-  with-close =
-      keep closeᶜ refl still few (read closeᶜ (λ m. refl))
+  with-close = keep closeᶜ refl (simp append-nil p) (simp append-nil (omega arith)) (read closeᶜ (λ m. refl))
 
 -- ---- the contract
 
@@ -275,15 +220,7 @@ pub start : (size : ℕ) → Reached size (ledgerOf [])
 unfolding ledgerOf concatMap any readingOf
 start size = untouched (record { contracts = refl; windows = refl; instructions = refl; defaults = refl; notClosed = refl; readings = λ m. refl })
 
-pub reach-after : (size : ℕ) (t cs : List Command) → Reached size (ledgerOf t) → Reached size (ledgerOf (takenAfter size t cs))
-unfolding takenAfter
-reach-after size t [] r = r
-reach-after size t (c ∷ cs) r = reach-after size (joined (refusal false size (ledgerOf t) c) t c) cs (go (refusal false size (ledgerOf t) c) refl)
-  where
-    go : (o : Option ℕ) → refusal false size (ledgerOf t) c ≡ o → Reached size (ledgerOf (joined o t c))
-    go none e = subst (Reached size) (sym (ledgerOf-snoc t c)) (step size (ledgerOf t) c r e)
-    go (some n) e = r
-
 pub reached : Reached·theorem
 unfolding taken
-reached size cs = reach-after size [] cs (start size)
+reached size cs =
+    taken-ind size (λ t. Reached size (ledgerOf t)) (λ t c r e. rw ledgerOf-snoc (step size (ledgerOf t) c r e)) [] cs (start size)

@@ -6,7 +6,7 @@ use mathlib.Core.Option.{Option, none}
 use Prim.Native.Nat.{ℕ, _+_, _≤_, _<_}
 use native.Mathlib.Omega.{arith}
 use borrow.Author.Tests.{le-ltb, lt-leb}
-use lib.Dec.{T, eqb, leb, ltb, leb→le, ltb→lt}
+use lib.Dec.{T, eqb, ltb, leb→le, ltb→lt}
 use lib.IntN.{ℤ}
 use lib.ListN.{length, length-append}
 use lib.Seq.{append-snoc}
@@ -22,10 +22,10 @@ use Rattle.commands.specs.declared.entries.Instruction.{Instruction}
 use Rattle.commands.specs.declared.entries.Default.{Default}
 use Rattle.commands.specs.declared.entries.Command.{Command}
 use Rattle.commands.specs.declared.entries.Command.the-variants.{Contract as contractᶜ, Window as windowᶜ, Instruction as instructionᶜ, Default as defaultᶜ}
-use Rattle.commands.proofs.Chain.{apart, not-on}
+use Rattle.commands.proofs.Chain.{chain, apart, not-on}
 use Rattle.rules.proofs.Taken.{grown, ledgerOf-snoc}
 use Rattle.rules.proofs.Span.{span-same, cells-same, cells-new}
-use Rattle.rules.proofs.Tables.{lastEnd, last-end, ready, ready-recovered}
+use Rattle.rules.proofs.Tables.{windowTests, instructionTests, lastOf, last-of, last-snoc, lastEnd, ready, ready-recovered}
 
 -- ---- commands that are all taken
 
@@ -100,17 +100,6 @@ held k ws is ds z f = record { contracts = k ∷ []; windows = ws; instructions 
 abbrev pub unread : ℕ → Option ℤ
 unread m = none
 
--- the end of the last window, and when the next instruction may be issued, with one entry more
-last-added : (e : ℕ) (ws : List Window) (w : Window) → lastEnd e (ws ++ (w ∷ [])) ≡ w .end .0
-unfolding lastEnd
-last-added e [] w = refl
-last-added e (x ∷ ws) w = last-added (x .end .0) ws w
-
-ready-added : (k : Contract) (e : ℕ) (is : List Instruction) (i : Instruction) → ready k e (is ++ (i ∷ [])) ≡ endOf k i + k .recovery .0
-unfolding ready
-ready-added k e [] i = refl
-ready-added k e (x ∷ is) i = ready-added k (endOf k x + k .recovery .0) is i
-
 -- a contract alone
 abbrev pub agreedOn : Contract → Ledger
 agreedOn k = held k [] [] [] false unread
@@ -148,14 +137,9 @@ module _ (size : ℕ) (k : Contract) (span : ℕ) (spans : spanIn (agreedOn k) �
   unfolding refusal conditions lowest contractOf first isEmpty windowsSound
   window-taken ws w rest t l =
       let rejected : Bool = eqb (k .service) 0 && eqb (w .verdict) 1 in
-      let p = apart (inRange (windowᶜ w))
-      (not (badWindow (windowᶜ w))
-      ∷ leb (w .end .0) span
-      ∷ not rejected
-      ∷ leb (lastEnd 0 ws) (w .start .0)
-      ∷ windowsSound k span (w .end .0) rest
-      ∷ [])
-      t in (
+      let tests : List Bool = windowTests k span (lastEnd 0 ws) w in
+      let q = T-and (chain (inRange (windowᶜ w)) tests) (windowsSound k span (w .end .0) rest) t in
+      let p = apart (inRange (windowᶜ w)) tests (q .0) in (
         rw (
           of-T (inRange (windowᶜ w)) (p .0),
           not-on (badWindow (windowᶜ w)) (p .1 .0),
@@ -163,17 +147,17 @@ module _ (size : ℕ) (k : Contract) (span : ℕ) (spans : spanIn (agreedOn k) �
           span-held ws [] [],
           le-ltb span (w .end .0) (leb→le (w .end .0) span (p .1 .1 .0)),
           not-on rejected (p .1 .1 .1 .0),
-          last-end (record { start = record { 0 = 0 }; end = record { 0 = 0 }; verdict = 0 }) ws,
+          ← last-of (λ (w : Window). w .end .0) (record { start = record { 0 = 0 }; end = record { 0 = 0 }; verdict = 0 }) ws,
           le-ltb (w .start .0) (lastEnd 0 ws) (leb→le (lastEnd 0 ws) (w .start .0) (p .1 .1 .1 .1 .0)),
           lt-leb 128 (length ws) l,
         ),
-        subst (λ e. T (windowsSound k span e rest)) (sym (last-added 0 ws w)) (p .1 .1 .1 .1 .1 .0),
+        subst (λ e. T (windowsSound k span e rest)) (sym (last-snoc (λ (w : Window). w .end .0) 0 ws w)) (q .1),
       )
 
   -- all windows
   pub windows-replay : (ws : List Window) → T (windowsSound k span 0 ws) → length ws ≤ 128
       → Replays size (held k [] [] [] false unread) (map windowᶜ ws) (held k ws [] [] false unread)
-  unfolding lastEnd later
+  unfolding lastOf later
   windows-replay ws t l =
       table-replay size 128 windowᶜ (λ ws. held k ws [] [] false unread) (λ ws rest. T (windowsSound k span (lastEnd 0 ws) rest)) (λ ws w. refl) window-taken
       [] ws t (omega arith)
@@ -184,13 +168,9 @@ module _ (size : ℕ) (k : Contract) (span : ℕ) (spans : spanIn (agreedOn k) �
       → (refusal false size (held k ws is [] false unread) (instructionᶜ i) ≡ none) × T (instructionsSound k span (ready k 0 (is ++ (i ∷ []))) rest)
   unfolding refusal conditions lowest contractOf first isEmpty instructionsSound
   instruction-taken ws is i rest t l =
-      let p = apart (inRange (instructionᶜ i))
-      (leb (endOf k i) span
-      ∷ leb (expiry k i) (i .cease .0)
-      ∷ leb (ready k 0 is) (i .issue .0)
-      ∷ instructionsSound k span (endOf k i + k .recovery .0) rest
-      ∷ [])
-      t in (
+      let tests : List Bool = instructionTests k span (ready k 0 is) i in
+      let q = T-and (chain (inRange (instructionᶜ i)) tests) (instructionsSound k span (endOf k i + k .recovery .0) rest) t in
+      let p = apart (inRange (instructionᶜ i)) tests (q .0) in (
         rw (
           of-T (inRange (instructionᶜ i)) (p .0),
           cells-held ws is [],
@@ -201,13 +181,13 @@ module _ (size : ℕ) (k : Contract) (span : ℕ) (spans : spanIn (agreedOn k) �
           le-ltb (i .issue .0) (ready k 0 is) (leb→le (ready k 0 is) (i .issue .0) (p .1 .1 .1 .0)),
           lt-leb 64 (length is) l,
         ),
-        subst (λ e. T (instructionsSound k span e rest)) (sym (ready-added k 0 is i)) (p .1 .1 .1 .1 .0),
+        subst (λ e. T (instructionsSound k span e rest)) (sym (last-snoc (λ (i : Instruction). endOf k i + k .recovery .0) 0 is i)) (q .1),
       )
 
   -- all instructions
   pub instructions-replay : (ws : List Window) (is : List Instruction) → T (instructionsSound k span 0 is) → length is ≤ 64
       → Replays size (held k ws [] [] false unread) (map instructionᶜ is) (held k ws is [] false unread)
-  unfolding ready later
+  unfolding lastOf later
   instructions-replay ws is t l =
       table-replay size 64 instructionᶜ (λ is. held k ws is [] false unread) (λ is rest. T (instructionsSound k span (ready k 0 is) rest))
       (λ is i j. held k (append-nil ws j) (is ++ (i ∷ [])) [] false unread) (instruction-taken ws)

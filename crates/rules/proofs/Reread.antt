@@ -10,7 +10,7 @@ use lib.IntN.{ℤ, pos, negsuc, natAbs}
 use lib.Dec.{T, eqb, leb, ltb, leb→le, le→leb}
 use lib.ListN.{length, drop, getD, length-append}
 use lib.Seq.{getD-append-seam, drop-append-add}
-use lib.Signed.{leZ}
+use lib.Signed.{leZ-yes, yes-nonNeg, pos-natAbs}
 use borrow.Author.Tests.{lt-ltb, le-ltb, le-leb, lt-leb}
 use Rattle.energy.specs.Lists.{all, concatMap, isSome}
 use Rattle.energy.proofs.Tests.{T-and, and-T}
@@ -39,13 +39,9 @@ signed-back (negsuc n) t =
     let h : n ≤ 2147483647 = leb→le n 2147483647 (T-and (leb n 2147483647) true t .0) in
     rw (le-ltb (unsignedOf (negsuc n)) (2 ^ 31) (omega arith)) (ap negsuc (omega arith))
 
-kw-back : (z : ℤ) → T (leZ (pos 0) z) → pos (natAbs z) ≡ z
-kw-back (pos n) t = refl
-kw-back (negsuc n) t = absurd t
-
 command-back : (c : Command) → T (signFits c) → commandOf (byteOf c) (operandsOf c) ≡ some c
 unfolding commandOf
-command-back (contractᶜ k) t = rw (kw-back (k .contracted .0) t)
+command-back (contractᶜ k) t = rw (pos-natAbs (k .contracted .0) (yes-nonNeg {z = k .contracted .0} (leZ-yes t)))
 command-back (windowᶜ w) t = refl
 command-back (instructionᶜ i) t = refl
 command-back (defaultᶜ d) t = refl
@@ -136,7 +132,7 @@ module _ (c : Command) (t : T (fitsBytes c)) where
 
 -- ---- a whole file
 
-at-end : (s : List ℕ) (at : ℕ) → length s ≤ at → readAt s at ≡ End
+pub at-end : (s : List ℕ) (at : ℕ) → length s ≤ at → readAt s at ≡ End
 unfolding readAt
 at-end s at h = rw (le-leb (length s) at h)
 

@@ -4,14 +4,13 @@ use mathlib.Core.Bool.{Bool, true, false, cond}
 use mathlib.Core.List.{List, [], _∷_, _++_, append-nil}
 use mathlib.Core.Option.{Option, none, some}
 use Prim.Native.Nat.{ℕ, zero, suc, _+_, _-_, _≤_, _<_}
-use native.Mathlib.Decide.{ℕ-discrete}
 use native.Mathlib.Nat.{le-refl}
 use native.Mathlib.Omega.{arith}
 use borrow.Author.Tests.{lt-ltb, le-ltb, le-leb, lt-leb, eq-eqb, ne-eqb, ltb-true, ltb-false}
 use lib.Dec.{T, eqb, ltb}
 use lib.IntN.{ℤ}
 use Rattle.energy.specs.Lists.{all, any, between, concatMap, first, isEmpty, isSome, later, run}
-use Rattle.energy.proofs.Tests.{and-T, of-T}
+use Rattle.energy.proofs.Tests.{and-T, of-T, either, either-eq}
 use Rattle.commands.specs.Input.{isReading, lowest, mostMinute}
 use Rattle.rules.specs.Ledger.{Ledger, ledgerOf, contractOf, spanIn, cellsIn, readingOf}
 use Rattle.rules.specs.Refusal.{conditions, refusal, taken}
@@ -40,12 +39,12 @@ before f a m = cond (ltb m a) (f m) none
 -- with the reading of minute a, those before the next minute
 with-next : (f : ℕ → Option ℤ) (a : ℕ) (o : Option ℤ) → f a ≡ o → (m : ℕ) → later (before f a m) (cond (eqb a m) o none) ≡ before f (suc a) m
 unfolding later
-with-next f a o h m = go (ltb m a) refl (ℕ-discrete a m)
-  where
-    go : (b : Bool) → ltb m a ≡ b → Dec (a ≡ m) → later (cond b (f m) none) (cond (eqb a m) o none) ≡ before f (suc a) m
-    go true e d = let l : m < a = ltb-true m a e in rw (ne-eqb a m (λ q. omega arith), lt-ltb m (suc a) (omega arith))
-    go false e (yes q) = rw (eq-eqb a m q, lt-ltb m (suc a) (omega arith)) (later-none o ∙ sym h ∙ ap f q)
-    go false e (no q) = let l : a ≤ m = ltb-false m a e in rw (ne-eqb a m q, le-ltb m (suc a) (omega (arith, q)))
+with-next f a o h m =
+    either (ltb m a) (λ e. let l = ltb-true m a e in rw (e, ne-eqb a m (λ q. omega arith), lt-ltb m (suc a) (omega arith)))
+    (λ e.
+    let l = ltb-false m a e in
+    either-eq a m (λ q. rw (e, eq-eqb a m q, lt-ltb m (suc a) (omega arith)) (later-none o ∙ sym h ∙ ap f q))
+    (λ q. rw (e, ne-eqb a m q, le-ltb m (suc a) (omega arith))))
 
 -- no reading adds nothing
 with-none : (o : Option ℤ) (b : Bool) → o ≡ later o (cond b none none)
@@ -129,15 +128,7 @@ module _ {size : ℕ} {g : Ledger} (a : Agreed size g) where
 
   -- g is its contract and tables, its close and its readings
   whole : tablesOf g (g .closed) (g .reading) ≡ g
-  whole j =
-      record {
-        contracts = sym (a .contract) j;
-        windows = g .windows;
-        instructions = g .instructions;
-        defaults = g .defaults;
-        closed = g .closed;
-        reading = g .reading;
-      }
+  whole = rw (← a .contract)
 
   -- all that it is written as
   agreed-replay : Replays size (ledgerOf []) (written g) g

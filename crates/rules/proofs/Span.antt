@@ -18,10 +18,6 @@ unfolding spanIn cellsIn
 span-cells g = omega arith
 
 -- under a contract that could be taken
-pub span-some : (g : Ledger) → Terms (contractOf g) → 1 ≤ spanIn g
-unfolding spanIn
-span-some g t = omega (arith, t .ranges .days)
-
 pub cells-most : (g : Ledger) → Terms (contractOf g) → cellsIn g ≤ mostMinute
 unfolding cellsIn
 cells-most g t = omega (arith, t .ranges .days)

@@ -1,12 +1,12 @@
 -- Tables of windows and instructions that could be entered: what they say of each entry, and one entry more.
 use mathlib.Core.Path.{_≡_, refl}
-use mathlib.Core.Bool.{Bool, true, false, not, _&&_, _||_}
+use mathlib.Core.Bool.{Bool, false, not, _&&_, _||_}
 use mathlib.Core.List.{List, [], _∷_, _++_}
 use Prim.Native.Nat.{ℕ, _+_, _%_, _≤_, _<_}
-use lib.Dec.{T, eqb, leb, ltb, leb→le, le→leb, eqb→eq}
-use borrow.Author.Tests.{leb-false, ltb-false}
+use lib.Dec.{T, eqb, leb, ltb, leb→le, eqb→eq}
+use borrow.Author.Tests.{leb-false, ltb-false, le-leb}
 use Rattle.energy.specs.Lists.{all, any, last}
-use Rattle.energy.proofs.Tests.{T-and, and-T, off-T, off-not, off-or, all-mono, any-snoc}
+use Rattle.energy.proofs.Tests.{T-and, and-T, of-T, off-not, off-or, all-mono, or-T, any-snoc}
 use Rattle.commands.specs.Input.{from-to, inRange, badWindow, mostMinute}
 use Rattle.rules.specs.Ledger.{expiry, endOf, within}
 use Rattle.rules.specs.Refusal.{recovered}
@@ -16,13 +16,40 @@ use Rattle.commands.specs.declared.entries.Window.{Window}
 use Rattle.commands.specs.declared.entries.Instruction.{Instruction}
 use Rattle.commands.specs.declared.entries.Default.{Default}
 use Rattle.commands.specs.declared.entries.Command.the-variants.{Window as windowᶜ, Instruction as instructionᶜ, Default as defaultᶜ}
-use Rattle.commands.proofs.Chain.{chain, apart, together, not-on}
+use Rattle.commands.proofs.Chain.{chain, apart, not-on}
 use Rattle.commands.proofs.Terms.{bounds}
+
+-- ---- tables in which each entry goes by the one before it
+
+-- what f gives of the last entry, e where there is none
+unfoldable pub lastOf : {A : Type 0} → (A → ℕ) → ℕ → List A → ℕ
+lastOf f e [] = e
+lastOf f e (x ∷ xs) = lastOf f (f x) xs
+
+module _ {A : Type 0} (f : A → ℕ) where
+  pub last-of : (d : A) (xs : List A) → lastOf f (f d) xs ≡ f (last d xs)
+  unfolding last lastOf
+  last-of d [] = refl
+  last-of d (x ∷ xs) = last-of x xs
+
+  pub last-snoc : (e : ℕ) (xs : List A) (x : A) → lastOf f e (xs ++ (x ∷ [])) ≡ f x
+  unfolding lastOf
+  last-snoc e [] x = refl
+  last-snoc e (y ∷ xs) x = last-snoc (f y) xs x
+
+  -- one entry more, after the last
+  sound-snoc : (test : ℕ → A → Bool) (sound : ℕ → List A → Bool) → ((e : ℕ) (x : A) (xs : List A) → sound e (x ∷ xs) ≡ (test e x && sound (f x) xs))
+      → (e : ℕ) (xs : List A) (x : A) → T (sound e xs) → T (sound (lastOf f e xs) (x ∷ [])) → T (sound e (xs ++ (x ∷ [])))
+  unfolding lastOf
+  sound-snoc test sound cons e [] x t s = s
+  sound-snoc test sound cons e (y ∷ xs) x t s =
+      let q = T-and (test e y) (sound (f y) xs) (rw cons at t) in
+      rw cons (and-T (test e y) (sound (f y) (xs ++ (x ∷ []))) (q .0) (sound-snoc test sound cons (f y) xs x (q .1) s))
 
 -- ---- windows
 
 -- the tests of one window after minute e
-abbrev windowTests : Contract → ℕ → ℕ → Window → List Bool
+abbrev pub windowTests : Contract → ℕ → ℕ → Window → List Bool
 windowTests k span e w =
     not (badWindow (windowᶜ w))
     ∷ leb (w .end .0) span
@@ -62,47 +89,29 @@ windows-cons k span e w ws t =
     )
 
 -- the end of the last window, e where there is none
-unfoldable pub lastEnd : ℕ → List Window → ℕ
-lastEnd e [] = e
-lastEnd e (w ∷ ws) = lastEnd (w .end .0) ws
-
-pub last-end : (d : Window) (ws : List Window) → last d ws .end .0 ≡ lastEnd (d .end .0) ws
-unfolding last lastEnd
-last-end d [] = refl
-last-end d (w ∷ ws) = last-end w ws
+abbrev pub lastEnd : ℕ → List Window → ℕ
+lastEnd = lastOf (λ (w : Window). w .end .0)
 
 -- one window, by the conditions that do not turn it down
 pub one-window : (k : Contract) (span e : ℕ) (w : Window) → T (inRange (windowᶜ w)) → badWindow (windowᶜ w) ≡ false → ltb span (w .end .0) ≡ false
     → (eqb (k .service) 0 && eqb (w .verdict) 1) ≡ false → ltb (w .start .0) e ≡ false → T (windowsSound k span e (w ∷ []))
 unfolding windowsSound
 one-window k span e w operands shape inside verdict after =
-    and-T (chain (inRange (windowᶜ w)) (windowTests k span e w)) true
-    (together (inRange (windowᶜ w)) (windowTests k span e w) operands (
-      off-T (badWindow (windowᶜ w)) shape,
-      (
-        le→leb (w .end .0) span (ltb-false span (w .end .0) inside),
-        (
-          off-T (eqb (k .service) 0 && eqb (w .verdict) 1) verdict,
-          (le→leb e (w .start .0) (ltb-false (w .start .0) e after), tt),
-        ),
-      ),
-    ))
-    tt
+    let ends : w .end .0 ≤ span = ltb-false span (w .end .0) inside in
+    let starts : e ≤ w .start .0 = ltb-false (w .start .0) e after in
+    rw (of-T (inRange (windowᶜ w)) operands, shape, le-leb (w .end .0) span ends, verdict, le-leb e (w .start .0) starts) tt
 
 -- one window more, after the last
 pub windows-snoc : (k : Contract) (span e : ℕ) (ws : List Window) (w : Window) → T (windowsSound k span e ws) → T (windowsSound k span (lastEnd e ws) (w ∷ []))
     → T (windowsSound k span e (ws ++ (w ∷ [])))
-unfolding windowsSound lastEnd
-windows-snoc k span e [] w t s = s
-windows-snoc k span e (x ∷ ws) w t s =
-    let here : Bool = chain (inRange (windowᶜ x)) (windowTests k span e x) in
-    let q = T-and here (windowsSound k span (x .end .0) ws) t in
-    and-T here (windowsSound k span (x .end .0) (ws ++ (w ∷ []))) (q .0) (windows-snoc k span (x .end .0) ws w (q .1) s)
+unfolding windowsSound
+windows-snoc k span =
+    sound-snoc (λ (w : Window). w .end .0) (λ e w. chain (inRange (windowᶜ w)) (windowTests k span e w)) (windowsSound k span) (λ e w ws. refl)
 
 -- ---- instructions
 
 -- the tests of one instruction after minute e
-abbrev instructionTests : Contract → ℕ → ℕ → Instruction → List Bool
+abbrev pub instructionTests : Contract → ℕ → ℕ → Instruction → List Bool
 instructionTests k span e i = leb (endOf k i) span ∷ leb (expiry k i) (i .cease .0) ∷ leb e (i .issue .0) ∷ []
 
 -- what they come to
@@ -132,45 +141,32 @@ instructions-cons k span e i is t =
     )
 
 -- when an instruction may be issued after those before it
-unfoldable pub ready : Contract → ℕ → List Instruction → ℕ
-ready k e [] = e
-ready k e (i ∷ is) = ready k (endOf k i + k .recovery .0) is
-
-ready-last : (k : Contract) (i : Instruction) (is : List Instruction) → ready k (endOf k i + k .recovery .0) is ≡ endOf k (last i is) + k .recovery .0
-unfolding ready last
-ready-last k i [] = refl
-ready-last k i (x ∷ is) = ready-last k x is
+abbrev pub ready : Contract → ℕ → List Instruction → ℕ
+ready k = lastOf (λ (i : Instruction). endOf k i + k .recovery .0)
 
 pub ready-recovered : (k : Contract) (is : List Instruction) → ready k 0 is ≡ recovered k is
-unfolding ready
+unfolding lastOf
 ready-recovered k [] = refl
-ready-recovered k (i ∷ is) = ready-last k i is
+ready-recovered k (i ∷ is) = last-of (λ (i : Instruction). endOf k i + k .recovery .0) i is
 
 -- one instruction, by the conditions that do not turn it down
 pub one-instruction : (k : Contract) (span e : ℕ) (i : Instruction) → T (inRange (instructionᶜ i)) → ltb span (endOf k i) ≡ false
     → ltb (i .cease .0) (expiry k i) ≡ false → ltb (i .issue .0) e ≡ false → T (instructionsSound k span e (i ∷ []))
 unfolding instructionsSound
 one-instruction k span e i operands inside ceased after =
-    and-T (chain (inRange (instructionᶜ i)) (instructionTests k span e i)) true
-    (together (inRange (instructionᶜ i)) (instructionTests k span e i) operands (
-      le→leb (endOf k i) span (ltb-false span (endOf k i) inside),
-      (
-        le→leb (expiry k i) (i .cease .0) (ltb-false (i .cease .0) (expiry k i) ceased),
-        (le→leb e (i .issue .0) (ltb-false (i .issue .0) e after), tt),
-      ),
-    ))
-    tt
+    let ends : endOf k i ≤ span = ltb-false span (endOf k i) inside in
+    let expires : expiry k i ≤ i .cease .0 = ltb-false (i .cease .0) (expiry k i) ceased in
+    let issued : e ≤ i .issue .0 = ltb-false (i .issue .0) e after in
+    let o = of-T (inRange (instructionᶜ i)) operands in
+    rw (o, le-leb (endOf k i) span ends, le-leb (expiry k i) (i .cease .0) expires, le-leb e (i .issue .0) issued) tt
 
 -- one instruction more, after the last
 pub instructions-snoc : (k : Contract) (span e : ℕ) (is : List Instruction) (i : Instruction) → T (instructionsSound k span e is)
     → T (instructionsSound k span (ready k e is) (i ∷ [])) → T (instructionsSound k span e (is ++ (i ∷ [])))
-unfolding instructionsSound ready
-instructions-snoc k span e [] i t s = s
-instructions-snoc k span e (x ∷ is) i t s =
-    let here : Bool = chain (inRange (instructionᶜ x)) (instructionTests k span e x) in
-    let q = T-and here (instructionsSound k span (endOf k x + k .recovery .0) is) t in
-    and-T here (instructionsSound k span (endOf k x + k .recovery .0) (is ++ (i ∷ []))) (q .0)
-    (instructions-snoc k span (endOf k x + k .recovery .0) is i (q .1) s)
+unfolding instructionsSound
+instructions-snoc k span =
+    sound-snoc (λ (i : Instruction). endOf k i + k .recovery .0) (λ e i. chain (inRange (instructionᶜ i)) (instructionTests k span e i))
+    (instructionsSound k span) (λ e i is. refl)
 
 -- ---- defaults
 
@@ -183,4 +179,5 @@ defaults-more k span ws w ds t = all-mono (defaultSound k span ws) (defaultSound
     one d q =
         let a : Bool = inRange (defaultᶜ d) && ltb (d .minute .0) span in
         let r = T-and a (any (λ w. within w (d .minute .0)) ws) q in
-        and-T a (any (λ w. within w (d .minute .0)) (ws ++ (w ∷ []))) (r .0) (any-snoc (λ w. within w (d .minute .0)) ws w (r .1))
+        and-T a (any (λ w. within w (d .minute .0)) (ws ++ (w ∷ []))) (r .0)
+        (rw any-snoc (or-T (any (λ w. within w (d .minute .0)) ws) (within w (d .minute .0)) (r .1)))

@@ -1,16 +1,16 @@
 -- What one command more adds to a ledger, and what is known of a command that no condition turns down.
 use mathlib.Core.Path.{_≡_, refl, sym, ap, _∙_}
-use mathlib.Core.Bool.{Bool, true, false, not, _&&_, _||_, or-false, or-assoc}
+use mathlib.Core.Bool.{Bool, true, false, not, _&&_, _||_}
 use mathlib.Core.List.{List, [], _∷_, _++_, append-nil, append-assoc}
 use mathlib.Core.Option.{Option, none, some, Option·none-ne-some}
 use Prim.Native.Nat.{ℕ}
 use lib.Dec.{T, ltb}
-use Rattle.energy.specs.Lists.{any, concatMap, isEmpty, later}
-use Rattle.energy.proofs.Tests.{off-not}
+use Rattle.energy.specs.Lists.{concatMap, isEmpty, later}
+use Rattle.energy.proofs.Tests.{off-not, any-snoc, either}
 use Rattle.commands.specs.Input.{Condition, lowest, inRange, rampTooLong, badWindow, inputConditions}
 use Rattle.rules.specs.Ledger.{Ledger, ledgerOf, contractIn, windowIn, instructionIn, defaultIn, isClose, isContract, readingIn, readingOf}
-use Rattle.rules.specs.Refusal.{bookConditions, kindConditions, conditions, refusal, cellsFor, beyondSpan, rejectedCommitted, windowOverlaps}
-use Rattle.rules.specs.Refusal.{ceaseEarly, issueEarly, outsideWindows, hasReading, tableFull}
+use Rattle.rules.specs.Refusal.{bookConditions, kindConditions, conditions, refusal, joined, takenAfter, cellsFor, beyondSpan}
+use Rattle.rules.specs.Refusal.{rejectedCommitted, windowOverlaps, ceaseEarly, issueEarly, outsideWindows, hasReading, tableFull}
 use Rattle.commands.specs.declared.entries.Command.{Command}
 
 -- ---- the ledger of one command more
@@ -32,14 +32,9 @@ unfolding concatMap
 concatMap-append f [] t = refl
 concatMap-append f (x ∷ s) t = ap (λ r. f x ++ r) (concatMap-append f s t) ∙ sym (append-assoc (f x) (concatMap f s) (concatMap f t))
 
-concatMap-snoc : {B : Type 0} (f : Command → List B) (t : List Command) (c : Command) → concatMap f (t ++ (c ∷ [])) ≡ concatMap f t ++ f c
+pub concatMap-snoc : {A B : Type 0} (f : A → List B) (t : List A) (c : A) → concatMap f (t ++ (c ∷ [])) ≡ concatMap f t ++ f c
 unfolding concatMap
 concatMap-snoc f t c = concatMap-append f t (c ∷ []) ∙ ap (λ r. concatMap f t ++ r) (append-nil (f c))
-
-any-last : {A : Type 0} (f : A → Bool) (s : List A) (a : A) → any f (s ++ (a ∷ [])) ≡ (any f s || f a)
-unfolding any
-any-last f [] a = or-false (f a)
-any-last f (x ∷ s) a = ap (λ b. f x || b) (any-last f s a) ∙ sym (or-assoc (f x) (any f s) (f a))
 
 pub later-assoc : {A : Type 0} (a b c : Option A) → later (later a b) c ≡ later a (later b c)
 unfolding later
@@ -64,7 +59,7 @@ ledgerOf-snoc t c i =
       windows = concatMap-snoc windowIn t c i;
       instructions = concatMap-snoc instructionIn t c i;
       defaults = concatMap-snoc defaultIn t c i;
-      closed = any-last isClose t c i;
+      closed = any-snoc isClose t c i;
       reading = λ m. readingOf-snoc t c m i;
     }
 
@@ -74,14 +69,20 @@ abbrev pub Clear : List Condition → Type 0
 Clear [] = Unit {0}
 Clear (c ∷ cs) = (c .holds ≡ false) × Clear cs
 
+-- the first gives its number where it holds, and else the others decide
+module _ (c : Condition) (cs : List Condition) where
+  pub at-first : c .holds ≡ true → lowest (c ∷ cs) ≡ some (c .number)
+  unfolding lowest
+  at-first h = ap (λ b. elim b as (λ x. Option ℕ) [ true ↦ some (c .number) | false ↦ lowest cs ]) h
+
+  pub past-first : c .holds ≡ false → lowest (c ∷ cs) ≡ lowest cs
+  unfolding lowest
+  past-first h = ap (λ b. elim b as (λ x. Option ℕ) [ true ↦ some (c .number) | false ↦ lowest cs ]) h
+
 pub clear : (cs : List Condition) → lowest cs ≡ none → Clear cs
-unfolding lowest
 clear [] e = tt
-clear (c ∷ cs) e = go (λ h. clear cs h) (c .holds) refl
-  where
-    go : (lowest cs ≡ none → Clear cs) → (b : Bool) → c .holds ≡ b → (c .holds ≡ false) × Clear cs
-    go rest true h = absurd (Option·none-ne-some (c .number) (sym e ∙ ap (λ b. elim b as (λ x. Option ℕ) [ true ↦ some (c .number) | false ↦ lowest cs ]) h))
-    go rest false h = (h, rest (ap (λ b. elim b as (λ x. Option ℕ) [ true ↦ some (c .number) | false ↦ lowest cs ]) (sym h) ∙ e))
+clear (c ∷ cs) e =
+    either (c .holds) (λ h. absurd (Option·none-ne-some (c .number) (sym e ∙ at-first c cs h))) (λ h. (h, clear cs (sym (past-first c cs h) ∙ e)))
 
 -- of two lists none holds: of each none does
 pub clear-apart : (xs ys : List Condition) → Clear (xs ++ ys) → Clear xs × Clear ys
@@ -148,3 +149,19 @@ allowed size g c e =
     let first = clear-apart (inputConditions c) (book ++ kindConditions g c) (clear (conditions false size g c) e) in
     let rest = clear-apart book (kindConditions g c) (first .1) in
     record { input = input-allowed c (first .0); book = book-allowed false size g c (rest .0); kind = kind-allowed g c (rest .1) }
+
+-- ---- any list of commands
+
+-- what holds of the commands taken so far, and with one more that is taken, holds of those of any list
+pub taken-ind : (size : ℕ) (P : List Command → Type 0)
+    → ((t : List Command) (c : Command) → P t → refusal false size (ledgerOf t) c ≡ none → P (t ++ (c ∷ [])))
+    → (t cs : List Command) → P t → P (takenAfter size t cs)
+unfolding takenAfter
+taken-ind size P more t [] p = p
+taken-ind size P more t (c ∷ cs) p =
+    let r = refusal false size (ledgerOf t) c in
+    taken-ind size P more (joined r t c) cs (go r refl)
+  where
+    go : (o : Option ℕ) → refusal false size (ledgerOf t) c ≡ o → P (joined o t c)
+    go none e = more t c p e
+    go (some n) e = p

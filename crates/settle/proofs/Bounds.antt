@@ -1,17 +1,16 @@
 -- How large a line's energy and money can be.
-use mathlib.Core.Path.{subst}
+use mathlib.Core.Logic.{⊎-elim}
 use mathlib.Core.Bool.{Bool, true, false, cond}
 use mathlib.Core.List.{List}
-use Prim.Native.Nat.{ℕ, _+_, _-_, _*_, _/_, _≤_, _<_}
+use Prim.Native.Nat.{ℕ, _-_, _≤_}
 use native.Mathlib.Nat.{mul-le-mul}
 use native.Mathlib.Omega.{arith}
 use lib.Dec.{eqb, lit<}
-use lib.IntN.{ℤ, pos, natAbs, _+ℤ_, _-ℤ_, _*ℤ_}
-use lib.Signed.{leZ}
+use lib.IntN.{ℤ, pos, natAbs, _-ℤ_, _*ℤ_}
 use Rattle.energy.specs.Energy.{cell, delivers, kwh, capped, expectedIn, deliveredIn}
-use Rattle.energy.specs.Number.{nearest, lesser, Within}
+use Rattle.energy.specs.Number.{lesser, Within}
 use Rattle.energy.proofs.Integers.{diff-parts, mul-parts}
-use Rattle.energy.proofs.Rounding.{raised, half-up}
+use Rattle.energy.proofs.Rounding.{lesser-cases, nearest-bound}
 use Rattle.energy.proofs.Sums.{sum-within}
 use Rattle.rules.specs.declared.statement.Line.{Line}
 use Rattle.rules.specs.declared.statement.Rate.{Rate}
@@ -21,20 +20,8 @@ use Rattle.settle_lines.specs.declared.cursor.Cursor.{Cursor}
 use Rattle.settle_lines.specs.Cursor.{rateBy, priceBy, steadyAt, lineBy, cutBy, Plan, Ready}
 use Rattle.settle_lines.proofs.Step.{next}
 
--- a quotient is within K where the dividend is within d * K
-nearest-bound : (n : ℤ) (d K : ℕ) → 0 < d → Within (d * K) n → Within K (nearest n d)
-nearest-bound n d K h w =
-    let a : ℕ = natAbs (n +ℤ pos (d * K)) in
-    let l = raised n d K h w .lowered ((a + d / 2) / d) (half-up a d h) in
-    subst (λ z. Within K z) (l .value) (l .within)
-
 lesser-within : (b : ℕ) (x y : ℤ) → Within b x → Within b y → Within b (lesser x y)
-unfolding lesser
-lesser-within b x y h k = go (leZ x y)
-  where
-    go : (t : Bool) → Within b (cond t x y)
-    go true = h
-    go false = k
+lesser-within b x y h k = ⊎-elim (λ e. rw (e .0) h) (λ e. rw (e .0) k) (lesser-cases x y)
 
 expected-within : (kw n : ℕ) (steady : Bool) → kw ≤ 500000 → n ≤ 30 → Within 120000000 (pos (expectedIn kw steady n))
 unfolding expectedIn
@@ -42,11 +29,11 @@ expected-within kw n true h l = omega (arith, mul-le-mul l h)
 expected-within kw n false h l = omega (arith, mul-le-mul l h)
 
 delivers-within : (kind : ℕ) (S x : ℤ) → Within 2000000 S → Within 500000 x → Within 4000000 (delivers kind S x)
-delivers-within kind S x h k = go (eqb kind 0)
-  where
-    go : (t : Bool) → Within 4000000 (cond t (pos 4 *ℤ x -ℤ S) (S -ℤ pos 4 *ℤ x))
-    go true = omega (arith, mul-parts (pos 4) x, diff-parts (pos 4 *ℤ x) S)
-    go false = omega (arith, mul-parts (pos 4) x, diff-parts S (pos 4 *ℤ x))
+delivers-within kind S x h k =
+    elim (eqb kind 0) as (λ t. Within 4000000 (cond t (pos 4 *ℤ x -ℤ S) (S -ℤ pos 4 *ℤ x))) [
+      | true ↦ omega (arith, mul-parts (pos 4) x, diff-parts (pos 4 *ℤ x) S)
+      | false ↦ omega (arith, mul-parts (pos 4) x, diff-parts S (pos 4 *ℤ x))
+    ]
 
 price-within : (t : Terms) (r : Rate) → t .utilisation ≤ 1000000 → t .optional ≤ 1000000 → priceBy t r ≤ 1000000
 price-within t Utilisation h k = h
@@ -57,24 +44,20 @@ pub record Bounded (l : Line) : Type 0 where
   pub capped : Within 500000 (l .capped .0)
   pub pence : Within 500000000 (l .pence .0)
 
-pub bounded : (t : Terms) (times live : List ℕ) (meter : List ℤ) (c : Cursor) → Plan t times live meter → Ready t times live meter c
+pub bounded : {t : Terms} {times live : List ℕ} {meter : List ℤ} {c : Cursor} → Plan t times live meter → Ready t times live meter c
     → Bounded (lineBy t (c .active) live meter (c .at) (c .minute .0) (cutBy c))
 unfolding lineBy deliveredIn
-bounded t times live meter c p r =
-    let n = next t times live meter c p r in
-    let E : ℤ = pos (expectedIn (natAbs (t .kw .0)) (steadyAt (c .active .expiry .0) (c .active .cease .0) (c .minute .0)) (cutBy c - c .minute .0)) in
+bounded {t} {times} {live} {meter} {c} p r =
+    let n = next p r in
+    let steady : Bool = steadyAt (c .active .expiry .0) (c .active .cease .0) (c .minute .0) in
+    let E : ℤ = pos (expectedIn (natAbs (t .kw .0)) steady (cutBy c - c .minute .0)) in
     let D : ℤ = deliveredIn (t .kind) (c .active .base) meter (c .minute .0) (cutBy c) in
     let R : Rate = rateBy (c .active) live (c .minute .0) in
-    let x : Within 500000 (kwh E) = nearest-bound E 240 500000 (lit< tt)
-    (omega (
-      arith,
-      expected-within (natAbs (t .kw .0)) (cutBy c - c .minute .0) (steadyAt (c .active .expiry .0) (c .active .cease .0) (c .minute .0))
-          (p .kw .0) (omega (arith, n .readable)),
-    )) in
+    let x = expected-within (natAbs (t .kw .0)) (cutBy c - c .minute .0) steady (p .kw .0) (omega (arith, n .readable)) in
     let s = sum-within (λ m. delivers (t .kind) (c .active .base) (cell meter m)) 4000000 (c .minute .0) (cutBy c)
     (λ m a b. delivers-within (t .kind) (c .active .base) (cell meter m) (n .base) (n .readable .read m a b)) in
-    let d : Within 500000 (kwh D) = nearest-bound D 240 500000 (lit< tt) (omega (arith, s, n .readable)) in
-    let l : Within 500000 (capped (kwh E) (kwh D)) = lesser-within 500000 (kwh E) (kwh D) x d in
+    let l : Within 500000 (capped (kwh E) (kwh D)) = lesser-within 500000 (kwh E) (kwh D) (nearest-bound E 240 500000 (lit< tt) x)
+    (nearest-bound D 240 500000 (lit< tt) (omega (arith, s, n .readable))) in
     let z : priceBy t R ≤ 1000000 = price-within t R (p .utilisation) (p .optional) in
     record {
       capped = l;

@@ -1,11 +1,11 @@
 -- The numbers that settling holds are the rules': a line at the cursor is a line of the rules.
 use mathlib.Core.Path.{_≡_, refl, sym, _∙_, ap, ap₂}
-use mathlib.Core.Bool.{Bool, true, false, cond, _&&_, _||_}
+use mathlib.Core.Bool.{Bool, cond, _&&_, _||_, and-true, and-false, or-false, or-self}
 use mathlib.Core.List.{List}
-use Prim.Native.Nat.{ℕ, _+_, _-_, _*_, _≤_, _<_}
+use Prim.Native.Nat.{ℕ, _+_, _-_, _≤_, _<_}
 use native.Mathlib.Omega.{arith}
 use lib.Dec.{leb, ltb}
-use lib.IntN.{ℤ, pos, natAbs, _*ℤ_, pos-*ℤ-pos}
+use lib.IntN.{ℤ, pos, natAbs, pos-*ℤ-pos}
 use borrow.Author.Tests.{le-leb, lt-leb}
 use Rattle.energy.specs.Energy.{cell, steadyQuarters, rampQuarters, delivers, expectedIn, deliveredIn}
 use Rattle.energy.specs.Lists.{sum, between}
@@ -22,14 +22,13 @@ use Rattle.rules.specs.declared.statement.Rate.{Rate}
 use Rattle.rules.specs.declared.statement.Rate.the-variants.{Utilisation, Optional}
 use Rattle.rules.proofs.Cuts.{split, cut, segmentAt, stage-flat}
 use Rattle.rules.specs.Cuts.{stageAt}
-use Rattle.energy.specs.declared.units.Kw.{Kw}
 use Rattle.settle_terms.specs.declared.Terms.{Terms}
 use Rattle.settle_lines.specs.declared.cursor.Active.{Active}
 use Rattle.settle_lines.specs.declared.cursor.Cursor.{Cursor}
-use Rattle.settle_terms.specs.Terms.{issueOf, ceaseOf}
+use Rattle.settle_terms.specs.Terms.{issueOf}
 use Rattle.settle_lines.specs.Cursor.{liveAt, activeOf, rateBy, priceBy, steadyAt, lineBy, cutBy, Planned, Plan, Ready}
 use Rattle.settle_lines.proofs.Step.{Next, next}
-use Rattle.settle.proofs.LedgerTables.{TermsOf, instructionAt}
+use Rattle.settle.proofs.LedgerTables.{TimesOf, TermsOf, instructionAt}
 
 -- the plan of a ledger: each of its numbers is the rules'
 pub record Tied (g : Ledger) (t : Terms) (times live : List ℕ) (meter : List ℤ) : Type 0 where
@@ -43,22 +42,6 @@ pub record Tied (g : Ledger) (t : Terms) (times live : List ℕ) (meter : List �
   pub reading : (m : ℕ) → m < spanIn g → Within 500000 (cell meter m) → reads g m ≡ cell meter m
 
 -- ---- the rate: by the minute itself, or by the ramp's anchor
-or-false : (a : Bool) → (a || false) ≡ a
-or-false true = refl
-or-false false = refl
-
-and-false : (a : Bool) → (a && false) ≡ false
-and-false true = refl
-and-false false = refl
-
-and-true : (a : Bool) → (a && true) ≡ a
-and-true true = refl
-and-true false = refl
-
-or-self : (a : Bool) → (a || a) ≡ a
-or-self true = refl
-or-self false = refl
-
 rate-same : (here early late : Bool) (e c m : ℕ) → e ≤ c → (at : Stage → Bool) → at Up ≡ early → at Steady ≡ here → at Down ≡ late
     → ((here || (early && ltb m e)) || (late && leb c m)) ≡ (here || at (stageAt e c m))
 rate-same here early late e c m o at u s d =
@@ -67,7 +50,8 @@ rate-same here early late e c m o at u s d =
     (λ k l. rw (lt-leb c m l, and-false early, and-false late, or-false here, or-false here, s) (sym (or-self here)))
     (λ k l. rw (le-leb c m l, and-false early, and-true late, or-false here, d) refl)
 
-module _ (g : Ledger) (t : Terms) (times live : List ℕ) (meter : List ℤ) (T : Tied g t times live meter) (c : Cursor) (r : Ready t times live meter c) where
+module _ {g : Ledger} {t : Terms} {times live : List ℕ} {meter : List ℤ} {c : Cursor} (T : Tied g t times live meter)
+    (r : Ready t times live meter c) where
   abbrev k : Contract
   k = contractOf g
 
@@ -75,19 +59,22 @@ module _ (g : Ledger) (t : Terms) (times live : List ℕ) (meter : List ℤ) (T 
   i = instructionAt g (c .at)
 
   abbrev n : Next t times live meter c
-  n = next t times live meter c (T .plan) r
+  n = next (T .plan) r
 
   abbrev q : Planned t times live meter (c .at)
   q = T .plan .each (c .at) (r .more)
 
-  pub expiry-is : c .active .expiry .0 ≡ expiry k i
-  expiry-is = omega (arith, n .expiry, T .terms .issue (c .at) (r .more), T .terms .response)
+  abbrev here : TimesOf g t times (c .at)
+  here = T .terms .each (c .at) (r .more)
 
-  pub cease-is : c .active .cease .0 ≡ i .cease .0
-  cease-is = omega (arith, n .cease, T .terms .cease (c .at) (r .more))
+  expiry-is : c .active .expiry .0 ≡ expiry k i
+  expiry-is = n .expiry ∙ here .expiry
+
+  cease-is : c .active .cease .0 ≡ i .cease .0
+  cease-is = n .cease ∙ here .cease
 
   pub end-is : c .active .end .0 ≡ endOf k i
-  end-is = omega (arith, n .end, T .terms .cease (c .at) (r .more), T .terms .down)
+  end-is = n .end ∙ here .end
 
   pub cut-is : cutBy c ≡ cut k i (c .minute .0)
   cut-is = rw (expiry-is, cease-is, end-is) refl
@@ -99,22 +86,17 @@ module _ (g : Ledger) (t : Terms) (times live : List ℕ) (meter : List ℤ) (T 
   abbrev seg : Segment
   seg = segmentAt k (c .at + 1) i (c .minute .0)
 
-  ordered : c .active .expiry .0 ≤ c .active .cease .0
-  ordered = omega (arith, n .expiry, n .cease, q .steady)
-
   rate-is : rateBy (c .active) live (c .minute .0) ≡ rateAt g i (c .minute .0)
   unfolding rateBy rateAt activeOf
   rate-is =
-      let ee : c .active .early ≡ liveAt live (issueOf times (c .at) + t .response .0) = ap (λ (z : Active). z .early) (r .active) in
-      let el : c .active .late ≡ liveAt live (ceaseOf times (c .at) - 1) = ap (λ (z : Active). z .late) (r .active) in
-      let x : c .active .early ≡ inLive g (expiry k i) = ee ∙ T .periods (issueOf times (c .at) + t .response .0)
-      ∙ ap (inLive g) (sym (n .expiry) ∙ expiry-is) in
-      let y : c .active .late ≡ inLive g (i .cease .0 - 1) = el ∙ T .periods (ceaseOf times (c .at) - 1)
-      ∙ ap (λ z. inLive g (z - 1)) (T .terms .cease (c .at) (r .more)) in
+      let early : c .active .early ≡ inLive g (expiry k i) =
+      ap (λ (z : Active). z .early) (r .active) ∙ T .periods _ ∙ ap (inLive g) (here .expiry) in
+      let late : c .active .late ≡ inLive g (i .cease .0 - 1) =
+      ap (λ (z : Active). z .late) (r .active) ∙ T .periods _ ∙ ap (λ z. inLive g (z - 1)) (here .cease) in
       let h : liveAt live (c .minute .0) ≡ inLive g (c .minute .0) = T .periods (c .minute .0) in
       ap (λ b. cond b Utilisation Optional)
-      (rate-same (liveAt live (c .minute .0)) (c .active .early) (c .active .late) (c .active .expiry .0) (c .active .cease .0) (c .minute .0) ordered
-      (λ s. inLive g (anchor k i s (c .minute .0))) (sym x) (sym h) (sym y)
+      (rate-same (liveAt live (c .minute .0)) (c .active .early) (c .active .late) (c .active .expiry .0) (c .active .cease .0) (c .minute .0)
+      (omega (arith, n .expiry, n .cease, q .steady)) (λ s. inLive g (anchor k i s (c .minute .0))) (sym early) (sym h) (sym late)
       ∙ ap₂ _||_ h (ap (λ s. inLive g (anchor k i s (c .minute .0))) (stage-is (c .minute .0))))
 
   price-is : (p : Rate) → priceBy t p ≡ price k p
@@ -132,9 +114,9 @@ module _ (g : Ledger) (t : Terms) (times live : List ℕ) (meter : List ℤ) (T 
   expects-is m =
       split (c .active .expiry .0) (c .active .cease .0) m
       (λ p q. pos (cond (leb (c .active .expiry .0) m && q) (steadyQuarters kw) (rampQuarters kw)) ≡ expects k (cond p Up (cond q Steady Down)))
-      (λ l q. rw (lt-leb (c .active .expiry .0) m l) (ap (λ (z : Kw). pos (rampQuarters (natAbs (z .0)))) (T .kw)))
-      (λ a b. rw (le-leb (c .active .expiry .0) m a) (ap (λ (z : Kw). pos (steadyQuarters (natAbs (z .0)))) (T .kw)))
-      (λ a b. rw (and-false (leb (c .active .expiry .0) m)) (ap (λ (z : Kw). pos (rampQuarters (natAbs (z .0)))) (T .kw)))
+      (λ l q. rw (lt-leb (c .active .expiry .0) m l, T .kw) refl)
+      (λ a b. rw (le-leb (c .active .expiry .0) m a, T .kw) refl)
+      (λ a b. rw (and-false (leb (c .active .expiry .0) m), T .kw) refl)
 
   expected-is : pos (expectedIn kw (steadyAt (c .active .expiry .0) (c .active .cease .0) (c .minute .0)) (cutBy c - c .minute .0)) ≡ expectedOf g seg
   unfolding expectedIn expectedOf
@@ -148,20 +130,17 @@ module _ (g : Ledger) (t : Terms) (times live : List ℕ) (meter : List ℤ) (T 
   base-is : c .active .base ≡ baseLoad g i
   unfolding baseLoad baseMinutes activeOf
   base-is =
-      let eb : c .active .base ≡ sum (cell meter) (between (issueOf times (c .at) - 3) (issueOf times (c .at) + 1)) = ap (λ (z : Active). z .base)
-      (r .active) in
-      eb
+      ap (λ (z : Active). z .base) (r .active)
       ∙ sum-ext (cell meter) (reads g) (issueOf times (c .at) - 3) (issueOf times (c .at) + 1)
-      (λ m a b. sym (T .reading m (omega (arith, q, T .terms .spanned (c .at) (r .more))) (q .base m a b)))
-      ∙ ap (λ z. sum (reads g) (between (z - 3) (z + 1))) (T .terms .issue (c .at) (r .more))
+      (λ m a b. sym (T .reading m (omega (arith, q, here .spanned)) (q .base m a b)))
+      ∙ ap (λ z. sum (reads g) (between (z - 3) (z + 1))) (here .issue)
 
   delivered-is : deliveredIn (t .kind) (c .active .base) meter (c .minute .0) (cutBy c) ≡ deliveredOf g seg
   unfolding deliveredIn deliveredOf
   delivered-is =
       rw (T .kind, base-is)
       (sum-ext (λ m. delivers (k .kind) (baseLoad g i) (cell meter m)) (λ m. delivers (k .kind) (baseLoad g i) (reads g m)) (c .minute .0) (cutBy c)
-      (λ m a b. ap (delivers (k .kind) (baseLoad g i)) (sym
-      (T .reading m (omega (arith, n .inside, T .terms .spanned (c .at) (r .more))) (n .readable .read m a b))))
+      (λ m a b. ap (delivers (k .kind) (baseLoad g i)) (sym (T .reading m (omega (arith, n .inside, here .spanned)) (n .readable .read m a b))))
       ∙ ap (λ z. sum (λ m. delivers (k .kind) (baseLoad g i) (reads g m)) (between (c .minute .0) z)) cut-is)
 
   -- the line of the segment at the cursor

@@ -5,7 +5,6 @@ pub mod Sequence
 pub mod SurveyRules
 pub mod LiveTable
 pub mod Availability
-pub mod PreparedTables
 pub mod BookPlan
 pub mod Refusal
 pub mod Outcome

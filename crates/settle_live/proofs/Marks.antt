@@ -1,5 +1,5 @@
 -- Marking a table's places one after the other, and its windows.
-use mathlib.Core.Path.{_≡_, refl, sym, _∙_, ap, ap₂}
+use mathlib.Core.Path.{_≡_, refl, _∙_}
 use mathlib.Core.Bool.{Bool, cond, _&&_}
 use mathlib.Core.List.{List}
 use Prim.Native.Nat.{ℕ, _+_, _≤_, _<_}
@@ -12,31 +12,26 @@ use lib.Seq.{getD-set-same, getD-set-other}
 use borrow.Author.Tests.{lt-ltb, le-ltb, le-leb, lt-leb}
 use Rattle.commands.specs.declared.entries.Window.{Window}
 use Rattle.rules.specs.Ledger.{noWindow}
-use Rattle.settle_live.specs.Live.{Marked, covers, WindowMarked, Unmarked, numberTo, LiveTable}
+use Rattle.settle_live.specs.Live.{Marked, WindowMarked, Unmarked, LiveTable}
 
 pub mark-none : (xs : List ℕ) (a v : ℕ) → Marked xs a a v xs
-mark-none xs a v = record { same = refl; entry = λ p. go p (decLe a p) }
-  where
-    go : (p : ℕ) → Dec (a ≤ p) → getD xs p 0 ≡ cond (leb a p && ltb p a) v (getD xs p 0)
-    go p (yes h) = rw (le-leb a p h, le-ltb p a h) refl
-    go p (no d) = rw (lt-leb a p (omega (arith, d))) refl
+mark-none xs a v =
+    record {
+      same = refl;
+      entry = λ p. elim (decLe a p) [ yes h ↦ rw (le-leb a p h, le-ltb p a h) refl | no d ↦ rw (lt-leb a p (omega (arith, d))) refl ];
+    }
 
 pub mark-next : (xs ys : List ℕ) (a p v : ℕ) → a ≤ p → p < length ys → Marked xs a p v ys → Marked xs a (p + 1) v (set ys p v)
 mark-next xs ys a p v h l m = record { same = length-set ys p v ∙ m .same; entry = λ q. go q (ℕ-discrete q p) (decLt q p) }
   where
     go : (q : ℕ) → Dec (q ≡ p) → Dec (q < p) → getD (set ys p v) q 0 ≡ cond (leb a q && ltb q (p + 1)) v (getD xs q 0)
-    go q (yes e) d = rw e (getD-set-same ys p v 0 l ∙ sym (rw (le-leb a p h, lt-ltb p (p + 1) (omega arith)) refl))
-    go q (no n) (yes b) =
-        getD-set-other ys p q v 0 n ∙ m .entry q ∙ ap (λ z. cond (leb a q && z) v (getD xs q 0)) (lt-ltb q p b ∙ sym (lt-ltb q (p + 1) (omega arith)))
-    go q (no n) (no d) =
-        getD-set-other ys p q v 0 n ∙ m .entry q ∙ ap (λ z. cond (leb a q && z) v (getD xs q 0))
-        (le-ltb q p (omega (arith, d)) ∙ sym (le-ltb q (p + 1) (omega (arith, n, d))))
+    go q (yes e) d = rw (e, getD-set-same ys p v 0 l, le-leb a p h, lt-ltb p (p + 1) (omega arith)) refl
+    go q (no n) (yes b) = rw (getD-set-other ys p q v 0 n, m .entry q, lt-ltb q p b, lt-ltb q (p + 1) (omega arith)) refl
+    go q (no n) (no d) = rw (getD-set-other ys p q v 0 n, m .entry q, le-ltb q p (omega (arith, d)), le-ltb q (p + 1) (omega (arith, n, d))) refl
 
 pub live-none : (f : Window → Bool) (ws : List Window) (live : List ℕ) → Unmarked live → LiveTable f ws 0 live
 live-none f ws live a = record { period = a .none }
 
 pub live-next : (f : Window → Bool) (ws : List Window) (n : ℕ) (live live′ : List ℕ) → LiveTable f ws n live
     → WindowMarked (getD ws n noWindow) (n + 1) (f (getD ws n noWindow)) live live′ → LiveTable f ws (n + 1) live′
-live-next f ws n live live′ l s =
-    let w : Window = getD ws n noWindow in
-    record { period = λ p. s .period p ∙ ap₂ (λ v z. cond (f w && covers w p) v z) (add-one n) (l .period p) ∙ ap (λ k. numberTo f ws k p) (sym (add-one n)) }
+live-next f ws n live live′ l s = record { period = λ p. rw (s .period p, l .period p, add-one n) refl }

@@ -17,7 +17,6 @@ use Rattle.rules.specs.declared.statement.Line.{Line}
 use Rattle.book.specs.Book.{ledgerIn}
 use Rattle.book.specs.Sound.{sound}
 use Rattle.book.specs.declared.Book.{Book}
-use Rattle.settle.specs.declared.Settlement.{Settlement}
 use Rattle.settle.specs.declared.prepare.Prepared.{Prepared}
 use Rattle.settle_lines.specs.Cursor.{steppedLine}
 use Rattle.settle.specs.Settle.{Settled, settledBy, settleBook}
@@ -70,7 +69,7 @@ module _ (f : ℕ → Line) where
       ap₂ (λ x y. x ++ numbersOf (f n) ++ y) front after ∙ ap (λ x. x ++ drop (8 * (n + 1)) ys) (sym (numbers-next n))
 
 -- what `settle_numbers` promises, from what is prepared: the lines are those that `settle` would put into as many records, whatever these hold
-module _ (b : Book) (readings : Memory) (memory : List ℤ) (p : Prepared) (P : Prepares b readings (length memory / 8) p) where
+module _ {b : Book} {readings : Memory} (memory : List ℤ) {p : Prepared} (P : Prepares b readings (length memory / 8) p) where
   abbrev g : Ledger
   g = ledgerIn b readings
 
@@ -83,33 +82,28 @@ module _ (b : Book) (readings : Memory) (memory : List ℤ) (p : Prepared) (P : 
   abbrev records : List Line
   records = replicate (length memory / 8) (line 0)
 
-  abbrev made : Settlement → List ℤ → Numbered
-  made s m = record { settlement = s; memory = m }
+  abbrev made : Numbered
+  made =
+      record { settlement = summed (p .settlement) (lastCursor p meter); memory = numbersTo line (p .lines) ++ drop (8 * p .lines) memory }
 
-  by-refusal : (o : Option ℕ) → settledWith p meter records ≡ settledBy o g records
-      → made (summed (p .settlement) (lastCursor p meter)) (numbersTo line (p .lines) ++ drop (8 * p .lines) memory) ≡ numberedBy o g memory
+  long-records : length records ≡ length memory / 8
+  long-records = length-replicate (length memory / 8) (line 0)
+
+  by-refusal : (o : Option ℕ) → settledWith p meter records ≡ settledBy o g records → made ≡ numberedBy o g memory
   unfolding settledWith statementOf concatMap between run
   by-refusal none e =
       let n : p .lines ≡ length (lines g) = sym (P .count) ∙ ap (λ (s : Settled). s .settlement .statement .lines) e in
-      let room : p .lines ≤ length records = omega (arith, P .few, length-replicate (length memory / 8) (line 0)) in
       let ls : map line (between 0 (p .lines)) ≡ lines g =
       sym (take-at (map line (between 0 (p .lines))) (drop (p .lines) records) (p .lines) (length-first line (p .lines)))
-      ∙ ap (take (p .lines)) (sym (stored-first line (p .lines) records room) ∙ ap (λ (s : Settled). s .memory) e)
+      ∙ ap (take (p .lines)) (sym (stored-first line (p .lines) records (omega (arith, P .few, long-records))) ∙ ap (λ (s : Settled). s .memory) e)
       ∙ take-at (lines g) (drop (length (lines g)) records) (p .lines) (sym n) in
-      ap₂ made (ap (λ (s : Settled). s .settlement) e) (ap₂ (λ x m. concatMap numbersOf x ++ drop (8 * m) memory) ls n)
+      λ i. record { settlement = e i .settlement; memory = concatMap numbersOf (ls i) ++ drop (8 * n i) memory }
   by-refusal (some m) e =
       let n : p .lines ≡ 0 = sym (P .count) ∙ ap (λ (s : Settled). s .settlement .statement .lines) e in
-      ap₂ made (ap (λ (s : Settled). s .settlement) e) (ap (λ z. numbersTo line z ++ drop (8 * z) memory) n)
+      λ i. record { settlement = e i .settlement; memory = numbersTo line (n i) ++ drop (8 * n i) memory }
 
-  numbered : made (summed (p .settlement) (lastCursor p meter)) (numbersTo line (p .lines) ++ drop (8 * p .lines) memory) ≡ numberBook b readings memory
+  pub numbered : made ≡ numberBook b readings memory
   unfolding settleBook numberBook
   numbered =
-      let long : length records ≡ length memory / 8 = length-replicate (length memory / 8) (line 0) in
       by-refusal (settleRefusal (not (sound b)) (roomIn readings) (length memory / 8) g)
-      (P .settles records long ∙ ap (λ m. settledBy (settleRefusal (not (sound b)) (roomIn readings) m g) g records) long)
-
-  pub numbered-answer : summed (p .settlement) (lastCursor p meter) ≡ numberBook b readings memory .settlement
-  numbered-answer = ap (λ (s : Numbered). s .settlement) numbered
-
-  pub numbered-memory : numbersTo line (p .lines) ++ drop (8 * p .lines) memory ≡ numberBook b readings memory .memory
-  numbered-memory = ap (λ (s : Numbered). s .memory) numbered
+      (P .settles records long-records ∙ rw long-records refl)

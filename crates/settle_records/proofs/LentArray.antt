@@ -1,8 +1,9 @@
--- A local array as a row of elements in memory, which can be lent as a slice, and back. It says nothing of the crate.     parts    the array's cell,
--- with what the array owns   ⊢   all of its elements, as they are lent to a `&` (`Denote/Lend.antt`'s `lends-shr-slice`)     joined   all of its
--- elements   ⊢   the array's cell at some machine value, with what the array owns there     out      the array's cell, with what the array owns   ⊢
--- its elements in memory, as they are lent to a `&mut` (`lends-slice`)     back     its elements in memory (`slice-back` gives them)   ⊢   the
--- array's cell at some machine value, with what the array owns there Assumes `Given`.
+-- A local array as a row of elements in memory, which can be lent as a slice, and back. It says nothing of the crate.
+--     parts    the array's cell, with what the array owns, gives all of its elements, as they are lent to a `&` (the logic's `lends-shr-slice`)
+--     joined   all of its elements give the array's cell at some machine value, with what the array owns there
+--     out      the array's cell, with what the array owns, gives its elements in memory, as they are lent to a `&mut` (`lends-slice`)
+--     back     its elements in memory (`slice-back` gives them) give the array's cell at some machine value, with what the array owns there
+-- Assumes `Given`.
 use mathlib.Core.Path.{refl}
 use Prim.Native.Nat.{ℕ}
 use mathlib.Core.List.{List, [], _∷_}

@@ -5,6 +5,7 @@ use settle::Settlement;
 
 pub mod lent;
 pub mod listed;
+pub mod own;
 
 // A settlement with line memory of its own.
 pub struct Listing {

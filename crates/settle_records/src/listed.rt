@@ -3,7 +3,7 @@ ghost use mathlib.Core.Path.{_≡_};
 ghost use Rattle.book_memory.specs.Meter.{lent};
 ghost use Rattle.settle_records.specs.Listed.{listBook, noLine};
 use crate::Listing;
-use crate::lent::settle;
+use crate::own::settle_into;
 use book::Book;
 use energy::units::Kwh;
 use energy::units::Pence;
@@ -34,8 +34,16 @@ pub fn blank() -> Line
 pub fn listed(b: Book, meter: &[i32]) -> Listing
     ensures { λ r. ⌜ r ≡ listBook b (lent (now (meter .entry))) ⌝ }
 {
+    let own = settle_into(b, meter, LISTED_MOST, blank());
+    let settlement = own.settlement;
+    let made = own.lines;
     let mut lines = [blank(); LISTED_MOST];
-    let settlement = settle(b, meter, &mut lines);
+    let mut i = 0;
+    while i < LISTED_MOST {
+        let l = made[i];
+        lines[i] = l;
+        i += 1;
+    }
     Listing {
         settlement: settlement,
         lines: lines,

@@ -15,12 +15,13 @@ module _ (at f : ℕ → ℕ) where
   abbrev Column : ℕ → List ℕ → Type 0
   Column n t = (j : ℕ) → j < n → getD t (at j) 0 ≡ f j
 
-  column-put : (n : ℕ) (t : List ℕ) (x : ℕ) → at n < length t → ((j : ℕ) → j < n → at j ≡ at n → ⊥) → x ≡ f n → Column n t → Column (n + 1) (set t (at n) x)
-  column-put n t x h d e c j l = go (ℕ-discrete j n)
-    where
-      go : Dec (j ≡ n) → getD (set t (at n) x) (at j) 0 ≡ f j
-      go (yes q) = rw q (getD-set-same t (at n) x 0 h ∙ e)
-      go (no q) = getD-set-other t (at n) (at j) x 0 (d j (omega (arith, q))) ∙ c j (omega (arith, q))
+  column-put : (n : ℕ) (t : List ℕ) (x : ℕ) → at n < length t → ((j : ℕ) → j < n → at j ≡ at n → ⊥) → x ≡ f n → Column n t
+      → Column (n + 1) (set t (at n) x)
+  column-put n t x h d e c j l =
+      elim (ℕ-discrete j n) [
+        | yes q ↦ rw q (getD-set-same t (at n) x 0 h ∙ e)
+        | no q ↦ getD-set-other t (at n) (at j) x 0 (d j (omega (arith, q))) ∙ c j (omega (arith, q))
+      ]
 
   column-keep : (n : ℕ) (t : List ℕ) (a x : ℕ) → ((j : ℕ) → j < n → at j ≡ a → ⊥) → Column n t → Column n (set t a x)
   column-keep n t a x d c j l = getD-set-other t a (at j) x 0 (d j l) ∙ c j l

@@ -1,7 +1,6 @@
 // Runs the checked figures that are about energy and money alone, F3, F4, F5, F8 and F10, and prints what it got.
-ghost use mathlib.Core.Path.{_≡_};
-ghost use lib.IntN.{natAbs};
 ghost use Rattle.energy.specs.Number.{Upto, Within};
+use energy::magnitude::magnitude;
 use energy::money::Paid;
 use energy::money::capped_kwh;
 use energy::money::delivered_kwh;
@@ -20,22 +19,12 @@ use energy::units::Kwh;
 use energy::units::Minutes;
 use energy::units::Pence;
 
-// How far n is from 0. One is added before the sign is turned, and again after it, so that the least number fits.
-fn size(n: i64) -> u64
-    ensures { λ r. ⌜ r ≡ natAbs n ⌝ }
-{
-    if n < 0 {
-        return (0 - (n + 1)) as u64 + 1;
-    }
-    n as u64
-}
-
 // A number, with a minus sign before a negative one.
 fn put(n: i64) {
     if n < 0 {
         io::write_all(1, b"-");
     }
-    io::print_decimal(1, size(n));
+    io::print_decimal(1, magnitude(n));
 }
 
 fn put_refused(r: u8) {

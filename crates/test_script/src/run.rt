@@ -12,7 +12,6 @@ use crate::entries::default_of;
 use crate::entries::instruction_of;
 use crate::entries::window_of;
 use crate::month::mark;
-use crate::month::settle_into;
 use crate::month::settle_listed;
 use crate::print::print_line;
 use crate::statement::print_month;
@@ -26,6 +25,7 @@ use book::Entry;
 use rules::statement::LINES_MOST;
 use rules::statement::LISTED_MOST;
 use settle_records::listed::blank;
+use settle_records::own::settle_into;
 
 // How many cells and records are lent, and whether what is taken goes unprinted.
 struct Setting {

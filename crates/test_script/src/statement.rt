@@ -1,7 +1,6 @@
 // Rows of a settlement.
 ghost use Prim.Native.Nat.{_≤_};
 ghost use Rattle.lister_rows.specs.Row.{Counted};
-use crate::month::Month;
 use crate::print::print_number;
 use crate::print::print_text;
 use lister_rows::row::Row;
@@ -14,6 +13,7 @@ use rules::statement::LINES_MOST;
 use rules::statement::Line;
 use rules::statement::Rate;
 use rules::statement::Stage;
+use settle_records::own::Own;
 
 fn print_row(r: Row)
     requires { ⌜ Counted r ⌝ }
@@ -114,7 +114,7 @@ fn windows_printed(nwindows: usize, step: u16) -> usize {
 }
 
 // The rows of a statement, or of a refusal.
-fn print_statement(m: Month, nwindows: usize, step: u16) {
+fn print_statement(m: Own, nwindows: usize, step: u16) {
     let s = m.settlement;
     let lines = m.lines;
     let t = s.statement;
@@ -135,7 +135,7 @@ fn print_statement(m: Month, nwindows: usize, step: u16) {
 }
 
 // A settlement into so many records, each of which held `before`.
-pub(crate) fn print_month(m: Month, nwindows: usize, step: u16, records: usize, before: Line) {
+pub(crate) fn print_month(m: Own, nwindows: usize, step: u16, records: usize, before: Line) {
     print_statement(m, nwindows, step);
     let s = m.settlement;
     let lines = m.lines;

@@ -17,9 +17,6 @@ Inv-loop meter₀ n i₀ meter i = (i ≤ n) × (meter ≡ replicate i missing +
 abbrev μ-loop : tie.MeasureT-loop
 μ-loop meter₀ n i₀ meter i = n - i
 
-loop-holds : tie.Need-loop-holds Inv-loop μ-loop
-loop-holds c = (search needs, refl, refl)
-
 loop-again : tie.Need-loop-again Inv-loop μ-loop
 loop-again c =
     let i = c .before .loop .i in
@@ -37,5 +34,5 @@ returns c =
 pub mark-spec : {M : Type 1} → statement M
 mark-spec =
     tie.close
-    (tie.spec Inv-loop μ-loop loop-holds (λ c. search needs) (λ c. search needs) (λ c. search needs) (λ c. search needs) loop-again
-    (λ c. search needs) returns)
+    (tie.spec Inv-loop μ-loop (λ c. (search needs, refl, refl)) (λ c. search needs) (λ c. search needs) (λ c. search needs) (λ c. search needs)
+    loop-again (λ c. search needs) returns)

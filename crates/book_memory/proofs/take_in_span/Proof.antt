@@ -16,10 +16,8 @@ returns c =
     let d = c .before .before .before .before in
     (d .is-taken .ensures, rw (c .before .before .before .if1 .taken) (ap lent (c .before .put-reading .ensures)))
 
-returns-2 : tie.Need-returns-2
-returns-2 c = (c .before .is-taken .ensures, rw (c .if1 .left) refl)
-
 pub take-in-span-spec : {M : Type 1} → statement M
 take-in-span-spec =
     tie.close
-    (tie.spec (λ c κs. search needs) put-reading-requires (λ c. search needs) returns (λ c. search needs) returns-2)
+    (tie.spec (λ c κs. search needs) put-reading-requires (λ c. search needs) returns (λ c. search needs)
+    (λ c. (c .before .is-taken .ensures, rw (c .if1 .left) refl)))

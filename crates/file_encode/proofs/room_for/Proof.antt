@@ -16,11 +16,7 @@ moved at length size h = go (leb at (size - length)) refl
     go true e = sym (le-leb (at + length) size (omega (arith, leb-true at (size - length) e)))
     go false e = sym (lt-leb (at + length) size (omega (arith, leb-false at (size - length) e)))
 
-returns : tie.Need-returns
-returns c = let a = c .before .args in sym (lt-leb (a .at + a .length) (a .size) (omega arith))
-
-returns-2 : tie.Need-returns-2
-returns-2 c = moved _ _ _ (c .if1 .left)
-
 pub room-for-spec : {M : Type 1} → statement M
-room-for-spec = tie.close (tie.spec returns returns-2)
+room-for-spec =
+    tie.close
+    (tie.spec (λ c. let a = c .before .args in sym (lt-leb (a .at + a .length) (a .size) (omega arith))) (λ c. moved _ _ _ (c .if1 .left)))

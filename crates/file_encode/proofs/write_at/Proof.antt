@@ -59,44 +59,23 @@ row-is : (c : tie.After-row-of) → c .row-of .result ≡ rowFor (byteOf (c .bef
 row-is c = c .row-of .ensures ∙ ap rowFor (c .before .byte-of .ensures)
 
 room : (c : tie.Else1)
-    → leb (c .before .before .before .before .before .before .args .at + c .before .before .before .row-of .result .length)
-    (length (c .before .before .before .before .before .before .args .out .now)) ≡ true
+    → let a = c .before .before .before .before .before .before .args in
+    leb (a .at + c .before .before .before .row-of .result .length) (length (a .out .now)) ≡ true
 room c = sym (c .before .room-for .ensures) ∙ not-false _ (c .if1 .left)
 
 ends : (c : tie.Else1)
-    → c .before .before .before .before .before .before .args .at + 1 + total
-    (take (c .before .before .before .row-of .result .count) (c .before .before .before .row-of .result .widths))
-    ≤ length (c .before .before .before .before .before .before .args .out .now)
+    → let a = c .before .before .before .before .before .before .args in
+    let row = c .before .before .before .row-of .result in
+    a .at + 1 + total (take (row .count) (row .widths)) ≤ length (a .out .now)
 ends c =
     let a = c .before .before .before .before .before .before .args in
     within (a .command) (a .out .now) (a .at) _ (row-is (c .before .before .before)) (room c)
-
-returns : tie.Need-returns
-returns c = refused _ _ _ _ (row-is (c .before .before .before)) (sym (c .before .room-for .ensures) ∙ not-true _ (c .if1 .taken))
-
-slice-write-out : tie.Need-slice-write-out
-slice-write-out c = omega (arith, ends (c .before .before))
-
-add-put-operands : tie.Need-add-put-operands
-add-put-operands c = omega (arith, ends (c .before .before .before))
 
 put-operands-requires : tie.Need-put-operands-requires
 put-operands-requires c κs =
     let a = c .before .before .before .before .before .before .before .before .before .before .args in
     asked (a .command) (a .out .now) (a .at) _ (row-is (c .before .before .before .before .before .before .before))
     (room (c .before .before .before .before))
-
-add-t10 : tie.Need-add-t10
-add-t10 c =
-    let a = c .before .before .before .before .before .before .before .before .before .before .before .before .before .args in
-    omega (
-      arith,
-      leb-true (a .at + c .before .before .before .before .before .before .before .before .before .before .row-of .result .length)
-          (length (a .out .now)) (room (c .before .before .before .before .before .before .before)),
-    )
-
-same-length : tie.Need-same-length
-same-length c = c .before .before .put-operands .kept .0 ∙ simp length-set
 
 returns-2 : tie.Need-returns-2
 returns-2 c =
@@ -108,5 +87,8 @@ returns-2 c =
 pub write-at-spec : {M : Type 1} → statement M
 write-at-spec =
     tie.close
-    (tie.spec (λ c κs. search needs) (λ c κs. search needs) (λ c. search needs) (λ c κs. search needs) returns (λ c κs. search needs) slice-write-out
-    add-put-operands (λ c. search needs) put-operands-requires add-t10 same-length returns-2)
+    (tie.spec (λ c κs. search needs) (λ c κs. search needs) (λ c. search needs) (λ c κs. search needs)
+    (λ c. refused _ _ _ _ (row-is (c .before .before .before)) (sym (c .before .room-for .ensures) ∙ not-true _ (c .if1 .taken)))
+    (λ c κs. search needs) (λ c. omega (arith, ends (c .before .before))) (λ c. omega (arith, ends (c .before .before .before))) (λ c. search needs)
+    put-operands-requires (λ c. omega (arith, leb-true, room (c .before .before .before .before .before .before .before)))
+    (λ c. c .before .before .put-operands .kept .0 ∙ simp length-set) returns-2)

@@ -1,10 +1,9 @@
 -- `host_tables::defaults_of` meets its contract. The invariant: the first i places are filled. Places after the table's last number are unused.
-use mathlib.Core.List.{[]}
 use Prim.Native.Nat.{_≤_, _-_}
 use native.Mathlib.Omega.{arith}
 use borrow.Author.Needs.{needs}
-use Rattle.host_tables.specs.Tables.{entryAt, defaultIn, defaultNumbers}
-use Rattle.host_tables.proofs.FilledTables.{Rows, filled-none, rows-next, rows-all}
+use Rattle.host_tables.specs.Tables.{defaultIn, defaultNumbers}
+use Rattle.host_tables.proofs.FilledTables.{Rows, rows-none, rows-next, rows-all}
 use Rattle.host_tables.proofs.defaults_of.Statement.{statement}
 use Rattle.host_tables.proofs.defaults_of.Tie as tie
 
@@ -14,24 +13,11 @@ Inv-loop s n entries₀ i₀ entries i = (i ≤ n) × Rows defaultIn defaultNumb
 abbrev μ-loop : tie.MeasureT-loop
 μ-loop s n entries₀ i₀ entries i = n - i
 
-loop-holds : tie.Need-loop-holds Inv-loop μ-loop
-unfolding defaultIn
-loop-holds c = (omega arith, filled-none (entryAt defaultIn defaultNumbers (c .before .before .args .s .now)) (defaultIn []) 128)
-
-loop-again : tie.Need-loop-again Inv-loop μ-loop
-loop-again c =
-    let s = c .before .before .before .before .before .before .args .s .now in
-    let l = c .before .before .before .loop in
-    let e = c .default-in in
-    (omega arith, rows-next defaultIn defaultNumbers s 128 (l .i) (l .entries) (e .result) (omega arith) (e .ensures) (l .inv .1))
-
-returns : tie.Need-returns Inv-loop μ-loop
-returns c =
-    let l = c .before .loop in
-    rows-all defaultIn defaultNumbers (c .before .before .before .before .args .s .now) 128 (l .i) (l .entries) (l .inv .1) (λ j h k. omega arith)
-
 pub defaults-of-spec : {M : Type 1} → statement M
+unfolding defaultIn
 defaults-of-spec =
     tie.close
-    (tie.spec Inv-loop μ-loop (λ c κs. search needs) loop-holds (λ c. search needs) (λ c. search needs) (λ c. search needs) (λ c. search needs)
-    (λ c. search needs) (λ c κs. search needs) (λ c. search needs) (λ c. search needs) (λ c. search needs) (λ c. search needs) loop-again returns)
+    (tie.spec Inv-loop μ-loop (λ c κs. search needs) (λ c. (omega arith, rows-none)) (λ c. search needs) (λ c. search needs) (λ c. search needs)
+    (λ c. search needs) (λ c. search needs) (λ c κs. search needs) (λ c. search needs) (λ c. search needs) (λ c. search needs) (λ c. search needs)
+    (λ c. (omega arith, rows-next (omega arith) (c .default-in .ensures) (c .before .before .before .loop .inv .1)))
+    (λ c. rows-all (omega arith) (λ j h k. omega arith) (c .before .loop .inv .1)))

@@ -14,12 +14,9 @@ use Rattle.lister_page.proofs.put_listing.Tie as tie
 tables : (s : tie.Start) → (length (s .args .lines) ≡ 719) × (length (s .args .s .windows) ≡ 128)
 tables s = (search (length-mapped, needs), search (length-mapped, needs))
 
-long : (c : tie.After-put-row-arg) → length (c .before .totals-row .result .bytes) ≡ 128
-long c = search (length-mapped, needs)
-
 put-row-requires : tie.Need-put-row-requires
 put-row-requires c κs =
-    let l = long c in
+    let long : length (c .before .totals-row .result .bytes) ≡ 128 = search (length-mapped, needs) in
     (c .before .totals-row .ensures .1, search needs)
 
 returns : tie.Need-returns

@@ -8,16 +8,13 @@ use Rattle.lister_rows.specs.Rows.{refusalRow}
 use Rattle.lister_page.proofs.put_refusal.Statement.{statement}
 use Rattle.lister_page.proofs.put_refusal.Tie as tie
 
-long : (c : tie.After-put-row-arg) → length (c .before .refusal-row .result .bytes) ≡ 128
-long c = search (length-mapped, needs)
-
 put-row-requires : tie.Need-put-row-requires
 put-row-requires c κs =
-    let l = long c in
+    let long : length (c .before .refusal-row .result .bytes) ≡ 128 = search (length-mapped, needs) in
     (c .before .refusal-row .ensures .1, search needs)
 
-returns : tie.Need-returns
-returns c = let r = c .before .before .refusal-row in rw (row-bytes (refusalRow _ _) (r .ensures .0)) at (c .put-row .ensures)
-
 pub put-refusal-spec : {M : Type 1} → statement M
-put-refusal-spec = tie.close (tie.spec (λ c κs. search needs) put-row-requires returns)
+put-refusal-spec =
+    tie.close
+    (tie.spec (λ c κs. search needs) put-row-requires
+    (λ c. rw (row-bytes (refusalRow _ _) (c .before .before .refusal-row .ensures .0)) at (c .put-row .ensures)))

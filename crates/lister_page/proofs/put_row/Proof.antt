@@ -24,15 +24,12 @@ loop-holds c = let a = c .before .args in (search needs, paste-zero (a .out .now
 long : (s : tie.Start Inv-loop μ-loop) → length (s .args .r .bytes) ≡ 128
 long s = search (length-mapped, needs)
 
-array-read-out : tie.Need-array-read-out Inv-loop μ-loop
-array-read-out c = let l = long (c .before .before .before) in search needs
-
-slice-write-out : tie.Need-slice-write-out Inv-loop μ-loop
-slice-write-out c =
-    let s = c .before .before .before in
-    let l = long s in
-    rw (c .before .loop .inv .1) (rw (length-paste (s .args .out .now) (s .args .at) (s .args .r .bytes) (c .before .loop .i) (omega arith) (omega arith))
-    (omega arith))
+-- and the memory its own
+kept : (l : tie.At-loop Inv-loop μ-loop) → length (l .loop .out) ≡ length (l .before .before .args .out .now)
+kept l =
+    let s = l .before .before in
+    let n = long s in
+    rw (l .loop .inv .1) (length-paste (s .args .out .now) (s .args .at) (s .args .r .bytes) (l .loop .i) (omega arith) (omega arith))
 
 loop-again : tie.Need-loop-again Inv-loop μ-loop
 loop-again c =
@@ -42,12 +39,6 @@ loop-again c =
       rw (add-one (c .before .loop .i), c .before .loop .inv .1)
           (paste-suc (s .args .out .now) (s .args .at) (s .args .r .bytes) (c .before .loop .i) 0 (omega arith) (omega arith)),
     )
-
-same-length : tie.Need-same-length Inv-loop μ-loop
-same-length c =
-    let s = c .before .before .before in
-    let l = long s in
-    rw (c .before .loop .inv .1) (length-paste (s .args .out .now) (s .args .at) (s .args .r .bytes) (c .before .loop .i) (omega arith) (omega arith))
 
 returns : tie.Need-returns Inv-loop μ-loop
 unfolding putAt
@@ -59,5 +50,5 @@ returns c =
 pub put-row-spec : {M : Type 1} → statement M
 put-row-spec =
     tie.close
-    (tie.spec Inv-loop μ-loop loop-holds array-read-out (λ c. search needs) slice-write-out (λ c. search needs) (λ c. search needs) loop-again
-    (λ c. search needs) same-length returns)
+    (tie.spec Inv-loop μ-loop loop-holds (λ c. let l = long (c .before .before .before) in search needs) (λ c. search needs)
+    (λ c. omega (arith, kept (c .before))) (λ c. search needs) (λ c. search needs) loop-again (λ c. search needs) (λ c. kept (c .before)) returns)

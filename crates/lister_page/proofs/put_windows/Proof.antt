@@ -1,30 +1,26 @@
 -- `lister_page::put_windows` meets its contract: the rows of the windows passed are laid, and the next one goes behind them.
-use mathlib.Core.Path.{_≡_}
+use mathlib.Core.Path.{_≡_, refl}
 use Prim.Native.Nat.{_-_}
 use native.Mathlib.Omega.{arith}
 use borrow.Author.Needs.{needs}
 use lib.ListN.{length, take}
-use Rattle.rules.specs.Statement.{nothing}
 use Rattle.lister_rows.specs.Rows.{windowRows}
 use Rattle.rules.proofs.Folds.{length-mapped}
-use Rattle.lister_page.proofs.Places.{Rows, windows-more, rows-none, rows-long, row-room, row-more}
+use Rattle.lister_page.proofs.Places.{Rows, windows-more, rows-none, rows-long, rows-all, row-room, row-more}
 use Rattle.lister_page.proofs.put_windows.Statement.{statement}
 use Rattle.lister_page.proofs.put_windows.Tie as tie
 
 abbrev Inv-loop : tie.InvT-loop
-Inv-loop n out₀ at windows place₀ i₀ out place i = Rows n (windowRows 1 (take i windows)) out₀ at out place i
+Inv-loop n out₀ at windows place₀ i₀ out place i = Rows (λ i. windowRows 1 (take i windows)) n out₀ at out place i
 
 abbrev μ-loop : tie.MeasureT-loop
 μ-loop n out₀ at windows place₀ i₀ out place i = n - i
 
 loop-holds : tie.Need-loop-holds Inv-loop μ-loop
 unfolding windowRows
-loop-holds c = rows-none _ _ _
+loop-holds c = rows-none refl
 
 -- arrays keep the lengths of their types
-table : (s : tie.Start Inv-loop μ-loop) → length (s .args .t1) ≡ 128
-table s = search (length-mapped, needs)
-
 long : (c : tie.After-put-row-arg Inv-loop μ-loop) → length (c .before .window-row .result .bytes) ≡ 128
 long c = search (length-mapped, needs)
 
@@ -32,7 +28,7 @@ put-row-requires : tie.Need-put-row-requires Inv-loop μ-loop
 put-row-requires c κs =
     let r = c .before .window-row in
     let l = c .before .before .before in
-    (r .ensures .1, row-room (l .before .before .before .pre .1) (l .before .loop .inv) (r .result) (long c) (r .ensures .1) (l .loop-test .taken))
+    row-room (l .before .before .before .pre .1) (l .before .loop .inv) (r .result) (long c) (r .ensures .1) (l .loop-test .taken)
 
 loop-again : tie.Need-loop-again Inv-loop μ-loop
 loop-again c =
@@ -40,22 +36,13 @@ loop-again c =
     let r = p .before .before .window-row in
     let l = p .before .before .before .before in
     let s = l .before .before .before in
-    let all = table s in
-    rw (windows-more (s .args .t1) (l .before .loop .i) nothing (omega arith))
-    (row-more (s .pre .1) (l .before .loop .inv) (r .result) (long (p .before)) (r .ensures .1) (l .loop-test .taken) _ (r .ensures .0) (p .put-row .ensures))
-
-same-length : tie.Need-same-length Inv-loop μ-loop
-same-length c = rows-long (c .before .before .before .pre .1) (c .before .loop .inv)
-
-returns : tie.Need-returns Inv-loop μ-loop
-returns c =
-    let s = c .before .before .before in
-    let rows = c .before .loop .inv in
-    let end : c .before .loop .i ≡ s .args .n = omega arith in
-    (rw end at (rows .laid), rw end at (rows .near))
+    let all : length (s .args .t1) ≡ 128 = search (length-mapped, needs) in
+    row-more (s .pre .1) (l .before .loop .inv) (r .result) (long (p .before)) (r .ensures .1) (l .loop-test .taken) _
+    (windows-more (s .args .t1) (l .before .loop .i) _ (omega arith)) (r .ensures .0) (p .put-row .ensures)
 
 pub put-windows-spec : {M : Type 1} → statement M
 put-windows-spec =
     tie.close
     (tie.spec Inv-loop μ-loop loop-holds (λ c. search needs) (λ c. search needs) (λ c. search needs) (λ c. search needs) (λ c κs. search needs)
-    put-row-requires (λ c. search needs) (λ c. search needs) loop-again same-length returns)
+    put-row-requires (λ c. search needs) (λ c. search needs) loop-again (λ c. rows-long (c .before .before .before .pre .1) (c .before .loop .inv))
+    (λ c. rows-all (c .before .before .before .pre .1) (c .before .loop .inv) (omega arith)))

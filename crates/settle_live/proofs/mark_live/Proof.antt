@@ -1,11 +1,10 @@
 -- `settle_live::mark_live` meets its contract. The invariant: the table is that of the first i windows. Assumes nothing.
-use mathlib.Core.Path.{_≡_, refl, _∙_, subst}
-use Prim.Native.Nat.{_+_, _-_, _≤_, _<_}
+use mathlib.Core.Path.{_≡_, refl, _∙_}
+use Prim.Native.Nat.{_-_, _≤_, _<_}
 use native.Mathlib.Omega.{arith}
-use lib.ListN.{length, getD}
+use lib.ListN.{length}
 use borrow.Author.Needs.{needs}
-use Rattle.rules.specs.Ledger.{noWindow}
-use Rattle.settle_live.specs.Live.{isLive, LiveTable, WindowMarked}
+use Rattle.settle_live.specs.Live.{isLive, LiveTable}
 use Rattle.settle_live.proofs.Marks.{live-none, live-next}
 use Rattle.settle_live.proofs.mark_live.Statement.{statement}
 use Rattle.settle_live.proofs.mark_live.Tie as tie
@@ -30,19 +29,15 @@ mark-window-requires c κs =
 
 loop-again : tie.Need-loop-again Inv-loop μ-loop
 loop-again c =
-    let a = c .before .before .before .before .before .before .before .before .before .before .args in
     let l = c .before .before .before .before .before .before .before .loop in
-    let r = c .before .before .mark-window in
-    let k = subst (λ z. WindowMarked (getD (a .t2) (l .i) noWindow) (l .i + 1) z (l .live) (r .last .0))
-    (c .before .before .before .before .is-live .ensures) (r .ensures) in
-    (omega arith, k .same ∙ l .inv .1, live-next (isLive (a .times .now) (a .t) (a .recovery .0)) (a .t2) (l .i) (l .live) (r .last .0) (l .inv .2) k)
+    let k = rw (c .before .before .before .before .is-live .ensures) at (c .before .before .mark-window .ensures) in
+    (omega arith, k .same ∙ l .inv .1, live-next _ _ (l .i) (l .live) _ (l .inv .2) k)
 
 returns : tie.Need-returns Inv-loop μ-loop
 returns c =
-    let a = c .before .before .before .before .args in
     let l = c .before .loop in
-    let e : l .i ≡ a .n = omega arith in
-    (subst (λ z. LiveTable (isLive (a .times .now) (a .t) (a .recovery .0)) (a .t2) z (l .live)) e (l .inv .2), l .inv .1)
+    let e : l .i ≡ c .before .before .before .before .args .n = omega arith in
+    (rw e at (l .inv .2), l .inv .1)
 
 pub mark-live-spec : {M : Type 1} → statement M
 mark-live-spec =

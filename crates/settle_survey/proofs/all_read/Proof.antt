@@ -1,5 +1,5 @@
 -- `settle_survey::all_read` meets its contract. The test so far is that of the minutes passed. Assumes nothing.
-use mathlib.Core.Path.{_≡_, refl, sym, _∙_, ap}
+use mathlib.Core.Path.{_≡_, sym, _∙_, ap}
 use Prim.Native.Nat.{_-_, _≤_}
 use native.Mathlib.Omega.{arith}
 use lib.IntN.{pos}
@@ -36,8 +36,10 @@ loop-again c =
     )
 
 returns : tie.Need-returns Inv-loop μ-loop
-returns c = let e : c .before .loop .i ≡ c .before .before .args .to = omega arith in c .before .loop .inv .2 ∙ rw e refl
+returns c = let e : c .before .loop .i ≡ c .before .before .args .to = omega arith in rw e at (c .before .loop .inv .2)
 
 pub all-read-spec : {M : Type 1} → statement M
 all-read-spec =
-    tie.close (tie.spec Inv-loop μ-loop loop-holds (λ c. search needs) (λ c. search needs) (λ c κs. search needs) (λ c. search needs) (λ c. search needs) loop-again returns)
+    tie.close
+    (tie.spec Inv-loop μ-loop loop-holds (λ c. search needs) (λ c. search needs) (λ c κs. search needs) (λ c. search needs) (λ c. search needs)
+    loop-again returns)

@@ -7,12 +7,6 @@ use borrow.Author.Needs.{needs}
 use Rattle.settle_survey.proofs.touched.Statement.{statement}
 use Rattle.settle_survey.proofs.touched.Tie as tie
 
-sub-result : tie.Need-sub-result
-sub-result c = omega (arith, c .before .place-of .ensures, c .place-of2 .ensures)
-
-add-result : tie.Need-add-result
-add-result c = omega (arith, c .before .place-of .ensures, c .place-of2 .ensures)
-
 returns : tie.Need-returns
 unfolding touched
 returns c =
@@ -28,4 +22,6 @@ returns-2 c = let a = c .before .before .before .args in (rw (le-ltb (a .a .0) (
 pub touched-spec : {M : Type 1} → statement M
 touched-spec =
     tie.close
-    (tie.spec (λ c. search needs) (λ c κs. search needs) (λ c κs. search needs) sub-result add-result returns returns-2)
+    (tie.spec (λ c. search needs) (λ c κs. search needs) (λ c κs. search needs)
+    (λ c. omega (arith, c .before .place-of .ensures, c .place-of2 .ensures))
+    (λ c. omega (arith, c .before .place-of .ensures, c .place-of2 .ensures)) returns returns-2)

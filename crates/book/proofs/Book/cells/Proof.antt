@@ -4,9 +4,5 @@ use Rattle.book.specs.Book.{bookCells}
 use Rattle.book.proofs.Book.cells.Statement.{statement}
 use Rattle.book.proofs.Book.cells.Tie as tie
 
-returns : tie.Need-returns
-unfolding bookCells
-returns c = c .span-of .ensures
-
 pub cells-spec : {M : Type 1} → statement M
-cells-spec = tie.close (tie.spec (λ c κs. search needs) returns)
+cells-spec = tie.close (tie.spec (λ c κs. search needs) (λ c. unfold bookCells in c .span-of .ensures))

@@ -4,9 +4,5 @@ use Rattle.book.specs.Book.{emptyBook}
 use Rattle.book.proofs.Book.empty.Statement.{statement}
 use Rattle.book.proofs.Book.empty.Tie as tie
 
-returns : tie.Need-returns
-unfolding emptyBook
-returns c = refl
-
 pub empty-spec : {M : Type 1} → statement M
-empty-spec = tie.close (tie.spec returns)
+empty-spec = tie.close (tie.spec (λ c. unfold emptyBook in refl))

@@ -1,10 +1,10 @@
 -- `Book::enter_close` meets its contract: a close has no conditions of its own, so a number up to 15 decides alone.
 use borrow.Author.Needs.{needs}
-use mathlib.Core.Path.{_≡_, refl, _∙_}
+use mathlib.Core.Path.{_≡_, _∙_}
 use Rattle.commands.specs.Input.{lowest, inputRefusal}
 use Rattle.commands.specs.declared.entries.Command.the-variants.{Close as closeᶜ}
 use Rattle.book.proofs.Refusals.{anyOf, close-own}
-use Rattle.book.proofs.EnteringByNumbers.{any-refuses-at, own-takes-at}
+use Rattle.book.proofs.EnteringByNumbers.{past-any, any-refuses, own-takes}
 use Rattle.book.proofs.Book.enter_close.Statement.{statement}
 use Rattle.book.proofs.Book.enter_close.Tie as tie
 
@@ -13,15 +13,13 @@ any : (c : tie.After-any-refusal) → let at = c .before .before .args in c .any
 unfolding inputRefusal lowest
 any c = c .any-refusal .ensures ∙ (rw (c .before .cells .ensures, c .before .before .pre))
 
-returns : tie.Need-returns
-returns c = rw (c .refused .ensures) (any-refuses-at _ _ _ _ (any (c .before .before)) (c .before .if1 .taken))
-
 returns-2 : tie.Need-returns-2
 returns-2 c =
-    let b = c .before .before .before .before .args .self in
-    rw (c .taken .ensures) (own-takes-at b _ _ _ (any (c .before .before)) (c .before .if1 .left) (λ m. close-own b m) (λ m. refl))
+    let met = c .before .before in
+    rw (c .taken .ensures) (λ m q. own-takes (past-any _ _ _ _ (any met) (c .before .if1 .left)) m q (close-own (met .before .before .args .self) m))
 
 pub enter-close-spec : {M : Type 1} → statement M
 enter-close-spec =
     tie.close
-    (tie.spec (λ c κs. search needs) (λ c κs. search needs) (λ c κs. search needs) returns (λ c κs. search needs) returns-2)
+    (tie.spec (λ c κs. search needs) (λ c κs. search needs) (λ c κs. search needs)
+    (λ c. rw (c .refused .ensures) (any-refuses _ _ _ _ (any (c .before .before)) (c .before .if1 .taken))) (λ c κs. search needs) returns-2)

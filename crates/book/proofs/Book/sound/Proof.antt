@@ -10,10 +10,6 @@ use Rattle.book.proofs.SoundTests.{tables-of}
 use Rattle.book.proofs.Book.sound.Statement.{statement}
 use Rattle.book.proofs.Book.sound.Tie as tie
 
-returns : tie.Need-returns
-unfolding sound
-returns c = rw (sym (c .before .tables-sound .ensures) ∙ not-true _ (c .if1 .taken))
-
 -- past the first test the tables are in shape
 shaped : (c : tie.Else1) → pass (tableTests (c .before .before .args .self)) ≡ true
 shaped c = sym (c .before .tables-sound .ensures) ∙ not-false _ (c .if1 .left)
@@ -41,4 +37,5 @@ returns-3 c =
 pub sound-spec : {M : Type 1} → statement M
 sound-spec =
     tie.close
-    (tie.spec (λ c κs. search needs) returns (λ c κs. search needs) returns-2 (λ c κs. search needs) agreed-sound-requires returns-3)
+    (tie.spec (λ c κs. search needs) (λ c. unfold sound in rw (sym (c .before .tables-sound .ensures) ∙ not-true _ (c .if1 .taken)))
+    (λ c κs. search needs) returns-2 (λ c κs. search needs) agreed-sound-requires returns-3)

@@ -4,8 +4,5 @@ use native.Mathlib.Omega.{arith}
 use Rattle.book.proofs.answers.last_place.Statement.{statement}
 use Rattle.book.proofs.answers.last_place.Tie as tie
 
-returns : tie.Need-returns
-returns c = omega (arith, c .if1 .taken)
-
 pub last-place-spec : {M : Type 1} → statement M
-last-place-spec = tie.close (tie.spec returns (λ c. search needs) (λ c. search needs))
+last-place-spec = tie.close (tie.spec (λ c. omega (arith, c .if1 .taken)) (λ c. search needs) (λ c. search needs))

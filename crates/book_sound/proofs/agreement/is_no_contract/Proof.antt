@@ -1,12 +1,11 @@
 -- `book_sound::is_no_contract` meets its contract: the chain of tests is the list of them.
-use mathlib.Core.List.{[], _∷_}
-use lib.Dec.{eqb}
+use mathlib.Core.Bool.{and-true, and-assoc}
 use mir.Syntax.{w64}
 use mir.Val.{SFits}
 use borrow.Author.Needs.{needs}
 use Rattle.energy.specs.Lists.{pass}
-use Rattle.book_sound.specs.Unused.{noContractTests, isZero}
-use Rattle.book_sound.proofs.Tables.{chain-pass, zero-bits}
+use Rattle.book_sound.specs.Unused.{noContractTests}
+use Rattle.book_sound.proofs.Tables.{zero-bits}
 use Rattle.book_sound.proofs.agreement.is_no_contract.Statement.{statement}
 use Rattle.book_sound.proofs.agreement.is_no_contract.Tie as tie
 
@@ -18,20 +17,7 @@ returns : tie.Need-returns
 unfolding noContractTests pass
 returns c =
     let at = c .before .before .before .before .before .before .before .before .before .before .before .before in
-    let k = at .args .k in
-    rw (zero-bits (k .contracted .0) (fit at))
-    (chain-pass (eqb (k .days) 0)
-    (eqb (k .kind) 0
-    ∷ eqb (k .service) 0
-    ∷ isZero (k .contracted .0)
-    ∷ eqb (k .rampup) 0
-    ∷ eqb (k .rampdown) 0
-    ∷ eqb (k .response .0) 0
-    ∷ eqb (k .recovery .0) 0
-    ∷ eqb (k .availability) 0
-    ∷ eqb (k .utilisation) 0
-    ∷ eqb (k .optional) 0
-    ∷ []))
+    rw (zero-bits (at .args .k .contracted .0) (fit at)) (simp (and-assoc, and-true))
 
 pub is-no-contract-spec : {M : Type 1} → statement M
 is-no-contract-spec = tie.close (tie.spec returns)

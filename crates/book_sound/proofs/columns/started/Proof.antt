@@ -14,24 +14,18 @@ Inv-loop starts n m low₀ high₀ low high =
 abbrev μ-loop : tie.MeasureT-loop
 μ-loop starts n m low₀ high₀ low high = high - low
 
-loop-holds : tie.Need-loop-holds Inv-loop μ-loop
-loop-holds c = (search needs, search needs, λ i h. absurd (omega arith), λ i h k. absurd (omega arith))
-
 loop-again : tie.Need-loop-again Inv-loop μ-loop
 loop-again c =
-    let at = c .before .before .before in
-    let starts = at .before .args .starts .now in
-    let middle = at .loop .low + (at .loop .high - at .loop .low) / 2 in (
+    let at = c .before .before .before in (
       search needs,
       search needs,
-      λ i h. le-trans (at .before .pre .1 .upward i middle (omega arith) (omega arith)) (c .if1 .taken),
+      λ i h. le-trans (at .before .pre .1 .upward i _ (omega arith) (omega arith)) (c .if1 .taken),
       at .loop .inv .3,
     )
 
 loop-again-2 : tie.Need-loop-again-2 Inv-loop μ-loop
 loop-again-2 c =
     let at = c .before .before .before in
-    let starts = at .before .args .starts .now in
     let middle = at .loop .low + (at .loop .high - at .loop .low) / 2 in (
       search needs,
       search needs,
@@ -47,5 +41,6 @@ returns c =
 pub started-spec : {M : Type 1} → statement M
 started-spec =
     tie.close
-    (tie.spec Inv-loop μ-loop loop-holds (λ c. search needs) (λ c. search needs) (λ c. search needs) (λ c. search needs) (λ c. search needs)
-    (λ c. search needs) loop-again (λ c. search needs) loop-again-2 returns)
+    (tie.spec Inv-loop μ-loop (λ c. (search needs, search needs, λ i h. absurd (omega arith), λ i h k. absurd (omega arith))) (λ c. search needs)
+    (λ c. search needs) (λ c. search needs) (λ c. search needs) (λ c. search needs) (λ c. search needs) loop-again (λ c. search needs) loop-again-2
+    returns)

@@ -2,7 +2,8 @@
 use mathlib.Core.Bool.{and-true}
 use borrow.Author.Needs.{needs}
 use Rattle.rules.specs.Reached.{instructionsSound}
-use Rattle.book_sound.proofs.Walks.{instruction-input}
+use Rattle.commands.specs.declared.entries.Command.the-variants.{Instruction as instructionᶜ}
+use Rattle.commands.proofs.Input.{input-none}
 use Rattle.book_sound.proofs.instructions.instruction_fits.Statement.{statement}
 use Rattle.book_sound.proofs.instructions.instruction_fits.Tie as tie
 
@@ -11,7 +12,8 @@ unfolding instructionsSound
 returns c =
     let asked = c .before .before .before .before .before in
     let at = asked .before .before in
-    rw (asked .input-refusal .ensures, c .before .before .before .before .end-of .ensures .0, instruction-input (at .args .i), at .pre, and-true)
+    rw (asked .input-refusal .ensures, c .before .before .before .before .end-of .ensures .0, input-none (instructionᶜ (at .args .i)), at .pre)
+    (simp and-true)
 
 pub instruction-fits-spec : {M : Type 1} → statement M
 instruction-fits-spec =

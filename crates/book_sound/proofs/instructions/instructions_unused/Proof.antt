@@ -1,52 +1,30 @@
 -- `book_sound::instructions_unused` meets its contract: at each turn the test of all from n on is that of those not yet seen.
-use Prim.Native.Nat.{_≤_, _-_}
-use mathlib.Core.Path.{_≡_, refl}
+use Prim.Native.Nat.{_-_}
 use borrow.Author.Needs.{needs}
 use borrow.Author.Tests.{not-true, not-false}
-use lib.ListN.{length, drop}
+use lib.ListN.{drop}
 use Rattle.energy.specs.Lists.{all}
 use Rattle.rules.specs.Ledger.{noInstruction}
 use Rattle.book_sound.specs.Unused.{isNoInstruction}
 use Rattle.rules.proofs.Folds.{length-mapped}
-use Rattle.book_sound.proofs.Tables.{all-fails, all-on, all-passes}
+use Rattle.book_sound.proofs.Tables.{At, each, each-walk, from-entry, walk-fails, walk-on, walk-ends}
 use Rattle.book_sound.proofs.instructions.instructions_unused.Statement.{statement}
 use Rattle.book_sound.proofs.instructions.instructions_unused.Tie as tie
 
 abbrev Inv-loop : tie.InvT-loop
-Inv-loop n instructions x₀ x = (n ≤ x) × (x ≤ 64) × (all isNoInstruction (drop n instructions) ≡ all isNoInstruction (drop x instructions))
+Inv-loop n instructions x₀ x = At (each isNoInstruction) (all isNoInstruction (drop n instructions)) instructions 64 tt x
 
 abbrev μ-loop : tie.MeasureT-loop
 μ-loop n instructions x₀ x = 64 - x
 
--- the table's length
-cells : (c : tie.Start Inv-loop μ-loop) → length (c .args .t1) ≡ 64
-cells c = search (length-mapped, needs)
-
-loop-holds : tie.Need-loop-holds Inv-loop μ-loop
-loop-holds c = (search needs, search needs, refl)
-
-returns : tie.Need-returns Inv-loop μ-loop
-returns c =
-    let at = c .before .before .before .before .before in
-    all-fails isNoInstruction (at .before .args .t1) (at .before .args .n) (at .loop .x) noInstruction (at .loop .inv .2)
-    (rw (cells (at .before)) (search needs)) (not-true _ (c .if1 .taken))
-
-loop-again : tie.Need-loop-again Inv-loop μ-loop
-loop-again c =
-    let at = c .before .before .before .before .before in (
-      search needs,
-      search needs,
-      all-on isNoInstruction (at .before .args .t1) (at .before .args .n) (at .loop .x) noInstruction (at .loop .inv .2)
-          (rw (cells (at .before)) (search needs)) (not-false _ (c .if1 .left)),
-    )
-
-returns-2 : tie.Need-returns-2 Inv-loop μ-loop
-returns-2 c =
-    let at = c .before in
-    all-passes isNoInstruction (at .before .args .t1) (at .before .args .n) (at .loop .x) noInstruction (at .loop .inv .2)
-    (rw (cells (at .before)) (search needs))
-
 pub instructions-unused-spec : {M : Type 1} → statement M
 instructions-unused-spec =
     tie.close
-    (tie.spec Inv-loop μ-loop loop-holds (λ c. search needs) (λ c. search needs) returns (λ c. search needs) (λ c. search needs) loop-again returns-2)
+    (tie.spec Inv-loop μ-loop (λ c. from-entry isNoInstruction (c .args .t1) (c .args .n) 64 (search (length-mapped, needs)))
+    (λ c. search needs) (λ c. search needs)
+    (λ c. walk-fails (each-walk isNoInstruction) noInstruction (c .before .before .before .before .before .loop .inv)
+    (search needs) (not-true _ (c .if1 .taken)))
+    (λ c. search needs) (λ c. search needs)
+    (λ c. walk-on (each-walk isNoInstruction) noInstruction (c .before .before .before .before .before .loop .inv)
+    (search needs) (not-false _ (c .if1 .left)))
+    (λ c. walk-ends (each-walk isNoInstruction) noInstruction (c .before .loop .inv) (search needs)))

@@ -5,15 +5,16 @@ use native.Mathlib.Omega.{arith}
 use borrow.Author.Needs.{needs}
 use borrow.Author.Tests.{not-true, not-false}
 use lib.ListN.{length, take}
-use lib.Seq.{slice, slice-empty}
+use Rattle.rules.specs.Ledger.{noWindow}
 use Rattle.rules.specs.Reached.{windowsSound}
 use Rattle.rules.proofs.Folds.{length-mapped}
-use Rattle.book_sound.proofs.Walks.{windows-fail, windows-on}
+use Rattle.book_sound.proofs.Tables.{At, walk-fails, walk-on, walk-ends}
+use Rattle.book_sound.proofs.Walks.{windows-walk}
 use Rattle.book_sound.proofs.windows.windows_sound.Statement.{statement}
 use Rattle.book_sound.proofs.windows.windows_sound.Tie as tie
 
 abbrev Inv-loop : tie.InvT-loop
-Inv-loop k span n windows end₀ i₀ end i = (i ≤ n) × (windowsSound k span 0 (take n windows) ≡ windowsSound k span (end .0) (slice i n windows))
+Inv-loop k span n windows end₀ i₀ end i = At (windowsSound k span) (windowsSound k span 0 (take n windows)) windows n (end .0) i
 
 abbrev μ-loop : tie.MeasureT-loop
 μ-loop k span n windows end₀ i₀ end i = n - i
@@ -22,34 +23,18 @@ abbrev μ-loop : tie.MeasureT-loop
 room : (c : tie.Start Inv-loop μ-loop) → c .args .n ≤ length (c .args .t3)
 room c = let cells : length (c .args .t3) ≡ 128 = search (length-mapped, needs) in omega (arith, c .pre)
 
-loop-holds : tie.Need-loop-holds Inv-loop μ-loop
-loop-holds c = (search needs, refl)
-
 returns : tie.Need-returns Inv-loop μ-loop
 returns c =
-    let at = c .before .before .before .before in
-    let b = at .before .args in
-    windows-fail (b .k) (b .span) (at .loop .end .0) (b .t3) (at .loop .i) (b .n) (omega arith) (room (at .before)) (at .loop .inv .1)
+    walk-fails (windows-walk _ _) noWindow (c .before .before .before .before .loop .inv) (search needs)
     (sym (c .before .window-fits .ensures) ∙ not-true _ (c .if1 .taken))
 
 loop-again : tie.Need-loop-again Inv-loop μ-loop
 loop-again c =
-    let at = c .before .before .before .before .before in
-    let b = at .before .args in (
-      search needs,
-      windows-on (b .k) (b .span) (at .loop .end .0) (b .t3) (at .loop .i) (b .n) (omega arith) (room (at .before)) (at .loop .inv .1)
-          (sym (c .before .before .window-fits .ensures) ∙ not-false _ (c .before .if1 .left)),
-    )
-
-returns-2 : tie.Need-returns-2 Inv-loop μ-loop
-unfolding windowsSound
-returns-2 c =
-    let at = c .before in
-    let end : at .loop .i ≡ at .before .args .n = omega arith in
-    sym (at .loop .inv .1 ∙ rw (end, slice-empty (at .before .args .n) (at .before .args .t3)))
+    walk-on (windows-walk _ _) noWindow (c .before .before .before .before .before .loop .inv) (search needs)
+    (sym (c .before .before .window-fits .ensures) ∙ not-false _ (c .before .if1 .left))
 
 pub windows-sound-spec : {M : Type 1} → statement M
 windows-sound-spec =
     tie.close
-    (tie.spec Inv-loop μ-loop loop-holds (λ c. search needs) (λ c. search needs) (λ c κs. search needs) returns (λ c. search needs)
-    (λ c. search needs) loop-again returns-2)
+    (tie.spec Inv-loop μ-loop (λ c. record { used = room c; same = refl }) (λ c. search needs) (λ c. search needs) (λ c κs. search needs) returns
+    (λ c. search needs) (λ c. search needs) loop-again (λ c. walk-ends (windows-walk _ _) noWindow (c .before .loop .inv) (search needs)))

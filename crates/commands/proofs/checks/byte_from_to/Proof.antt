@@ -3,8 +3,5 @@ use borrow.Author.Needs.{needs}
 use Rattle.commands.proofs.checks.byte_from_to.Statement.{statement}
 use Rattle.commands.proofs.checks.byte_from_to.Tie as tie
 
-returns : tie.Need-returns
-returns c = search needs
-
 pub byte-from-to-spec : {M : Type 1} → statement M
-byte-from-to-spec = tie.close (tie.spec returns)
+byte-from-to-spec = tie.close (tie.spec (λ c. search needs))

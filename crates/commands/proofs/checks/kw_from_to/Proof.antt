@@ -3,8 +3,5 @@ use borrow.Author.Needs.{needs}
 use Rattle.commands.proofs.checks.kw_from_to.Statement.{statement}
 use Rattle.commands.proofs.checks.kw_from_to.Tie as tie
 
-returns : tie.Need-returns
-returns c = search needs
-
 pub kw-from-to-spec : {M : Type 1} → statement M
-kw-from-to-spec = tie.close (tie.spec returns)
+kw-from-to-spec = tie.close (tie.spec (λ c. search needs))

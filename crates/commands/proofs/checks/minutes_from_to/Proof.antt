@@ -3,8 +3,5 @@ use borrow.Author.Needs.{needs}
 use Rattle.commands.proofs.checks.minutes_from_to.Statement.{statement}
 use Rattle.commands.proofs.checks.minutes_from_to.Tie as tie
 
-returns : tie.Need-returns
-returns c = search needs
-
 pub minutes-from-to-spec : {M : Type 1} → statement M
-minutes-from-to-spec = tie.close (tie.spec returns)
+minutes-from-to-spec = tie.close (tie.spec (λ c. search needs))

@@ -3,8 +3,5 @@ use borrow.Author.Needs.{needs}
 use Rattle.commands.proofs.checks.number_from_to.Statement.{statement}
 use Rattle.commands.proofs.checks.number_from_to.Tie as tie
 
-returns : tie.Need-returns
-returns c = search needs
-
 pub number-from-to-spec : {M : Type 1} → statement M
-number-from-to-spec = tie.close (tie.spec returns)
+number-from-to-spec = tie.close (tie.spec (λ c. search needs))

@@ -67,25 +67,11 @@ over c =
     let test = simp (toZ-ofZ, f .fn, f .fd, f .fr, f .f2) at (c .if1 .taken) in
     omega (arith, testsℤ, mul-parts (pos 2) (r s))
 
-not-over : (c : tie.Else1) → 2 * up (r (c .before)) < d (c .before) + 2 * down (r (c .before))
-not-over c =
-    let s = c .before in
-    let f = fit s in
-    let test = simp (toZ-ofZ, f .fn, f .fd, f .fr, f .f2) at (c .if1 .left) in
-    omega (arith, testsℤ, mul-parts (pos 2) (r s))
-
 under : (c : tie.Then2) → 2 * up (r (c .before .before)) + d (c .before .before) < 2 * down (r (c .before .before))
 under c =
     let s = c .before .before in
     let f = fit s in
     let test = simp (toZ-ofZ, f .fn, f .fd, f .fr, f .f2, f .fm) at (c .if2 .taken) in
-    omega (arith, testsℤ, mul-parts (pos 2) (r s), diff-parts (pos 0) (pos (d s)))
-
-not-under : (c : tie.Else2) → 2 * down (r (c .before .before)) ≤ 2 * up (r (c .before .before)) + d (c .before .before)
-not-under c =
-    let s = c .before .before in
-    let f = fit s in
-    let test = simp (toZ-ofZ, f .fn, f .fd, f .fr, f .f2, f .fm) at (c .if2 .left) in
     omega (arith, testsℤ, mul-parts (pos 2) (r s), diff-parts (pos 0) (pos (d s)))
 
 -- a remainder that is at least half of d needs a d of 2 or more, and the quotient is then at most half of n
@@ -125,7 +111,11 @@ returns-3 : tie.Need-returns-3
 returns-3 c =
     let s = c .before .before in
     let f = fit s in
-    simp (toZ-ofZ, f .fn, f .fd, f .fq) (nearest-by (n s) (d s) (q s) (omega (arith, quot-rem (n s) (d s) (s .pre), not-over (c .before), not-under c)))
+    let not-over = simp (toZ-ofZ, f .fn, f .fd, f .fr, f .f2) at (c .before .if1 .left) in
+    let not-under = simp (toZ-ofZ, f .fn, f .fd, f .fr, f .f2, f .fm) at (c .if2 .left) in
+    simp (toZ-ofZ, f .fn, f .fd, f .fq)
+    (nearest-by (n s) (d s) (q s)
+    (omega (arith, testsℤ, quot-rem (n s) (d s) (s .pre), mul-parts (pos 2) (r s), diff-parts (pos 0) (pos (d s)))))
 
 pub quotient-spec : {M : Type 1} → statement M
 quotient-spec =

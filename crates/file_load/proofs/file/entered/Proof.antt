@@ -4,11 +4,8 @@ use borrow.Author.Needs.{needs}
 use Rattle.file_load.proofs.file.entered.Statement.{statement}
 use Rattle.file_load.proofs.file.entered.Tie as tie
 
-returns : tie.Need-returns
-returns c = rw (c .enum-told .given .1) refl
-
-returns-2 : tie.Need-returns-2
-returns-2 c = rw (c .before .before .answer .given .1) (c .stopped .ensures)
-
 pub entered-spec : {M : Type 1} → statement M
-entered-spec = tie.close (tie.spec (λ c. search needs) (λ c. search needs) (λ c κs. search needs) returns returns-2)
+entered-spec =
+    tie.close
+    (tie.spec (λ c. search needs) (λ c. search needs) (λ c κs. search needs) (λ c. rw (c .enum-told .given .1) refl)
+    (λ c. rw (c .before .before .answer .given .1) (c .stopped .ensures)))

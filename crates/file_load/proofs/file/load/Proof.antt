@@ -12,7 +12,7 @@ use Rattle.book.proofs.StaysSound.{Kept}
 use Rattle.rules.proofs.Folds.{length-mapped}
 use Rattle.file_load.specs.Load.{load}
 use Rattle.file_load.proofs.From.{from}
-use Rattle.file_load.proofs.Turns.{rest, more, again, keeps, inside, less, run-again}
+use Rattle.file_load.proofs.Turns.{rest, more, turned, run-again}
 use Rattle.file_load.proofs.file.load.Statement.{statement}
 use Rattle.file_load.proofs.file.load.Tie as tie
 
@@ -31,23 +31,14 @@ shaped c = record { windows = search (length-mapped, needs); instructions = sear
 loop-holds : tie.Need-loop-holds Inv-loop μ-loop
 loop-holds c = (refl, record { sound = c .before .before .pre; shaped = shaped (c .before .before) }, omega arith, refl, c .open-span .ensures)
 
-read-and-enter-requires : tie.Need-read-and-enter-requires Inv-loop μ-loop
-read-and-enter-requires c κs = c .before .before .before .before .before .before .loop .inv .1 .sound
-
 loop-less : tie.Need-loop-less Inv-loop μ-loop
 loop-less c =
     let d = c .before .before .before .before in
     let r = d .before .before .before in
     let at = r .before .before .before .before in
-    let e = d .read-and-enter .ensures in
+    let turn = turned (at .before .before .before .args .s .now) (r .take-readings .result) (at .loop .l .book) _ (d .read-and-enter .ensures) in
     let run = r .take-readings .ensures .0 in
-    rw (r .before .before .before .loop-test .taken)
-    (omega (
-      arith,
-      run .forward,
-      less (at .before .before .before .args .s .now) (r .take-readings .result) (at .loop .l .book) _
-          (d .read-and-enter .result) _ (e .0) (e .1) (run .inside (at .loop .inv .2)),
-    ))
+    rw (r .before .before .before .loop-test .taken) (omega (arith, run .forward, turn .less (run .inside (at .loop .inv .2))))
 
 loop-again : tie.Need-loop-again Inv-loop μ-loop
 loop-again c =
@@ -55,20 +46,17 @@ loop-again c =
     let r = d .before .before .before in
     let at = r .before .before .before .before in
     let s = at .before .before .before .args .s .now in
-    let e = d .read-and-enter .ensures in
+    let turn = turned s (r .take-readings .result) (at .loop .l .book) _ (d .read-and-enter .ensures) in
     let run = r .take-readings .ensures .0 in
     let inv = at .loop .inv in (
-      sym (again s (r .take-readings .result) (at .loop .l .book) _ (d .read-and-enter .result) _ (e .0) (e .1))
+      sym (turn .again)
           ∙ sym (run-again s (at .loop .l .at) (at .loop .l .book) (at .loop .span) (lent (at .loop .meter)) _ _ run (inv .1) (inv .4))
           ∙ (rw (r .before .before .before .loop-test .taken) at (inv .0)),
-      keeps s (r .take-readings .result) (at .loop .l .book) _ (d .read-and-enter .result) _ (e .0) (e .1) (inv .1),
-      inside s (r .take-readings .result) (at .loop .l .book) _ (d .read-and-enter .result) _ (e .0) (e .1) (run .inside (inv .2)),
+      turn .keeps (inv .1),
+      turn .inside (run .inside (inv .2)),
       search needs,
       c .open-span2 .ensures,
     )
-
-same-length : tie.Need-same-length Inv-loop μ-loop
-same-length c = c .before .loop .inv .3
 
 returns : tie.Need-returns Inv-loop μ-loop
 unfolding load from
@@ -80,5 +68,6 @@ returns c =
 pub load-spec : {M : Type 1} → statement M
 load-spec =
     tie.close
-    (tie.spec Inv-loop μ-loop (λ c κs. search needs) loop-holds (λ c κs. search needs) read-and-enter-requires (λ c κs. search needs) loop-less
-    loop-again same-length returns)
+    (tie.spec Inv-loop μ-loop (λ c κs. search needs) loop-holds (λ c κs. search needs)
+    (λ c κs. c .before .before .before .before .before .before .loop .inv .1 .sound) (λ c κs. search needs) loop-less loop-again
+    (λ c. c .before .loop .inv .3) returns)

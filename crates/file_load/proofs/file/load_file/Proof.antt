@@ -6,13 +6,8 @@ use Rattle.book.proofs.Follow.{starts}
 use Rattle.file_load.proofs.file.load_file.Statement.{statement}
 use Rattle.file_load.proofs.file.load_file.Tie as tie
 
-load-requires : tie.Need-load-requires
-load-requires c κs = rw (c .before .empty .ensures) (starts (lent []) .sound)
-
-returns : tie.Need-returns
-returns c =
-    let e = c .before .load .ensures in
-    rw (← c .before .before .before .empty .ensures) (e .0, e .1, e .2)
-
 pub load-file-spec : {M : Type 1} → statement M
-load-file-spec = tie.close (tie.spec (λ c κs. search needs) load-requires (λ c. search needs) returns)
+load-file-spec =
+    tie.close
+    (tie.spec (λ c κs. search needs) (λ c κs. rw (c .before .empty .ensures) (starts (lent []) .sound)) (λ c. search needs)
+    (λ c. let e = c .before .load .ensures in rw (← c .before .before .before .empty .ensures) (e .0, e .1, e .2)))

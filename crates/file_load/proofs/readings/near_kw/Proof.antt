@@ -18,13 +18,12 @@ number c = toZ-pos w64 (omega arith)
 fits : (c : tie.Start) → SFits w64 (toZ w64 (raised (c .args .number)) -ℤ pos 500000)
 fits c = rw (number c) (fits-parts w64 _ (omega (arith, exact (diff-parts (pos (raised (c .args .number))) (pos 500000)))))
 
-sub-result : tie.Need-sub-result
-sub-result c = fits (c .before .before .before .before)
-
 returns : tie.Need-returns
 returns c =
     let a = c .before .before .before .before in
     rw (toZ-ofZ (fits a), number a) (near-cell (a .args .number) (a .pre))
 
 pub near-kw-spec : {M : Type 1} → statement M
-near-kw-spec = tie.close (tie.spec (λ c. search needs) (λ c. search needs) (λ c. search needs) sub-result returns)
+near-kw-spec =
+    tie.close
+    (tie.spec (λ c. search needs) (λ c. search needs) (λ c. search needs) (λ c. fits (c .before .before .before .before)) returns)

@@ -17,26 +17,19 @@ below : (i : ℕ) (c : tie.After-shared-slice-known) (n : ℕ) → wordFrom 0 (t
 below i c n = word-below i (drop n (c .before .args .s .now)) (λ k. rw getD-drop (c .shared-slice-known .given (n + k) .fits))
 
 minute : (c : tie.After-number-in)
-    → c .number-in .result ≡ wordFrom 0 (take 2 (drop (c .before .before .before .args .at + 1) (c .before .before .before .args .s .now)))
+    → let a = c .before .before .before .args in c .number-in .result ≡ wordFrom 0 (take 2 (drop (a .at + 1) (a .s .now)))
 minute c =
     let at = c .before .before .before .args .at in
     let two : at + 1 + 2 - (at + 1) ≡ 2 = omega arith in
     rw two at (c .number-in .ensures)
 
-cast-t13 : tie.Need-cast-t13
-cast-t13 c = record { fits = rw (minute c) (below 2 (c .before .before) (c .before .before .before .args .at + 1)) }
-
 kw : (c : tie.After-number-in2)
-    → c .number-in2 .result ≡ wordFrom 0 (take 4 (drop (c .before .before .before .before .before .args .at + 3)
-    (c .before .before .before .before .before .args .s .now)))
+    → let a = c .before .before .before .before .before .args in c .number-in2 .result ≡ wordFrom 0 (take 4 (drop (a .at + 3) (a .s .now)))
 kw c =
     let at = c .before .before .before .before .before .args .at in
     let four : at + 1 + 2 + 4 - (at + 1 + 2) ≡ 4 = omega arith in
     let three : at + 1 + 2 ≡ at + 3 = omega arith in
     rw (four, three) at (c .number-in2 .ensures)
-
-near-kw-requires : tie.Need-near-kw-requires
-near-kw-requires c κs = rw (kw c) (below 4 (c .before .before .before .before) (c .before .before .before .before .before .args .at + 3))
 
 returns : tie.Need-returns
 returns c = (
@@ -48,5 +41,7 @@ pub near-reading-spec : {M : Type 1} → statement M
 near-reading-spec =
     tie.close
     (tie.spec (λ c. search needs) (λ c. search needs) (λ c. search needs) (λ c. search needs) (λ c. search needs) (λ c. search needs)
-    (λ c. search needs) (λ c. search needs) (λ c κs. search needs) cast-t13 (λ c. search needs) (λ c. search needs) (λ c. search needs)
-    (λ c κs. search needs) near-kw-requires returns)
+    (λ c. search needs) (λ c. search needs) (λ c κs. search needs)
+    (λ c. record { fits = rw (minute c) (below 2 (c .before .before) (c .before .before .before .args .at + 1)) }) (λ c. search needs)
+    (λ c. search needs) (λ c. search needs) (λ c κs. search needs)
+    (λ c κs. rw (kw c) (below 4 (c .before .before .before .before) (c .before .before .before .before .before .args .at + 3))) returns)

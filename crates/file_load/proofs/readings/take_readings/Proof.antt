@@ -28,9 +28,6 @@ stands : (c : tie.Then1 Inv-loop μ-loop)
     (at + 7 ≤ length s) × (getD s at 0 ≡ 0x4D)
 stands c = whole _ _ (sym (c .before .whole-reading .ensures) ∙ c .if1 .taken)
 
-take-at-requires : tie.Need-take-at-requires Inv-loop μ-loop
-take-at-requires c κs = stands (c .before)
-
 -- a turn more
 turned : (c : tie.After-take-at Inv-loop μ-loop)
     → let l = c .before .before .before .before in
@@ -47,23 +44,13 @@ returns c =
     let left = not-true (d .take-at .result) (c .if2 .taken) in
     (rw left at (turned d), still _ _ _ (lent (d .before .before .before .before .loop .meter)) _ (rw left at (d .take-at .ensures)))
 
-add-at : tie.Need-add-at Inv-loop μ-loop
-add-at c = record { fits = omega (arith, stands (c .before .before .before .before) .0) }
-
-loop-less : tie.Need-loop-less Inv-loop μ-loop
-loop-less c = omega (arith, stands (c .before .before .before .before) .0)
-
 loop-again : tie.Need-loop-again Inv-loop μ-loop
 loop-again c = (rw (not-false (c .before .before .take-at .result) (c .if2 .left)) at (turned (c .before .before)), search needs)
-
-same-length-2 : tie.Need-same-length-2 Inv-loop μ-loop
-same-length-2 c = c .before .before .loop .inv .1
-
-returns-2 : tie.Need-returns-2 Inv-loop μ-loop
-returns-2 c = (c .before .before .loop .inv .0, no-reading _ _ _ _ (sym (c .before .whole-reading .ensures) ∙ c .if1 .left))
 
 pub take-readings-spec : {M : Type 1} → statement M
 take-readings-spec =
     tie.close
-    (tie.spec Inv-loop μ-loop loop-holds (λ c κs. search needs) take-at-requires (λ c. search needs) returns (λ c. search needs) add-at loop-less
-    loop-again same-length-2 returns-2)
+    (tie.spec Inv-loop μ-loop loop-holds (λ c κs. search needs) (λ c κs. stands (c .before)) (λ c. search needs) returns (λ c. search needs)
+    (λ c. record { fits = omega (arith, stands (c .before .before .before .before) .0) })
+    (λ c. omega (arith, stands (c .before .before .before .before) .0)) loop-again (λ c. c .before .before .loop .inv .1)
+    (λ c. (c .before .before .loop .inv .0, no-reading _ _ _ _ (sym (c .before .whole-reading .ensures) ∙ c .if1 .left))))

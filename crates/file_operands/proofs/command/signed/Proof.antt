@@ -20,16 +20,9 @@ upper c = let n = c .before .args .number in rw (toZ-pos w64 {n = n} (omega arit
 fits : (c : tie.Else1) → SFits w64 (toZ w64 (c .before .args .number) -ℤ pos 4294967296)
 fits c = rw (upper c) (record { sfits = omega arith })
 
-sub-result : tie.Need-sub-result
-sub-result c = fits c
-
-returns : tie.Need-returns
-unfolding signedOf
-returns c = rw (lt-ltb _ _ (c .if1 .taken)) (toZ-pos w64 (omega arith))
-
-returns-2 : tie.Need-returns-2
-unfolding signedOf
-returns-2 c = rw (le-ltb _ _ (c .if1 .left)) (toZ-ofZ (fits c) ∙ upper c)
-
 pub signed-spec : {M : Type 1} → statement M
-signed-spec = tie.close (tie.spec (λ c. search needs) sub-result returns returns-2)
+unfolding signedOf
+signed-spec =
+    tie.close
+    (tie.spec (λ c. search needs) fits (λ c. rw (lt-ltb _ _ (c .if1 .taken)) (toZ-pos w64 (omega arith)))
+    (λ c. rw (le-ltb _ _ (c .if1 .left)) (toZ-ofZ (fits c) ∙ upper c)))

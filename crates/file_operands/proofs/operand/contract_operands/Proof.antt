@@ -7,9 +7,6 @@ use borrow.Author.Needs.{needs}
 use Rattle.file_operands.proofs.operand.contract_operands.Statement.{statement}
 use Rattle.file_operands.proofs.operand.contract_operands.Tie as tie
 
-cast-t15 : tie.Need-cast-t15
-cast-t15 c = omega (arith, c .struct-known10 .given)
-
 returns : tie.Need-returns
 returns c =
     let f : SFits w64 (c .before .before .before .before .before .before .before .before .before .before .before .before .before .before .before .args .k
@@ -21,4 +18,4 @@ pub contract-operands-spec : {M : Type 1} → statement M
 contract-operands-spec =
     tie.close
     (tie.spec (λ c. search needs) (λ c. search needs) (λ c. search needs) (λ c κs. search needs) (λ c. search needs) (λ c. search needs)
-    (λ c. search needs) (λ c. search needs) (λ c. search needs) (λ c. search needs) cast-t15 returns)
+    (λ c. search needs) (λ c. search needs) (λ c. search needs) (λ c. search needs) (λ c. omega (arith, c .struct-known10 .given)) returns)

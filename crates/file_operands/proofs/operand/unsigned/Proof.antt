@@ -17,17 +17,11 @@ high c = rw (toZ-ofZ (c .before .fits .number)) at (c .if1 .left)
 near : (c : tie.Else2) → ltZ (c .before .before .args .number +ℤ pos 4294967296) (pos 0) ≡ false
 near c = let f = c .before .before .fits .number in rw (toZ-ofZ f, toZ-ofZ (raised-fits _ f (low (c .before)))) at (c .if2 .left)
 
-add-raised : tie.Need-add-raised
-add-raised c = let f = c .before .fits .number in rw (toZ-ofZ f) (raised-fits _ f (low c))
-
 cast-result : tie.Need-cast-result
 cast-result c =
     let f = c .before .before .fits .number in
     let r = raised-fits _ f (low (c .before)) in
     rw (toZ-ofZ f, toZ-ofZ r) (cast-up _ r (near c))
-
-cast-result-2 : tie.Need-cast-result-2
-cast-result-2 c = let f = c .before .fits .number in rw (toZ-ofZ f) (cast-up _ f (high c))
 
 returns : tie.Need-returns
 returns c =
@@ -41,9 +35,9 @@ returns-2 c =
     let l = low (c .before) in
     rw (toZ-ofZ f, toZ-ofZ (raised-fits _ f l)) (unsigned-near _ f l (near c))
 
-returns-3 : tie.Need-returns-3
-returns-3 c = let f = c .before .fits .number in rw (toZ-ofZ f) (unsigned-up _ f (high c))
-
 pub unsigned-spec : {M : Type 1} → statement M
 unsigned-spec =
-    tie.close (tie.spec add-raised cast-result cast-result-2 returns returns-2 returns-3)
+    tie.close
+    (tie.spec (λ c. let f = c .before .fits .number in rw (toZ-ofZ f) (raised-fits _ f (low c))) cast-result
+    (λ c. let f = c .before .fits .number in rw (toZ-ofZ f) (cast-up _ f (high c))) returns returns-2
+    (λ c. let f = c .before .fits .number in rw (toZ-ofZ f) (unsigned-up _ f (high c))))

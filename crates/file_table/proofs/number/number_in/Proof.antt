@@ -29,12 +29,6 @@ small c =
     (lt-of-lt-of-le (word-below (c .before .loop .i) (c .before .before .before .args .bytes .now) (λ k. c .before .before .shared-slice-known .given k .fits))
     (pow-le-pow-right (lit< tt) {i = c .before .loop .i} {j = 3} (omega arith)))
 
-mul-number : tie.Need-mul-number Inv-loop μ-loop
-mul-number c = omega (arith, small c)
-
-add-number : tie.Need-add-number Inv-loop μ-loop
-add-number c = omega (arith, small (c .before .before))
-
 loop-again : tie.Need-loop-again Inv-loop μ-loop
 loop-again c =
     let l = c .before .before .before .loop in
@@ -47,5 +41,5 @@ returns c = c .before .loop .inv .1 ∙ ap (wordFrom 0) (take-all (c .before .lo
 pub number-in-spec : {M : Type 1} → statement M
 number-in-spec =
     tie.close
-    (tie.spec Inv-loop μ-loop loop-holds (λ c. search needs) mul-number (λ c. search needs) (λ c κs. search needs) add-number (λ c. search needs)
-    (λ c. search needs) loop-again returns)
+    (tie.spec Inv-loop μ-loop loop-holds (λ c. search needs) (λ c. omega (arith, small c)) (λ c. search needs) (λ c κs. search needs)
+    (λ c. omega (arith, small (c .before .before))) (λ c. search needs) (λ c. search needs) loop-again returns)

@@ -11,17 +11,9 @@ Inv-loop number out₀ size rest₀ below₀ out rest below = Lowest number size
 abbrev μ-loop : tie.MeasureT-loop
 μ-loop number out₀ size rest₀ below₀ out rest below = size - below
 
-loop-holds : tie.Need-loop-holds Inv-loop μ-loop
-loop-holds c = lowest-none _ _
-
-loop-again : tie.Need-loop-again Inv-loop μ-loop
-loop-again c = lowest-more _ _ _ _ _ (search needs) (c .before .loop .inv)
-
-returns : tie.Need-returns Inv-loop μ-loop
-returns c = lowest-all _ _ _ _ _ (search needs) (c .before .loop .inv)
-
 pub put-number-spec : {M : Type 1} → statement M
 put-number-spec =
     tie.close
-    (tie.spec Inv-loop μ-loop loop-holds (λ c. search needs) (λ c. search needs) (λ c. search needs) (λ c. search needs) (λ c. search needs)
-    (λ c. search needs) loop-again (λ c. search needs) returns)
+    (tie.spec Inv-loop μ-loop (λ c. lowest-none _ _) (λ c. search needs) (λ c. search needs) (λ c. search needs) (λ c. search needs)
+    (λ c. search needs) (λ c. search needs) (λ c. lowest-more _ _ _ _ _ (search needs) (c .before .loop .inv)) (λ c. search needs)
+    (λ c. lowest-all _ _ _ _ _ (search needs) (c .before .loop .inv)))

@@ -3,14 +3,8 @@ use borrow.Author.Needs.{needs}
 use Rattle.file_write.proofs.entries.used.Statement.{statement}
 use Rattle.file_write.proofs.entries.used.Tie as tie
 
-returns : tie.Need-returns
-returns c = rw (c .enum-told .given .1)
-
-returns-2 : tie.Need-returns-2
-returns-2 c = rw (c .enum-told2 .given .1)
-
-returns-3 : tie.Need-returns-3
-returns-3 c = rw (c .enum-told3 .given .1)
-
 pub used-spec : {M : Type 1} → statement M
-used-spec = tie.close (tie.spec (λ c. search needs) (λ c. search needs) (λ c. search needs) returns returns-2 returns-3)
+used-spec =
+    tie.close
+    (tie.spec (λ c. search needs) (λ c. search needs) (λ c. search needs) (λ c. rw (c .enum-told .given .1)) (λ c. rw (c .enum-told2 .given .1))
+    (λ c. rw (c .enum-told3 .given .1)))

@@ -1,11 +1,15 @@
 -- `file_write::layout::put_book` meets its contract: each part goes after those before it.
+use mathlib.Core.List.{List}
+use Prim.Native.Nat.{ℕ, _+_, _<_}
 use borrow.Author.Needs.{needs}
+use lib.Dec.{lit<}
 use Rattle.book_memory.specs.Meter.{lent}
 use Rattle.book.specs.Sound.{Shaped}
 use Rattle.rules.proofs.Folds.{length-mapped}
-use Rattle.file_write.specs.Laid.{Tabled}
+use Rattle.file_write.specs.Laid.{Laid, Room, Tabled, parts}
 use Rattle.file_write.specs.declared.entries.Table.{Table}
-use Rattle.file_write.proofs.WrittenParts.{room-contract, room-windows, room-instructions, room-defaults, room-readings, room-close, parts-laid}
+use Rattle.file_write.proofs.WrittenLaid.{laid-none, room-turn, laid-turn}
+use Rattle.file_write.proofs.WrittenParts.{part, before, part-turns}
 use Rattle.file_write.proofs.WrittenBook.{tabled}
 use Rattle.file_write.proofs.layout.put_book.Statement.{statement}
 use Rattle.file_write.proofs.layout.put_book.Tie as tie
@@ -16,73 +20,71 @@ tables s = tabled (s .args .b) shaped (s .pre .0)
     shaped : Shaped (s .args .b)
     shaped = record { windows = search (length-mapped, needs); instructions = search (length-mapped, needs); defaults = search (length-mapped, needs) }
 
-put-if-requires : tie.Need-put-if-requires
-put-if-requires c κs =
-    let s = c .before .before .before in
-    room-contract (s .args .b) (lent (s .args .meter .now)) (s .pre .1)
+-- so many parts are laid
+record Stand (s : tie.Start) (k : ℕ) : Type 0 where
+  out : List ℕ
+  place : ℕ
+  laid : Laid (before (s .args .b) (lent (s .args .meter .now)) k) (s .args .out .now) 0 out place
 
-put-table-requires : tie.Need-put-table-requires
-put-table-requires c κs =
-    let c₁ = c .before .before .before in
-    let s = c₁ .before .before .before .before in
-    (tables s _, room-windows (s .args .b) (lent (s .args .meter .now)) (s .pre .1) (c₁ .put-if .ensures))
+all : (s : tie.Start) → Room (before (s .args .b) (lent (s .args .meter .now)) 6) (s .args .out .now) 0
+unfolding parts
+all s = s .pre .1
 
-put-table-requires-2 : tie.Need-put-table-requires-2
-put-table-requires-2 c κs =
-    let c₂ = c .before .before .before in
-    let c₁ = c₂ .before .before .before .before in
-    let s = c₁ .before .before .before .before in
-    (tables s _, room-instructions (s .args .b) (lent (s .args .meter .now)) (s .pre .1) (c₁ .put-if .ensures) (c₂ .put-table .ensures))
+-- room for the next one, and one more
+module _ {s : tie.Start} {k : ℕ} (at : Stand s k) (h : k < 6) where
+  next : Room (part (s .args .b) (lent (s .args .meter .now)) k) (at .out) (at .place)
+  next = room-turn (part-turns (s .args .b) (lent (s .args .meter .now))) (all s) h (at .laid)
 
-put-table-requires-3 : tie.Need-put-table-requires-3
-put-table-requires-3 c κs =
-    let c₃ = c .before .before .before in
-    let c₂ = c₃ .before .before .before .before in
-    let c₁ = c₂ .before .before .before .before in
-    let s = c₁ .before .before .before .before in
-    (tables s _, room-defaults (s .args .b) (lent (s .args .meter .now)) (s .pre .1) (c₁ .put-if .ensures) (c₂ .put-table .ensures) (c₃ .put-table2 .ensures))
+  abbrev more : {after : List ℕ} {place : ℕ} → Laid (part (s .args .b) (lent (s .args .meter .now)) k) (at .out) (at .place) after place
+      → Stand s (k + 1)
+  more l = record { out = _; place = _; laid = laid-turn (part-turns (s .args .b) (lent (s .args .meter .now))) (all s) h (at .laid) l }
+
+-- the function's start, as it is found after each call; and the parts that are laid before the first call and after each
+abbrev start₁ : tie.After-put-if → tie.Start
+start₁ c = c .before .before .before .before
+
+abbrev start₂ : tie.After-put-table → tie.Start
+start₂ c = start₁ (c .before .before .before .before)
+
+abbrev start₃ : tie.After-put-table2 → tie.Start
+start₃ c = start₂ (c .before .before .before .before)
+
+abbrev start₄ : tie.After-put-table3 → tie.Start
+start₄ c = start₃ (c .before .before .before .before)
+
+abbrev stand₀ : (s : tie.Start) → Stand s 0
+stand₀ s = record { out = s .args .out .now; place = 0; laid = laid-none _ _ }
+
+abbrev stand₁ : (c : tie.After-put-if) → Stand (start₁ c) 1
+stand₁ c = more (stand₀ (start₁ c)) (lit< tt) (c .put-if .ensures)
+
+abbrev stand₂ : (c : tie.After-put-table) → Stand (start₂ c) 2
+stand₂ c = more (stand₁ (c .before .before .before .before)) (lit< tt) (c .put-table .ensures)
+
+abbrev stand₃ : (c : tie.After-put-table2) → Stand (start₃ c) 3
+stand₃ c = more (stand₂ (c .before .before .before .before)) (lit< tt) (c .put-table2 .ensures)
+
+abbrev stand₄ : (c : tie.After-put-table3) → Stand (start₄ c) 4
+stand₄ c = more (stand₃ (c .before .before .before .before)) (lit< tt) (c .put-table3 .ensures)
+
+abbrev stand₅ : (c : tie.After-put-readings) → Stand (start₄ (c .before .before .before .before .before)) 5
+stand₅ c = more (stand₄ (c .before .before .before .before .before)) (lit< tt) (rw (c .before .before .span .ensures) at (c .put-readings .ensures))
 
 put-readings-requires : tie.Need-put-readings-requires
 put-readings-requires c κs =
     let c₄ = c .before .before .before .before in
-    let c₃ = c₄ .before .before .before .before in
-    let c₂ = c₃ .before .before .before .before in
-    let c₁ = c₂ .before .before .before .before in
-    let s = c₁ .before .before .before .before in
-    rw (c .before .span .ensures) (
-      s .pre .0 .memory,
-      s .pre .0 .month,
-      room-readings (s .args .b) (lent (s .args .meter .now)) (s .pre .1) (c₁ .put-if .ensures) (c₂ .put-table .ensures) (c₃ .put-table2 .ensures)
-          (c₄ .put-table3 .ensures),
-    )
-
-put-if-requires-2 : tie.Need-put-if-requires-2
-put-if-requires-2 c κs =
-    let c₅ = c .before .before .before in
-    let span = c₅ .before .before .span .ensures in
-    let c₄ = c₅ .before .before .before .before .before in
-    let c₃ = c₄ .before .before .before .before in
-    let c₂ = c₃ .before .before .before .before in
-    let c₁ = c₂ .before .before .before .before in
-    let s = c₁ .before .before .before .before in
-    room-close (s .args .b) (lent (s .args .meter .now)) (s .pre .1) (c₁ .put-if .ensures) (c₂ .put-table .ensures) (c₃ .put-table2 .ensures)
-    (c₄ .put-table3 .ensures) (rw span at (c₅ .put-readings .ensures))
+    let kept = start₄ c₄ .pre .0 in
+    rw (c .before .span .ensures) (kept .memory, kept .month, next (stand₄ c₄) (lit< tt))
 
 returns : tie.Need-returns
-returns c =
-    let c₆ = c .before .before in
-    let c₅ = c₆ .before .before .before .before in
-    let span = c₅ .before .before .span .ensures in
-    let c₄ = c₅ .before .before .before .before .before in
-    let c₃ = c₄ .before .before .before .before in
-    let c₂ = c₃ .before .before .before .before in
-    let c₁ = c₂ .before .before .before .before in
-    let s = c₁ .before .before .before .before in
-    parts-laid (s .args .b) (lent (s .args .meter .now)) (s .pre .1) (c₁ .put-if .ensures) (c₂ .put-table .ensures) (c₃ .put-table2 .ensures)
-    (c₄ .put-table3 .ensures) (rw span at (c₅ .put-readings .ensures)) (c₆ .put-if2 .ensures)
+unfolding parts
+returns c = more (stand₅ (c .before .before .before .before .before .before)) (lit< tt) (c .before .before .put-if2 .ensures) .laid
 
 pub put-book-spec : {M : Type 1} → statement M
 put-book-spec =
     tie.close
-    (tie.spec put-if-requires put-table-requires put-table-requires-2 put-table-requires-3 (λ c κs. search needs) put-readings-requires
-    put-if-requires-2 (λ c. search needs) returns)
+    (tie.spec (λ c κs. next (stand₀ (c .before .before .before)) (lit< tt))
+    (λ c κs. let d = c .before .before .before in (tables (start₁ d) _, next (stand₁ d) (lit< tt)))
+    (λ c κs. let d = c .before .before .before in (tables (start₂ d) _, next (stand₂ d) (lit< tt)))
+    (λ c κs. let d = c .before .before .before in (tables (start₃ d) _, next (stand₃ d) (lit< tt))) (λ c κs. search needs) put-readings-requires
+    (λ c κs. next (stand₅ (c .before .before .before)) (lit< tt)) (λ c. search needs) returns)

@@ -24,9 +24,6 @@ abbrev μ-loop : tie.MeasureT-loop
 loop-holds : tie.Need-loop-holds Inv-loop μ-loop
 loop-holds c = (search needs, rw (readings-none (lent (c .before .args .meter .now))) (laid-none _ _))
 
-cast-t9 : tie.Need-cast-t9 Inv-loop μ-loop
-cast-t9 c = omega (arith, c .before .before .before .pre .1)
-
 -- the cell of a minute of the span
 cell : (c : tie.After-put-cell-arg Inv-loop μ-loop) → let l = c .before .before in let cells = l .before .before .args .meter .now in
     toZ w32 (ofZ w32 (getD cells (l .loop .m) (pos 0))) ≡ kwAt (lent cells) (l .loop .m)
@@ -65,5 +62,5 @@ returns c =
 pub put-readings-spec : {M : Type 1} → statement M
 put-readings-spec =
     tie.close
-    (tie.spec Inv-loop μ-loop loop-holds cast-t9 (λ c. search needs) (λ c. search needs) put-cell-requires (λ c. search needs) (λ c. search needs) loop-again same-length
-    returns)
+    (tie.spec Inv-loop μ-loop loop-holds (λ c. omega (arith, c .before .before .before .pre .1)) (λ c. search needs) (λ c. search needs)
+    put-cell-requires (λ c. search needs) (λ c. search needs) loop-again same-length returns)

@@ -23,19 +23,13 @@ loop-holds c = (search needs, laid-none _ _)
 
 -- the turns, and room for all of them
 turns : (c : tie.After-used Inv-loop μ-loop)
-    → Turns (λ i. take i (placesIn (c .before .before .args .b) (c .before .before .args .table)))
-    (λ i. getD (placesIn (c .before .before .args .b) (c .before .before .args .table)) i closeᶜ ∷ []) (c .used .result)
+    → let places = placesIn (c .before .before .args .b) (c .before .before .args .table) in
+    Turns (λ i. take i places) (λ i. getD places i closeᶜ ∷ []) (c .used .result)
 turns c = entries-turns _ _ (rw (c .used .ensures) (c .before .before .pre .0 .few))
 
 room : (c : tie.After-used Inv-loop μ-loop)
-    → Room (take (c .used .result) (placesIn (c .before .before .args .b) (c .before .before .args .table))) (c .before .before .args .out .now)
-    (c .before .before .args .at)
+    → let a = c .before .before .args in Room (take (c .used .result) (placesIn (a .b) (a .table))) (a .out .now) (a .at)
 room c = rw (c .used .ensures) (c .before .before .pre .1)
-
-entry-requires : tie.Need-entry-requires Inv-loop μ-loop
-entry-requires c κs =
-    let u = c .before .before in
-    omega (arith, u .used .ensures, u .before .before .pre .0 .few)
 
 put-requires : tie.Need-put-requires Inv-loop μ-loop
 put-requires c κs =
@@ -66,5 +60,6 @@ returns c =
 pub put-table-spec : {M : Type 1} → statement M
 put-table-spec =
     tie.close
-    (tie.spec Inv-loop μ-loop (λ c κs. search needs) loop-holds entry-requires put-requires (λ c. search needs) (λ c. search needs) loop-again
-    same-length returns)
+    (tie.spec Inv-loop μ-loop (λ c κs. search needs) loop-holds
+    (λ c κs. let u = c .before .before in omega (arith, u .used .ensures, u .before .before .pre .0 .few)) put-requires (λ c. search needs)
+    (λ c. search needs) loop-again same-length returns)

@@ -1,5 +1,4 @@
 -- `file_write::length::as_long` meets its contract: a command is at most 32 bytes long.
-use mathlib.Core.Path.{ap}
 use native.Mathlib.Nat.{mul-le-mul}
 use native.Mathlib.Omega.{arith}
 use Prim.Native.Nat.{_*_, _≤_}
@@ -16,8 +15,5 @@ mul-result c =
     let most : a .n * c .length-of .result ≤ mostMinute * 32 = mul-le-mul (c .before .pre) short in
     record { fits = omega arith }
 
-returns : tie.Need-returns
-returns c = ap (λ n. c .before .args .n * n) (c .length-of .ensures)
-
 pub as-long-spec : {M : Type 1} → statement M
-as-long-spec = tie.close (tie.spec (λ c κs. search needs) mul-result returns)
+as-long-spec = tie.close (tie.spec (λ c κs. search needs) mul-result (λ c. cc))

@@ -22,81 +22,50 @@ tables s = tabled (s .args .b) shaped (s .pre)
     shaped : Shaped (s .args .b)
     shaped = record { windows = search (length-mapped, needs); instructions = search (length-mapped, needs); defaults = search (length-mapped, needs) }
 
-as-long-requires : tie.Need-as-long-requires
-as-long-requires c κs = omega (arith, c .once .ensures, once-most (c .before .before .args .b .agreed))
-
-table-length-requires : tie.Need-table-length-requires
-table-length-requires c κs = tables (c .before .before .before) _
-
-table-length-requires-2 : tie.Need-table-length-requires-2
-table-length-requires-2 c κs = tables (c .before .before .before .before) _
-
-table-length-requires-3 : tie.Need-table-length-requires-3
-table-length-requires-3 c κs = tables (c .before .before .before .before .before) _
-
-as-long-requires-2 : tie.Need-as-long-requires-2
-as-long-requires-2 c κs =
-    let s = c .before .before .before .before .before .before .before .before in
-    omega (arith, c .readings-in .ensures, readings-few (lent (s .args .meter .now)) (c .before .span .result), c .before .span .ensures, s .pre .month)
-
-as-long-requires-3 : tie.Need-as-long-requires-3
-as-long-requires-3 c κs =
-    omega (arith, c .once2 .ensures, once-most (c .before .before .before .before .before .before .before .before .before .before .args .b .closed))
-
--- the six lengths
+-- the six lengths, which are a small number
 whole : (c : tie.After-as-long3)
-    → c .before .before .before .before .before .before .before .before .as-long .result + c .before .before .before .before .before .before .before
-    .table-length .result
-    + c .before .before .before .before .before .before .table-length2 .result
-    + c .before .before .before .before .before .table-length3 .result
+    → let t = c .before .before .before .before .before in
+    let s = t .before .before .before .before .before .before in
+    let long = length (fileBytes (parts (s .args .b) (lent (s .args .meter .now)))) in
+    (t .before .before .before .as-long .result + t .before .before .table-length .result + t .before .table-length2 .result
+    + t .table-length3 .result
     + c .before .before .as-long2 .result
     + c .as-long3 .result
-    ≡ length (fileBytes (parts (c .before .before .before .before .before .before .before .before .before .before .before .args .b)
-    (lent (c .before .before .before .before .before .before .before .before .before .before .before .args .meter .now))))
+    ≡ long) × (long ≤ 2000000)
 whole c =
     let t = c .before .before .before .before .before in
     let s = t .before .before .before .before .before .before in
     let b = s .args .b in
+    let meter = lent (s .args .meter .now) in
     omega (
       arith,
       once-length (b .agreed) (contractᶜ (b .contract)) (t .before .before .before .before .once .ensures) (t .before .before .before .as-long .ensures),
       t .before .before .table-length .ensures,
       t .before .table-length2 .ensures,
       t .table-length3 .ensures,
-      readings-length (lent (s .args .meter .now)) _ (bookSpan b) (c .before .before .before .before .span .ensures)
-          (c .before .before .before .readings-in .ensures) (c .before .before .as-long2 .ensures),
+      readings-length meter _ (bookSpan b) (c .before .before .before .before .span .ensures) (c .before .before .before .readings-in .ensures)
+          (c .before .before .as-long2 .ensures),
       once-length (b .closed) closeᶜ (c .before .once2 .ensures) (c .as-long3 .ensures),
-      parts-length b (lent (s .args .meter .now)),
+      parts-length b meter,
+      parts-short b meter (tables s) (s .pre .month),
     )
 
-short : (c : tie.After-as-long3)
-    → length (fileBytes (parts (c .before .before .before .before .before .before .before .before .before .before .before .args .b)
-    (lent (c .before .before .before .before .before .before .before .before .before .before .before .args .meter .now)))) ≤ 2000000
-short c =
-    let s = c .before .before .before .before .before .before .before .before .before .before .before in
-    parts-short (s .args .b) (lent (s .args .meter .now)) (tables s) (s .pre .month)
+as-long-requires-2 : tie.Need-as-long-requires-2
+as-long-requires-2 c κs =
+    let s = c .before .before .before .before .before .before .before .before in
+    let few = readings-few (lent (s .args .meter .now)) (c .before .span .result) in
+    omega (arith, c .readings-in .ensures, few, c .before .span .ensures, s .pre .month)
 
-add-result : tie.Need-add-result
-add-result c = omega (arith, whole c, short c)
-
-add-result-2 : tie.Need-add-result-2
-add-result-2 c = omega (arith, whole c, short c)
-
-add-result-3 : tie.Need-add-result-3
-add-result-3 c = omega (arith, whole c, short c)
-
-add-result-4 : tie.Need-add-result-4
-add-result-4 c = omega (arith, whole c, short c)
-
-add-result-5 : tie.Need-add-result-5
-add-result-5 c = omega (arith, whole c, short c)
-
-returns : tie.Need-returns
-returns c = whole c
+as-long-requires-3 : tie.Need-as-long-requires-3
+as-long-requires-3 c κs =
+    let b = c .before .before .before .before .before .before .before .before .before .before .args .b in
+    omega (arith, c .once2 .ensures, once-most (b .closed))
 
 pub file-length-spec : {M : Type 1} → statement M
 file-length-spec =
     tie.close
-    (tie.spec (λ c κs. search needs) as-long-requires table-length-requires table-length-requires-2 table-length-requires-3 (λ c κs. search needs)
-    (λ c κs. search needs) as-long-requires-2 (λ c κs. search needs) as-long-requires-3 add-result add-result-2 add-result-3 add-result-4 add-result-5
-    returns)
+    (tie.spec (λ c κs. search needs) (λ c κs. omega (arith, c .once .ensures, once-most (c .before .before .args .b .agreed)))
+    (λ c κs. tables (c .before .before .before) _) (λ c κs. tables (c .before .before .before .before) _)
+    (λ c κs. tables (c .before .before .before .before .before) _) (λ c κs. search needs) (λ c κs. search needs) as-long-requires-2
+    (λ c κs. search needs) as-long-requires-3 (λ c. omega (arith, whole c)) (λ c. omega (arith, whole c)) (λ c. omega (arith, whole c))
+    (λ c. omega (arith, whole c)) (λ c. omega (arith, whole c)) (λ c. whole c .0))

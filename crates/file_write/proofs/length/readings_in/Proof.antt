@@ -51,5 +51,5 @@ returns c =
 pub readings-in-spec : {M : Type 1} → statement M
 readings-in-spec =
     tie.close
-    (tie.spec Inv-loop μ-loop loop-holds (λ c. search needs) (λ c. search needs) (λ c κs. search needs) (λ c κs. search needs) add-n (λ c. search needs) (λ c. search needs)
-    loop-again returns)
+    (tie.spec Inv-loop μ-loop loop-holds (λ c. search needs) (λ c. search needs) (λ c κs. search needs) (λ c κs. search needs) add-n
+    (λ c. search needs) (λ c. search needs) loop-again returns)

@@ -5,11 +5,7 @@ use borrow.Author.Tests.{le-ltb, lt-ltb}
 use Rattle.host.proofs.settling.line_room.Statement.{statement}
 use Rattle.host.proofs.settling.line_room.Tie as tie
 
-returns : tie.Need-returns
-returns c = (rw (lt-ltb _ _ (c .if1 .taken)) refl, omega arith)
-
-returns-2 : tie.Need-returns-2
-returns-2 c = (rw (le-ltb _ _ (c .if1 .left)) refl, omega arith)
-
 pub line-room-spec : {M : Type 1} → statement M
-line-room-spec = tie.close (tie.spec returns returns-2)
+line-room-spec =
+    tie.close
+    (tie.spec (λ c. (rw (lt-ltb _ _ (c .if1 .taken)) refl, omega arith)) (λ c. (rw (le-ltb _ _ (c .if1 .left)) refl, omega arith)))

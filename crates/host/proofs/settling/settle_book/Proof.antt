@@ -13,38 +13,31 @@ use Rattle.host.proofs.settling.settle_book.Tie as tie
 
 returns : tie.Need-returns
 returns c =
-    let a = c .before .before .before .before .before .before .before .before .args in
     let room = c .before .before .before .before .before .before .before .line-room in
     let s = c .before .before .before .before .before .settle-numbers in
-    short-taken (a .b) (lent (a .meter .now)) (a .lines .now) (a .sums .now) _ (room .result) (s .result) (room .ensures .0) (s .ensures .0) (s .ensures .1)
-    (c .if1 .taken) (c .before .enum-told .given .1)
+    short-taken _ _ _ _ _ _ (s .result) (room .ensures .0) (s .ensures .0) (s .ensures .1) (c .if1 .taken) (c .before .enum-told .given .1)
 
 put-sums-requires : tie.Need-put-sums-requires
 put-sums-requires c κs =
     let at = c .before .before .before .before .before .before .before .before .before in
-    let a = at .args in
     let room = c .before .before .before .before .before .before .before .before .line-room in
-    let s = c .before .before .before .before .before .before .settle-numbers in
-    let few = few-lines (a .b) (lent (a .meter .now)) (take (room .result) (a .lines .now)) in
-    let same = ap (λ (z : Settlement). z .statement .lines) (s .ensures .0) in
-    let size = length-take-le (room .result) (a .lines .now) (room .ensures .1) in
+    let few = few-lines (at .args .b) (lent (at .args .meter .now)) (take (room .result) (at .args .lines .now)) in
+    let same = ap (λ (z : Settlement). z .statement .lines) (c .before .before .before .before .before .before .settle-numbers .ensures .0) in
+    let size = length-take-le (room .result) (at .args .lines .now) (room .ensures .1) in
     (c .before .if1 .left, omega (arith, same, few, size, room .ensures .1, at .good .1 .1 .0 .0), at .pre)
 
 returns-2 : tie.Need-returns-2
 returns-2 c =
-    let a = c .before .before .before .before .before .before .before .before .before .before .before .args in
     let room = c .before .before .before .before .before .before .before .before .before .before .line-room in
     let s = c .before .before .before .before .before .before .before .before .settle-numbers in
-    long-taken (a .b) (lent (a .meter .now)) (a .lines .now) (a .sums .now) _ (room .result) (s .result) (room .ensures .0) (s .ensures .0) (s .ensures .1) _
-    (c .before .before .before .if1 .left) (c .before .before .before .before .enum-told .given .1) (c .before .put-sums .ensures)
+    long-taken _ _ _ _ _ _ (s .result) (room .ensures .0) (s .ensures .0) (s .ensures .1) _ (c .before .before .before .if1 .left)
+    (c .before .before .before .before .enum-told .given .1) (c .before .put-sums .ensures)
 
 returns-3 : tie.Need-returns-3
 returns-3 c =
-    let a = c .before .before .before .before .before .before .before .before .args in
     let room = c .before .before .before .before .before .before .before .line-room in
     let s = c .before .before .before .before .before .settle-numbers in
-    refused (a .b) (lent (a .meter .now)) (a .lines .now) (a .sums .now) _ (room .result) (s .result) (room .ensures .0) (s .ensures .0) (s .ensures .1)
-    (c .before .answer .given .0 .0) (c .before .answer .given .1)
+    refused _ _ _ _ _ _ (s .result) (room .ensures .0) (s .ensures .0) (s .ensures .1) _ (c .before .answer .given .1)
 
 pub settle-book-spec : {M : Type 1} → statement M
 settle-book-spec =

@@ -32,18 +32,16 @@ loop-holds c = (rw (c .empty .ensures) (starts (lent []) .sound), omega arith, r
 list-piece-requires : tie.Need-list-piece-requires Inv-loop μ-loop
 list-piece-requires c κs =
     let f = c .before .before .before .before .before .fill in
-    let t = c .before .before .before .before .before .before .before .loop in
-    let start = c .before .before .before .before .before .before .before .before .before .before in
+    let t = c .before .before .before .before .before .before .before in
+    let start = t .before .before .before in
     let small = file-length .counted (length (start .args .meter .now)) (omega (arith, start .pre)) in
-    (t .inv .0, f .ensures .2, omega (arith, far (t .inv .5), small, f .ensures .2, f .kept, t .inv .2, start .pre))
+    (t .loop .inv .0, f .ensures .2, omega (arith, far (t .loop .inv .5), small, f .ensures .2, f .kept, t .loop .inv .2, start .pre))
 
 -- the bytes that the buffer holds once it is filled
 met : (c : tie.After-list-piece Inv-loop μ-loop)
-    → Held (lent (c .before .before .before .before .before .before .before .before .before .before .before .args .meter .now))
-    (c .before .before .before .before .before .before .before .before .loop .e)
-    (lent (c .before .before .before .before .before .before .before .before .loop .meter))
-    (c .before .before .before .before .before .before .fill .last .0)
-    (c .before .before .before .before .before .before .fill .result)
+    → let f = c .before .before .before .before .before .before .fill in
+    let t = c .before .before .before .before .before .before .before .before in
+    Held (lent (t .before .before .before .args .meter .now)) (t .loop .e) (lent (t .loop .meter)) (f .last .0) (f .result)
 met c =
     let f = c .before .before .before .before .before .before .fill in
     let t = c .before .before .before .before .before .before .before .before .loop in
@@ -59,22 +57,16 @@ returns c =
 
 -- the loop goes on
 goes : (c : tie.Else1 Inv-loop μ-loop) → c .before .before .before .before .before .before .list-piece .result .piece .going ≡ true
-goes c = not-false (c .before .before .before .before .before .before .list-piece .result .piece .going) (c .if1 .left)
+goes c = not-false _ (c .if1 .left)
 
 loop-less : tie.Need-loop-less Inv-loop μ-loop
 loop-less c =
     let d = c .before .before .before .before .before .before .before in
-    let start = d .before .before .before .before .before .before .before .before .before .before .before in
+    let f = d .before .before .before .before .before .before .fill in
+    let t = d .before .before .before .before .before .before .before .before in
     omega (
       arith,
-      forward (met d) (d .list-piece .ensures .0) (goes (c .before))
-          (omega (
-            arith,
-            d .before .before .before .before .before .before .fill .kept,
-            d .before .before .before .before .before .before .before .before
-                .loop .inv .2,
-            start .pre,
-          )),
+      forward (met d) (d .list-piece .ensures .0) (goes (c .before)) (omega (arith, f .kept, t .loop .inv .2, t .before .before .before .pre)),
     )
 
 loop-again : tie.Need-loop-again Inv-loop μ-loop
@@ -92,15 +84,12 @@ loop-again c =
       again (met d) (l .ensures .0) (goes (c .before)),
     )
 
+-- memory keeps its length
 same-length : tie.Need-same-length Inv-loop μ-loop
 same-length c =
     let d = c .before .before .before .before .before .before in
-    search (
-      needs,
-      d .list-piece,
-      d .before .before .before .before .before .before .fill,
-      d .before .before .before .before .before .before .before .before .loop .inv,
-    )
+    let f = d .before .before .before .before .before .before .fill in
+    search (needs, d .list-piece, f, d .before .before .before .before .before .before .before .before .loop .inv)
 
 same-length-2 : tie.Need-same-length-2 Inv-loop μ-loop
 same-length-2 c =

@@ -1,28 +1,14 @@
 -- `lister_rows::rows::line_row` meets its contract. Each call puts a field behind the last, and a line of these types has at most 112 bytes. Assumes nothing.
-use Prim.Native.Nat.{_<_, _^_}
 use native.Mathlib.Omega.{arith}
 use borrow.Author.Needs.{needs}
 use mir.Syntax.{w64}
 use mir.Val.{SFits}
 use mir.Facts.{toZ-ofZ}
-use Rattle.rules.specs.declared.statement.Line.{Line}
 use Rattle.lister_rows.specs.Rows.{lineRow}
 use Rattle.lister_rows.proofs.Digits.{digits-length, signed-length}
-use Rattle.lister_rows.proofs.Appending.{counted, row-put}
+use Rattle.lister_rows.proofs.Appending.{row-put}
 use Rattle.lister_rows.proofs.rows.line_row.Statement.{statement}
 use Rattle.lister_rows.proofs.rows.line_row.Tie as tie
-
--- every number fits its type
-record Fit (l : Line) : Type 0 where
-  instruction : l .instruction < 2 ^ 32
-  period : l .period < 2 ^ 32
-  expected : SFits w64 (l .expected .0)
-  delivered : SFits w64 (l .delivered .0)
-  capped : SFits w64 (l .capped .0)
-  pence : SFits w64 (l .pence .0)
-
-fit : (c : tie.After-struct-told) → Fit (c .before .before .before .before .before .before .before .before .before .before .before .args .l)
-fit c = omega (arith, c .struct-told .given .1 .1 .1 .1)
 
 returns : tie.Need-returns
 unfolding lineRow
@@ -40,8 +26,22 @@ returns c =
     let r = c1 .before in
     let s = r .before in
     let l = s .before .args .l in
-    let f = fit (c7 .before) in
-    counted (lineRow l) (rw (
+    let told = c7 .before .struct-told .given in
+    let given = told .1 .1 .1 .1 in
+    let expected : SFits w64 (l .expected .0) = omega (arith, given) in
+    let delivered : SFits w64 (l .delivered .0) = omega (arith, given) in
+    let capped : SFits w64 (l .capped .0) = omega (arith, given) in
+    let pence : SFits w64 (l .pence .0) = omega (arith, given) in
+    row-put _ _ (omega (
+      arith,
+      digits-length (l .instruction) 9 (omega (arith, told .0)),
+      digits-length (l .period) 9 (omega (arith, told .1 .0)),
+      signed-length (l .expected .0) expected,
+      signed-length (l .delivered .0) delivered,
+      signed-length (l .capped .0) capped,
+      signed-length (l .pence .0) pence,
+    ))
+    (rw (
       c .put2 .ensures,
       c10 .amount4 .ensures,
       c9 .amount3 .ensures,
@@ -56,17 +56,7 @@ returns c =
       r .rate-letter .ensures,
       s .stage-letter .ensures,
     )
-    (simp (toZ-ofZ, f .expected, f .delivered, f .capped, f .pence)
-    (row-put _ _
-    (omega (
-      arith,
-      digits-length (l .instruction) 9 (omega (arith, f .instruction)),
-      digits-length (l .period) 9 (omega (arith, f .period)),
-      signed-length (l .expected .0) (f .expected),
-      signed-length (l .delivered .0) (f .delivered),
-      signed-length (l .capped .0) (f .capped),
-      signed-length (l .pence .0) (f .pence),
-    )))))
+    (simp (toZ-ofZ, expected, delivered, capped, pence)))
 
 pub line-row-spec : {M : Type 1} → statement M
 line-row-spec =

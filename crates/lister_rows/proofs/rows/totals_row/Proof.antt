@@ -3,22 +3,11 @@ use native.Mathlib.Omega.{arith}
 use mir.Syntax.{w64}
 use mir.Val.{SFits}
 use mir.Facts.{toZ-ofZ}
-use Rattle.rules.specs.declared.statement.Statement.{Statement}
 use Rattle.lister_rows.specs.Rows.{totalsRow}
 use Rattle.lister_rows.proofs.Digits.{signed-length}
-use Rattle.lister_rows.proofs.Appending.{counted, row-put}
+use Rattle.lister_rows.proofs.Appending.{row-put}
 use Rattle.lister_rows.proofs.rows.totals_row.Statement.{statement}
 use Rattle.lister_rows.proofs.rows.totals_row.Tie as tie
-
--- every number fits its type
-record Fit (s : Statement) : Type 0 where
-  capped : SFits w64 (s .capped .0)
-  utilisation : SFits w64 (s .utilisation .0)
-  availability : SFits w64 (s .availability .0)
-  total : SFits w64 (s .total .0)
-
-fit : (c : tie.After-struct-told) → Fit (c .before .before .before .args .s)
-fit c = omega arith
 
 returns : tie.Need-returns
 unfolding totalsRow
@@ -30,8 +19,19 @@ returns c =
     let c2 = c3 .before .before in
     let c1 = c2 .before in
     let s = c1 .before .args .s in
-    let f = fit (c3 .before) in
-    counted (totalsRow s) (rw (
+    let given = c3 .before .struct-told .given in
+    let capped : SFits w64 (s .capped .0) = omega (arith, given) in
+    let utilisation : SFits w64 (s .utilisation .0) = omega (arith, given) in
+    let availability : SFits w64 (s .availability .0) = omega (arith, given) in
+    let total : SFits w64 (s .total .0) = omega (arith, given) in
+    row-put _ _ (omega (
+      arith,
+      signed-length (s .capped .0) capped,
+      signed-length (s .utilisation .0) utilisation,
+      signed-length (s .availability .0) availability,
+      signed-length (s .total .0) total,
+    ))
+    (rw (
       c .put2 .ensures,
       c6 .amount4 .ensures,
       c5 .amount3 .ensures,
@@ -39,16 +39,7 @@ returns c =
       c3 .amount .ensures,
       c2 .put .ensures,
       c1 .empty .ensures,
-    )
-    (simp (toZ-ofZ, f .capped, f .utilisation, f .availability, f .total)
-    (row-put _ _
-    (omega (
-      arith,
-      signed-length (s .capped .0) (f .capped),
-      signed-length (s .utilisation .0) (f .utilisation),
-      signed-length (s .availability .0) (f .availability),
-      signed-length (s .total .0) (f .total),
-    )))))
+    ) (simp (toZ-ofZ, capped, utilisation, availability, total)))
 
 pub totals-row-spec : {M : Type 1} → statement M
 totals-row-spec =

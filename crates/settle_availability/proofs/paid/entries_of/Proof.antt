@@ -1,20 +1,13 @@
 -- `settle_availability::paid::entries_of` meets its contract. The invariant: the entries and the periods are those of the first i windows. Assumes nothing.
-use mathlib.Core.Path.{_≡_, refl, sym, _∙_, ap, ap₂}
-use mathlib.Core.Bool.{cond}
-use mathlib.Core.List.{List}
-use Prim.Native.Nat.{ℕ, _+_, _-_, _*_, _/_, _≤_, _<_}
+use mathlib.Core.Path.{_≡_, refl}
+use Prim.Native.Nat.{_-_, _*_, _≤_, _<_}
 use native.Mathlib.Nat.{mul-le-mul}
 use native.Mathlib.Numerals.{add-one}
 use native.Mathlib.Omega.{arith}
-use lib.Dec.{eqb}
-use lib.IntN.{ℤ, pos, natAbs}
-use lib.ListN.{getD, set}
+use lib.IntN.{natAbs}
 use borrow.Author.Needs.{needs}
-use Rattle.commands.specs.declared.entries.Window.{Window}
-use Rattle.rules.specs.declared.statement.Available.{Available}
-use Rattle.rules.specs.Ledger.{noWindow}
-use Rattle.settle_availability.specs.Paid.{marked, paidIn, paidBy, entryOf, entriesTo, periodsTo, entriesBy}
 use Rattle.settle_terms.specs.Terms.{mostPeriods}
+use Rattle.settle_availability.specs.Paid.{marked, entriesTo, periodsTo, entriesBy}
 use Rattle.settle_availability.proofs.paid.entries_of.Statement.{statement}
 use Rattle.settle_availability.proofs.paid.entries_of.Tie as tie
 
@@ -27,11 +20,6 @@ Inv-loop reached live defaults n each windows entries₀ total₀ i₀ entries t
 
 abbrev μ-loop : tie.MeasureT-loop
 μ-loop reached live defaults n each windows entries₀ total₀ i₀ entries total i = n - i
-
--- the paid periods from what the code finds
-paid-here : (live reached : List ℕ) (w : Window) (i from to b k : ℕ) → from ≡ w .start .0 / 30 → to ≡ w .end .0 / 30 → b ≡ getD live from 0
-    → k ≡ cond (eqb b (i + 1)) (paidIn (marked reached) from to) 0 → k ≡ paidBy live (marked reached) w i
-paid-here live reached w i from to b k e₁ e₂ e₃ e₄ = cc (add-one i)
 
 loop-holds : tie.Need-loop-holds Inv-loop μ-loop
 loop-holds c = (omega arith, refl, refl, omega arith)
@@ -55,7 +43,8 @@ paid-periods-requires c κs =
     (omega (arith, a, b, o), omega (arith, b, i), omega (arith, b, i, s .pre .1), s .pre .3)
 
 entry-of-requires : tie.Need-entry-of-requires Inv-loop μ-loop
-entry-of-requires c κs = (c .paid-periods .ensures .1, c .before .before .before .before .before .before .before .before .before .before .before .pre .4)
+entry-of-requires c κs =
+    (c .paid-periods .ensures .1, c .before .before .before .before .before .before .before .before .before .before .before .pre .4)
 
 add-total : tie.Need-add-total Inv-loop μ-loop
 add-total c =
@@ -68,21 +57,18 @@ add-total c =
 
 loop-again : tie.Need-loop-again Inv-loop μ-loop
 loop-again c =
-    let a = c .before .before .before .before .before .before .before .before .before .before .before .before .args in
     let l = c .before .before .before .before .before .before .before .before .before .loop in
-    let k = c .before .paid-periods in
-    let w : Window = getD (a .t4) (l .i) noWindow in
-    let f = marked (a .reached .now) in
-    let each : ℕ = natAbs (a .each .0) in
-    let p : k .result ≡ paidBy (a .live .now) f w (l .i) =
-    paid-here (a .live .now) (a .reached .now) w (l .i) _ _ _ (k .result) (c .before .before .before .before .place-of .ensures)
-    (c .before .before .before .place-of2 .ensures)
-    (c .before .before .number-at .ensures) (k .ensures .0) in (
+    let k = c .before .paid-periods .ensures in
+    let p = rw (
+      c .before .before .number-at .ensures,
+      c .before .before .before .before .place-of .ensures,
+      c .before .before .before .place-of2 .ensures,
+      add-one (l .i),
+    ) at (k .0) in (
       omega arith,
-      ap₂ (λ (z : List Available) (y : Available). set z (l .i) y) (l .inv .1) (c .entry-of .ensures ∙ ap (λ z. entryOf z each) p)
-          ∙ ap (entriesTo (a .live .now) f each (a .t4)) (sym (add-one (l .i))),
-      ap₂ _+_ (l .inv .2) p ∙ ap (periodsTo (a .live .now) f (a .t4)) (sym (add-one (l .i))),
-      omega (arith, k .ensures .1),
+      rw (c .entry-of .ensures, p, l .inv .1, add-one (l .i)),
+      rw (l .inv .2, p, add-one (l .i)),
+      omega (arith, k .1),
     )
 
 times-requires : tie.Need-times-requires Inv-loop μ-loop
@@ -92,16 +78,10 @@ returns : tie.Need-returns Inv-loop μ-loop
 unfolding entriesBy
 returns c =
     let s = c .before .before .before .before .before in
-    let a = s .args in
     let l = c .before .before .loop in
-    let f = marked (a .reached .now) in
-    let each : ℕ = natAbs (a .each .0) in
-    let e : l .i ≡ a .n = omega arith in
-    let h : l .total ≤ 190464 = omega (arith, s .pre .0 .few, l .inv) in (
-      ap₂ (λ (x : List Available) (y : ℤ). record { windows = x; pence = record { 0 = y } }) (l .inv .1 ∙ ap (entriesTo (a .live .now) f each (a .t4)) e)
-          (c .times .ensures ∙ ap (λ y. pos (y * each)) (l .inv .2 ∙ ap (periodsTo (a .live .now) f (a .t4)) e)),
-      rw (c .times .ensures) (omega (arith, mul-le-mul h (s .pre .4 .0))),
-    )
+    let e : l .i ≡ s .args .n = omega arith in
+    let h : l .total ≤ 190464 = omega (arith, s .pre .0 .few, l .inv) in
+    (rw (c .times .ensures, l .inv .1, l .inv .2, e), rw (c .times .ensures) (omega (arith, mul-le-mul h (s .pre .4 .0))))
 
 pub entries-of-spec : {M : Type 1} → statement M
 entries-of-spec =

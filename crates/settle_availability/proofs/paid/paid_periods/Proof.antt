@@ -1,7 +1,6 @@
 -- `settle_availability::paid::paid_periods` meets its contract: without defaults no place is marked, so that all of them count. Assumes nothing.
 use mathlib.Core.Path.{refl, sym, ap}
 use mathlib.Core.Bool.{not}
-use Prim.Native.Nat.{_-_}
 use native.Mathlib.Omega.{arith}
 use lib.ListN.{getD}
 use borrow.Author.Needs.{needs}
@@ -24,7 +23,8 @@ returns-2 c =
 
 returns-3 : tie.Need-returns-3
 returns-3 c =
-    (rw (not-false (c .before .before .before .before .args .shown) (c .before .before .if1 .left)) (c .unreached .ensures .0), c .unreached .ensures .1)
+    let r = c .unreached .ensures in
+    (rw (not-false (c .before .before .before .before .args .shown) (c .before .before .if1 .left)) (r .0), r .1)
 
 pub paid-periods-spec : {M : Type 1} → statement M
 paid-periods-spec =

@@ -1,10 +1,9 @@
 -- `settle_availability::paid::penalty` meets its contract. The invariant: the count is that of the first i windows. Assumes nothing.
-use mathlib.Core.Path.{_≡_, sym, _∙_, ap}
+use mathlib.Core.Path.{_≡_, sym}
 use mathlib.Core.Bool.{true, false}
 use mathlib.Core.Logic.{⊎-elim}
 use Prim.Native.Nat.{_-_, _≤_}
 use native.Mathlib.Omega.{arith}
-use lib.ListN.{getD}
 use borrow.Author.Needs.{needs}
 use borrow.Author.Tests.{eq-eqb, ne-eqb}
 use Rattle.energy.specs.Lists.{count as countOf, between}
@@ -24,38 +23,22 @@ loop-holds c = (omega arith, omega arith, sym (count-none (marked (c .args .coun
 
 loop-again : tie.Need-loop-again Inv-loop μ-loop
 loop-again c =
-    let xs = c .before .before .before .before .args .counted .now in
     let l = c .before .before .before .loop in
-    ⊎-elim
-    (λ w. (
-      omega arith,
-      omega arith,
-      count-step (marked xs) 0 (l .i) (l .count) (c .if1 .count) true (omega arith) (l .inv .2)
-          (eq-eqb (getD xs (l .i) 0) 1 (w .0 .taken)) (w .1),
-    ))
-    (λ w. (
-      omega arith,
-      omega arith,
-      count-step (marked xs) 0 (l .i) (l .count) (c .if1 .count) false (omega arith) (l .inv .2)
-          (ne-eqb (getD xs (l .i) 0) 1 (w .0 .left)) (omega (arith, w .1)),
-    ))
-    (c .if1 .came)
+    let step = count-step (marked (c .before .before .before .before .args .counted .now)) 0 (l .i) (l .count) (c .if1 .count) in
+    ⊎-elim (λ w. (omega arith, omega arith, step true (omega arith) (l .inv .2) (eq-eqb _ 1 (w .0 .taken)) (w .1)))
+    (λ w. (omega arith, omega arith, step false (omega arith) (l .inv .2) (ne-eqb _ 1 (w .0 .left)) (omega (arith, w .1)))) (c .if1 .came)
 
 returns : tie.Need-returns Inv-loop μ-loop
 returns c =
-    let a = c .before .before .before .args in
     let l = c .before .before .loop in
-    let e : l .i ≡ a .n = omega arith in
-    let f = l .inv .2 ∙ ap (λ z. countOf (marked (a .counted .now)) (between 0 z)) e in
-    (omega (arith, f), omega arith)
+    let e : l .i ≡ c .before .before .before .args .n = omega arith in
+    (omega (arith, rw e at (l .inv .2)), omega arith)
 
 returns-2 : tie.Need-returns-2 Inv-loop μ-loop
 returns-2 c =
-    let a = c .before .before .before .args in
     let l = c .before .before .loop in
-    let e : l .i ≡ a .n = omega arith in
-    let f = l .inv .2 ∙ ap (λ z. countOf (marked (a .counted .now)) (between 0 z)) e in
-    (omega (arith, f), omega arith)
+    let e : l .i ≡ c .before .before .before .args .n = omega arith in
+    (omega (arith, rw e at (l .inv .2)), omega arith)
 
 pub penalty-spec : {M : Type 1} → statement M
 penalty-spec =

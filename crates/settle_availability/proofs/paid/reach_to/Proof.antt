@@ -8,9 +8,6 @@ use Rattle.commands.proofs.Input.{inside, below, above}
 use Rattle.settle_availability.proofs.paid.reach_to.Statement.{statement}
 use Rattle.settle_availability.proofs.paid.reach_to.Tie as tie
 
-add-result : tie.Need-add-result
-add-result c = omega (arith, c .before .place-of2 .ensures)
-
 returns : tie.Need-returns
 returns c = rw (eq-true (c .before .before .before .before .before .args .d .reach) 1 (omega arith)) (ap (λ z. z + 1) (c .before .place-of2 .ensures))
 
@@ -32,4 +29,5 @@ returns-4 c =
 pub reach-to-spec : {M : Type 1} → statement M
 reach-to-spec =
     tie.close
-    (tie.spec (λ c κs. search needs) (λ c κs. search needs) add-result returns returns-2 returns-3 returns-4)
+    (tie.spec (λ c κs. search needs) (λ c κs. search needs) (λ c. omega (arith, c .before .place-of2 .ensures)) returns returns-2 returns-3
+    returns-4)

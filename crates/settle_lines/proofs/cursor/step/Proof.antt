@@ -1,18 +1,15 @@
 -- `settle_lines::cursor::step` meets its contract: the segment at the cursor is what `Next` says of it, and the two ways on are the definition's. Assumes
 -- nothing.
-use mathlib.Core.Path.{sym, _∙_, ap, subst}
-use Prim.Native.Nat.{_-_}
+use mathlib.Core.Path.{sym, subst}
 use native.Mathlib.Omega.{arith}
-use Rattle.settle_lines.specs.Cursor.{Planned, enterOf}
-use Rattle.settle_lines.proofs.Step.{Next, next, step-on, step-over}
+use Rattle.settle_lines.specs.Cursor.{Planned, stepOf}
+use Rattle.settle_lines.proofs.Step.{next}
 use Rattle.energy.specs.Energy.{Readable}
 use Rattle.energy.specs.Number.{Within}
 use borrow.Author.Needs.{needs}
+use borrow.Author.Tests.{lt-ltb, le-ltb}
 use Rattle.settle_lines.proofs.cursor.step.Statement.{statement}
 use Rattle.settle_lines.proofs.cursor.step.Tie as tie
-
-abbrev nextOf : (s : tie.Start) → Next (s .args .t) (s .args .times .now) (s .args .live .now) (s .args .meter .now) (s .args .c)
-nextOf s = next (s .args .t) (s .args .times .now) (s .args .live .now) (s .args .meter .now) (s .args .c) (s .pre .0) (s .pre .1)
 
 abbrev planned : (s : tie.Start) → Planned (s .args .t) (s .args .times .now) (s .args .live .now) (s .args .meter .now) (s .args .c .at)
 planned s = s .pre .0 .each (s .args .c .at) (s .pre .1 .more)
@@ -23,7 +20,7 @@ segment-end-requires c κs = let s = c .before .before .before .before in omega 
 line-of-requires : tie.Need-line-of-requires
 line-of-requires c κs =
     let s = c .before .before .before .before .before in
-    let n = nextOf s in
+    let n = next (s .pre .0) (s .pre .1) in
     let p = s .pre .0 in (
       subst (λ z. Readable (s .args .meter .now) (s .args .c .minute .0) z) (sym (c .segment-end .ensures)) (n .readable),
       (n .base, ((p .kw, p .utilisation, p .optional), (omega (arith, p, s .pre .1), omega (arith, planned s, s .pre .1), p .fits))),
@@ -35,29 +32,32 @@ sums s = omega (arith, s .pre .1, planned s, s .pre .0)
 
 moved-requires : tie.Need-moved-requires
 moved-requires c κs =
-    let l = c .before .before .before .line-of .ensures in (sums (c .before .before .before .before .before .before .before .before .before), (l .1, l .2))
+    let l = c .before .before .before in (sums (l .before .before .before .before .before .before), (l .line-of .ensures .1, l .line-of .ensures .2))
 
 returns : tie.Need-returns
+unfolding stepOf
 returns c =
-    let a = c .before .before .before .before .before .before .before .before .before .before .args in
     let l = c .before .before .before .before in
-    step-on (a .t) (a .times .now) (a .live .now) (a .meter .now) (a .c) _ (l .line-of .result) (c .moved .result) (l .before .segment-end .ensures)
-    (l .line-of .ensures .0) (c .before .if1 .taken) (c .moved .ensures)
+    rw (c .moved .ensures, l .line-of .ensures .0, ← l .before .segment-end .ensures, lt-ltb _ _ (c .before .if1 .taken))
 
 moved-requires-2 : tie.Need-moved-requires-2
 moved-requires-2 c κs =
-    let l = c .before .before .before .line-of .ensures in (sums (c .before .before .before .before .before .before .before .before .before), (l .1, l .2))
+    let l = c .before .before .before in (sums (l .before .before .before .before .before .before), (l .line-of .ensures .1, l .line-of .ensures .2))
 
 enter-requires : tie.Need-enter-requires
 enter-requires c κs = c .before .before .before .before .before .before .before .before .before .before .pre .0
 
 returns-2 : tie.Need-returns-2
+unfolding stepOf
 returns-2 c =
-    let a = c .before .before .before .before .before .before .before .before .before .before .before .args in
     let l = c .before .before .before .before .before in
-    step-over (a .t) (a .times .now) (a .live .now) (a .meter .now) (a .c) _ (l .line-of .result) (c .enter .result) (l .before .segment-end .ensures)
-    (l .line-of .ensures .0) (c .before .before .if1 .left)
-    (c .enter .ensures ∙ ap (enterOf (a .t) (a .times .now) (a .live .now) (a .meter .now)) (c .before .moved2 .ensures))
+    rw (
+      c .enter .ensures,
+      c .before .moved2 .ensures,
+      l .line-of .ensures .0,
+      ← l .before .segment-end .ensures,
+      le-ltb _ _ (c .before .before .if1 .left),
+    )
 
 pub step-spec : {M : Type 1} → statement M
 step-spec =

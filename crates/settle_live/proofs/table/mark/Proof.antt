@@ -1,5 +1,5 @@
 -- `settle_live::table::mark` meets its contract. The invariant: the places from `from` to p - 1 hold the value. Assumes nothing.
-use mathlib.Core.Path.{_≡_, refl, _∙_, subst}
+use mathlib.Core.Path.{_≡_, refl, _∙_}
 use Prim.Native.Nat.{_-_, _≤_}
 use native.Mathlib.Omega.{arith}
 use lib.ListN.{length, length-set}
@@ -29,10 +29,7 @@ loop-again c =
     )
 
 returns : tie.Need-returns Inv-loop μ-loop
-returns c =
-    let a = c .before .before .args in let l = c .before .loop in
-    let e : l .p ≡ a .to = omega arith in
-    subst (λ z. Marked (a .table .now) (a .from) z (a .value) (l .table)) e (l .inv .3)
+returns c = let e : c .before .loop .p ≡ c .before .before .args .to = omega arith in rw e at (c .before .loop .inv .3)
 
 pub mark-spec : {M : Type 1} → statement M
 mark-spec =

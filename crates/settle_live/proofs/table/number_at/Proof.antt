@@ -4,8 +4,7 @@ use borrow.Author.Needs.{needs}
 use Rattle.settle_live.proofs.table.number_at.Statement.{statement}
 use Rattle.settle_live.proofs.table.number_at.Tie as tie
 
-cast-result : tie.Need-cast-result
-cast-result c = omega (arith, c .shared-slice-known .given (c .before .args .place))
-
 pub number-at-spec : {M : Type 1} → statement M
-number-at-spec = tie.close (tie.spec (λ c. search needs) cast-result (λ c. search needs))
+number-at-spec =
+    tie.close
+    (tie.spec (λ c. search needs) (λ c. omega (arith, c .shared-slice-known .given (c .before .args .place))) (λ c. search needs))

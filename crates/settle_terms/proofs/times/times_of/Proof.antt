@@ -1,5 +1,5 @@
 -- `settle_terms::times::times_of` meets its contract. The invariant: the times of the first i instructions are in their places. Assumes nothing.
-use mathlib.Core.Path.{_≡_, refl, subst}
+use mathlib.Core.Path.{_≡_, refl}
 use Prim.Native.Nat.{ℕ, _-_, _≤_}
 use native.Mathlib.Omega.{arith}
 use lib.ListN.{length-replicate}
@@ -16,7 +16,7 @@ abbrev μ-loop : tie.MeasureT-loop
 μ-loop instructions times₀ i₀ times i = 64 - i
 
 loop-holds : tie.Need-loop-holds Inv-loop μ-loop
-loop-holds c = (omega arith, record { size = length-replicate {A = ℕ} 128 0; issue = λ j h. absurd (omega arith); cease = λ j h. absurd (omega arith) })
+loop-holds c = omega (arith, length-replicate {A = ℕ} 128 0)
 
 loop-again : tie.Need-loop-again Inv-loop μ-loop
 loop-again c =
@@ -24,10 +24,7 @@ loop-again c =
     (omega arith, timed-next _ (l .i) (l .times) _ _ (c .before .loop-test .taken) refl refl (l .inv .1))
 
 returns : tie.Need-returns Inv-loop μ-loop
-returns c =
-    let l = c .before .loop in
-    let e : l .i ≡ 64 = omega arith in
-    subst (λ n. Timed (c .before .before .args .t1) n (l .times)) e (l .inv .1)
+returns c = let e : c .before .loop .i ≡ 64 = omega arith in rw e at (c .before .loop .inv .1)
 
 pub times-of-spec : {M : Type 1} → statement M
 times-of-spec =

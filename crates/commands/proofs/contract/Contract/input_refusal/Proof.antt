@@ -9,9 +9,6 @@ use Rattle.commands.proofs.Input.{input-out, input-in}
 use Rattle.commands.proofs.contract.Contract.input_refusal.Statement.{statement}
 use Rattle.commands.proofs.contract.Contract.input_refusal.Tie as tie
 
-returns : tie.Need-returns
-returns c = input-out _ (sym (c .before .in-range .ensures) ∙ not-true _ (c .if1 .taken))
-
 -- past the first test the operands are in their ranges
 fits : (c : tie.Else1) → inRange (contractᶜ (c .before .before .args .self)) ≡ true
 fits c = sym (c .before .in-range .ensures) ∙ not-false _ (c .if1 .left)
@@ -26,4 +23,5 @@ returns-2 c =
 pub input-refusal-spec : {M : Type 1} → statement M
 input-refusal-spec =
     tie.close
-    (tie.spec (λ c κs. search needs) returns (λ c κs. fits c) (λ c κs. fits (c .before)) (λ c. search needs) (λ c κs. search needs) returns-2)
+    (tie.spec (λ c κs. search needs) (λ c. input-out _ (sym (c .before .in-range .ensures) ∙ not-true _ (c .if1 .taken))) (λ c κs. fits c)
+    (λ c κs. fits (c .before)) (λ c. search needs) (λ c κs. search needs) returns-2)

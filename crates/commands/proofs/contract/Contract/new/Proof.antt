@@ -8,8 +8,5 @@ use Rattle.commands.proofs.contract.Contract.new.Tie as tie
 returns : tie.Need-returns
 returns c = rw (c .before .input-refusal .ensures) (offer-refused _ (λ e. c .if1 .taken (c .before .input-refusal .ensures ∙ e)))
 
-returns-2 : tie.Need-returns-2
-returns-2 c = offer-agreed _ (sym (c .before .input-refusal .ensures) ∙ c .if1 .left)
-
 pub new-spec : {M : Type 1} → statement M
-new-spec = tie.close (tie.spec (λ c κs. search needs) returns returns-2)
+new-spec = tie.close (tie.spec (λ c κs. search needs) returns (λ c. offer-agreed _ (sym (c .before .input-refusal .ensures) ∙ c .if1 .left)))

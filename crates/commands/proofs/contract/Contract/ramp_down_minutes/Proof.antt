@@ -4,9 +4,5 @@ use Rattle.commands.specs.Input.{downMinutes}
 use Rattle.commands.proofs.contract.Contract.ramp_down_minutes.Statement.{statement}
 use Rattle.commands.proofs.contract.Contract.ramp_down_minutes.Tie as tie
 
-returns : tie.Need-returns
-unfolding downMinutes
-returns c = c .minutes-at .ensures
-
 pub ramp-down-minutes-spec : {M : Type 1} → statement M
-ramp-down-minutes-spec = tie.close (tie.spec (λ c κs. search needs) returns)
+ramp-down-minutes-spec = tie.close (tie.spec (λ c κs. search needs) (λ c. unfold downMinutes in c .minutes-at .ensures))

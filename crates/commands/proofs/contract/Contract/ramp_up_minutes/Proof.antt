@@ -4,9 +4,5 @@ use Rattle.commands.specs.Input.{upMinutes}
 use Rattle.commands.proofs.contract.Contract.ramp_up_minutes.Statement.{statement}
 use Rattle.commands.proofs.contract.Contract.ramp_up_minutes.Tie as tie
 
-returns : tie.Need-returns
-unfolding upMinutes
-returns c = c .minutes-at .ensures
-
 pub ramp-up-minutes-spec : {M : Type 1} → statement M
-ramp-up-minutes-spec = tie.close (tie.spec (λ c κs. search needs) returns)
+ramp-up-minutes-spec = tie.close (tie.spec (λ c κs. search needs) (λ c. unfold upMinutes in c .minutes-at .ensures))

@@ -1,11 +1,9 @@
 -- `lister_rows::row::Row::number` meets its contract. It ends, since n / 10 is less than n. Assumes nothing.
-use mathlib.Core.Path.{_∙_, ap}
-use Prim.Native.Nat.{ℕ, _<_, _%_}
+use mathlib.Core.Path.{_∙_}
+use Prim.Native.Nat.{ℕ, _<_}
 use native.Mathlib.Omega.{arith}
 use borrow.Fn.Kinds.{In}
 use borrow.Fn.PlainCycle.{Measures, is, falls, and}
-use Rattle.lister_rows.specs.Row.{putByte}
-use Rattle.lister_rows.specs.Rows.{digit}
 use Rattle.lister_rows.proofs.Appending.{put-digit, put-digits}
 use Rattle.lister_rows.proofs.row.Row.number.Reads as number
 use Rattle.lister_rows.proofs.row.Row.number.Kinds as number-kinds
@@ -24,43 +22,16 @@ number-at t = and 0 number-kinds.ps (is 0 number-kinds.ps μ-number t) number.Pr
 abbrev number-below : ℕ → In 0 number-kinds.ps
 number-below t = and 0 number-kinds.ps (falls 0 number-kinds.ps _<_ μ-number t) number.Pre
 
-module _ (t : ℕ) where
-  number-cast-put : number-lts.Need-cast-put (put-reads.Asked, put-reads.Learnt, number-below t, number.Post) (number-at t) number.Post
-  number-cast-put c = omega arith
-
-  number-add-put : number-lts.Need-add-put (put-reads.Asked, put-reads.Learnt, number-below t, number.Post) (number-at t) number.Post
-  number-add-put c = omega arith
-
-  number-returns : number-lts.Need-returns (put-reads.Asked, put-reads.Learnt, number-below t, number.Post) (number-at t) number.Post
-  number-returns c =
-      let a = c .before .before .args in
-      c .put .ensures ∙ put-digit (a .self) (a .n) (omega arith)
-
-  number-number-requires : number-lts.Need-number-requires (put-reads.Asked, put-reads.Learnt, number-below t, number.Post) (number-at t) number.Post
-  number-number-requires c κs = (omega (arith, c .before .pre .0), tt)
-
-  number-cast-put-2 : number-lts.Need-cast-put-2 (put-reads.Asked, put-reads.Learnt, number-below t, number.Post) (number-at t) number.Post
-  number-cast-put-2 c = omega arith
-
-  number-add-put-2 : number-lts.Need-add-put-2 (put-reads.Asked, put-reads.Learnt, number-below t, number.Post) (number-at t) number.Post
-  number-add-put-2 c = omega arith
-
-  number-returns-2 : number-lts.Need-returns-2 (put-reads.Asked, put-reads.Learnt, number-below t, number.Post) (number-at t) number.Post
-  number-returns-2 c =
-      let a = c .before .before .before .args in
-      c .put2 .ensures
-      ∙ ap (λ r. putByte r (digit (a .n % 10))) (c .before .number .ensures)
-      ∙ put-digits (a .self) (a .n) (omega arith)
-
 pub +number-spec : {M : Type 1} → statement M
 +number-spec =
     close μ-number λ t. number-lts.spec (put-reads.Asked, put-reads.Learnt, number-below t, number.Post) (number-at t) number.Post
-    (number-cast-put t)
-    (number-add-put t)
+    (λ c. omega arith)
+    (λ c. omega arith)
     (λ c κs. tt)
-    (number-returns t)
-    (number-number-requires t)
-    (number-cast-put-2 t)
-    (number-add-put-2 t)
+    (λ c. let a = c .before .before .args in c .put .ensures ∙ put-digit (a .self) (a .n) (omega arith))
+    (λ c κs. (omega (arith, c .before .pre .0), tt))
+    (λ c. omega arith)
+    (λ c. omega arith)
     (λ c κs. tt)
-    (number-returns-2 t)
+    (λ c. let a = c .before .before .before .args in
+    c .put2 .ensures ∙ rw (c .before .number .ensures) (put-digits (a .self) (a .n) (omega arith)))

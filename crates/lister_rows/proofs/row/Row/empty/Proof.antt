@@ -4,9 +4,6 @@ use Rattle.lister_rows.specs.Row.{rowOf}
 use Rattle.lister_rows.proofs.row.Row.empty.Statement.{statement}
 use Rattle.lister_rows.proofs.row.Row.empty.Tie as tie
 
-returns : tie.Need-returns
-unfolding rowOf
-returns c = refl
-
 pub empty-spec : {M : Type 1} → statement M
-empty-spec = tie.close (tie.spec returns)
+unfolding rowOf
+empty-spec = tie.close (tie.spec (λ c. refl))

@@ -5,13 +5,8 @@ use Rattle.lister_rows.specs.Row.{putByte}
 use Rattle.lister_rows.proofs.row.Row.put.Statement.{statement}
 use Rattle.lister_rows.proofs.row.Row.put.Tie as tie
 
-returns : tie.Need-returns
-unfolding putByte
-returns c = simp (le-ltb _ _ (c .if1 .taken))
-
-returns-2 : tie.Need-returns-2
-unfolding putByte
-returns-2 c = simp (lt-ltb _ _ (c .if1 .left))
-
 pub put-spec : {M : Type 1} → statement M
-put-spec = tie.close (tie.spec returns (λ c. search needs) (λ c. search needs) returns-2)
+unfolding putByte
+put-spec =
+    tie.close
+    (tie.spec (λ c. simp (le-ltb _ _ (c .if1 .taken))) (λ c. search needs) (λ c. search needs) (λ c. simp (lt-ltb _ _ (c .if1 .left))))
