@@ -2,7 +2,7 @@
 ghost use mathlib.Core.Path.{_≡_};
 ghost use Prim.Native.Nat.{_≤_};
 ghost use lib.ListN.{take};
-ghost use Rattle.book_sound.specs.Columns.{InOrder};
+ghost use Rattle.book_sound.specs.Columns.{WindowsInOrder};
 ghost use Rattle.book_refusal.specs.Refusals.{defaultRefusal};
 use book_sound::defaults::in_window;
 use commands::checks::pick;
@@ -12,7 +12,7 @@ use commands::entries::Window;
 
 // 16, 21 and 23, beside the first w windows and after n defaults.
 pub fn default_refusal(span: usize, windows: [Window; 128], w: usize, n: usize, d: Default) -> u8
-    requires { ⌜ (w ≤ 128) × InOrder 0 (take w windows) ⌝ }
+    requires { ⌜ (w ≤ 128) × WindowsInOrder 0 (take w windows) ⌝ }
     ensures { λ r. ⌜ r ≡ defaultRefusal span (take w windows) n d ⌝ }
 {
     let minute = d.minute;

@@ -18,7 +18,7 @@ use Rattle.commands.specs.declared.contract.Contract.{Contract}
 use Rattle.commands.specs.declared.entries.Window.{Window}
 use Rattle.rules.proofs.Tables.{WindowFits, windows-cons}
 use Rattle.book_sound.proofs.Tables.{same-test}
-use Rattle.book_sound.specs.Columns.{InOrder, Rising, Ordered, Held, Started}
+use Rattle.book_sound.specs.Columns.{WindowsInOrder, NeverFalling, Ordered, Held, Started}
 
 -- ---- an element that a test holds of
 
@@ -45,7 +45,7 @@ any-at f (x ∷ l) (suc i) d h t = rw (of-T (any f l) (any-at f l i d (omega ari
 -- ---- the search in columns that are in order
 
 module _ {starts ends : List ℕ} {n : ℕ} (o : Ordered starts ends n) where
-  pub rising : Rising starts n
+  pub rising : NeverFalling starts n
   rising =
       record {
         upward = λ i j h k.
@@ -73,7 +73,7 @@ module _ {starts ends : List ℕ} {n : ℕ} (o : Ordered starts ends n) where
 -- ---- windows that could be entered
 
 -- one window before windows in order
-before-all : (k : Contract) (span e : ℕ) (w : Window) (ws : List Window) → WindowFits k span e w → InOrder (w .end .0) ws → InOrder e (w ∷ ws)
+before-all : (k : Contract) (span e : ℕ) (w : Window) (ws : List Window) → WindowFits k span e w → WindowsInOrder (w .end .0) ws → WindowsInOrder e (w ∷ ws)
 before-all k span e w ws f r = record { some = some; after = after; apart = apart }
   where
     some : (i : ℕ) → i < suc (length ws) → getD (w ∷ ws) i noWindow .start .0 < getD (w ∷ ws) i noWindow .end .0
@@ -89,7 +89,7 @@ before-all k span e w ws f r = record { some = some; after = after; apart = apar
     apart zero (suc j) h l = r .after j (omega arith)
     apart (suc i) (suc j) h l = r .apart i j (omega arith) (omega arith)
 
-pub in-order : (k : Contract) (span e : ℕ) (ws : List Window) → T (windowsSound k span e ws) → InOrder e ws
+pub in-order : (k : Contract) (span e : ℕ) (ws : List Window) → T (windowsSound k span e ws) → WindowsInOrder e ws
 in-order k span e [] t = record { some = λ i h. absurd (omega arith); after = λ i h. absurd (omega arith); apart = λ i j h l. absurd (omega arith) }
 in-order k span e (w ∷ ws) t = let (f, rest) = windows-cons k span e w ws t in before-all k span e w ws f (in-order k span (w .end .0) ws rest)
 
@@ -105,7 +105,7 @@ module _ (ws : List Window) (n : ℕ) (fits : n ≤ length ws) where
   at-column f z i h = ap (λ x. getD (map f ws) i x) (sym z) ∙ List·getD-map f ws i noWindow ∙ ap f (sym (getD-take n ws i noWindow h))
 
   -- the columns of windows in order
-  pub ordered : InOrder 0 (take n ws) → Ordered (map startOf ws) (map endsAt ws) n
+  pub ordered : WindowsInOrder 0 (take n ws) → Ordered (map startOf ws) (map endsAt ws) n
   ordered o =
       let m : length (take n ws) ≡ n = length-take-le n ws fits in
       record {

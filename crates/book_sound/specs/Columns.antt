@@ -6,13 +6,13 @@ use Rattle.commands.specs.declared.entries.Window.{Window}
 use Rattle.rules.specs.Ledger.{noWindow}
 
 -- each window is some minutes long, from minute e on, and from the end of every one before it on
-pub record InOrder (e : ℕ) (ws : List Window) : Type 0 where
+pub record WindowsInOrder (e : ℕ) (ws : List Window) : Type 0 where
   pub some : (i : ℕ) → i < length ws → getD ws i noWindow .start .0 < getD ws i noWindow .end .0
   pub after : (i : ℕ) → i < length ws → e ≤ getD ws i noWindow .start .0
   pub apart : (i j : ℕ) → i < j → j < length ws → getD ws i noWindow .end .0 ≤ getD ws j noWindow .start .0
 
 -- the first n numbers never fall
-pub record Rising (starts : List ℕ) (n : ℕ) : Type 0 where
+pub record NeverFalling (starts : List ℕ) (n : ℕ) : Type 0 where
   pub upward : (i j : ℕ) → i ≤ j → j < n → getD starts i 0 ≤ getD starts j 0
 
 -- the first n windows are in order

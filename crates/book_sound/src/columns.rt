@@ -3,7 +3,7 @@ ghost use mathlib.Core.Path.{_≡_};
 ghost use mathlib.Core.List.{map};
 ghost use Prim.Native.Nat.{_≤_};
 ghost use Rattle.commands.specs.declared.entries.Window.{Window};
-ghost use Rattle.book_sound.specs.Columns.{Rising, Started, Ordered, Held};
+ghost use Rattle.book_sound.specs.Columns.{NeverFalling, Started, Ordered, Held};
 ghost use mathlib.Core.Logic.{_↔_};
 ghost use lib.Dec.{T};
 use commands::contract::Contract;
@@ -39,7 +39,7 @@ pub(crate) fn ends_of(windows: [Window; 128]) -> [u16; 128]
 
 // How many of the first n windows start by a minute. Their starts rise, so a search by halves finds it.
 fn started(starts: &[u16; 128], n: usize, m: u16) -> usize
-    requires { ⌜ (n ≤ 128) × Rising (now starts) n ⌝ }
+    requires { ⌜ (n ≤ 128) × NeverFalling (now starts) n ⌝ }
     ensures { λ r. ⌜ Started (now (starts .entry)) n m r ⌝ }
 {
     let mut low = 0;

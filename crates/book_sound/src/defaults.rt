@@ -6,7 +6,7 @@ ghost use lib.ListN.{take, drop};
 ghost use Rattle.energy.specs.Lists.{all, any};
 ghost use Rattle.rules.specs.Ledger.{within};
 ghost use Rattle.rules.specs.Reached.{windowsSound, defaultSound};
-ghost use Rattle.book_sound.specs.Columns.{InOrder};
+ghost use Rattle.book_sound.specs.Columns.{WindowsInOrder};
 ghost use Rattle.book_sound.specs.Unused.{isNoDefault};
 use crate::columns::ends_of;
 use crate::columns::in_columns;
@@ -18,7 +18,7 @@ use energy::units::Minutes;
 
 // Whether a minute is in one of the first n windows.
 pub fn in_window(windows: [Window; 128], n: usize, m: Minutes) -> bool
-    requires { ⌜ (n ≤ 128) × InOrder 0 (take n windows) ⌝ }
+    requires { ⌜ (n ≤ 128) × WindowsInOrder 0 (take n windows) ⌝ }
     ensures { λ r. ⌜ r ≡ any (λ w. within w (m .0)) (take n windows) ⌝ }
 {
     let starts = starts_of(windows);

@@ -29,7 +29,7 @@ use Rattle.file_read.proofs.Pieces.{piece-end}
 use Rattle.file_load.specs.Load.{LoadedFile, endedAt, carriesOn, loadsOn, loadFrom, load}
 use Rattle.file_load.proofs.From.{past-end}
 use Rattle.demands.specs.Steps.{read, command, readCall, Place, outset, onwards, placeFrom, readsTo}
-use Rattle.demands.specs.Files.{readRefusal, endOf, FileRight, File·theorem}
+use Rattle.demands.specs.Files.{readRefusal, stateAtEnd, FileRight, File·theorem}
 use Rattle.demands.proofs.Along.{taken-snoc, Along, sets-out, enters, At, state-left}
 use Rattle.demands.proofs.Settled.{refused-taken, settlement-right}
 use Rattle.demands.proofs.FileReads.{behind}
@@ -152,7 +152,7 @@ file-right file memory records =
     let p : Place = readsTo file (r .reads) in
     let same : r .place ≡ p = sym (r .reached) in
     let ready : Ready file memory p (l .loaded .book) (l .meter) = subst (λ q. Ready file memory q (l .loaded .book) (l .meter)) same (r .ready) in
-    let at : At memory p (endOf l) =
+    let at : At memory p (stateAtEnd l) =
     record {
       at = r .stands ∙ ap (λ q. q .at) same;
       along = subst⁻¹ (λ t. Along memory t (l .loaded .book) (l .meter)) (ready .allTaken) (ready .along);
@@ -160,7 +160,7 @@ file-right file memory records =
     record {
       reads = r .reads;
       allTaken = ready .allTaken;
-      left = state-left p (endOf l) at;
+      left = state-left p (stateAtEnd l) at;
       answer = subst (λ q. l .loaded .answer ≡ answerOf (readRefusal (roomIn memory) (q .commands) (readAt file (q .at)))) same (r .answer);
       ended = λ a. omega (arith, r .stands, r .ready .inside, r .ended a);
       whole = λ a. ap (λ q. q .commands) (sym same) ∙ r .whole a;

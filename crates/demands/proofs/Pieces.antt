@@ -32,7 +32,7 @@ use Rattle.file_read.proofs.Steps.{got-within, refused-number, refused-near}
 use Rattle.file_read.proofs.Pieces.{piece-got, piece-unknown, piece-end, read-drop}
 use Rattle.file_load.specs.Load.{LoadedFile, carriesOn, loadFrom, load}
 use Rattle.file_load.proofs.From.{enough, from, from-step, by-turns}
-use Rattle.demands.specs.Pieces.{unfinished, later, Pieces·theorem}
+use Rattle.demands.specs.Pieces.{unfinished, shiftedBy, Pieces·theorem}
 
 -- the book never answers 2
 lowest-not : (cs : List Condition) → T (all (λ c. not (eqb (c .number) 2)) cs) → (x : ℕ) → lowest cs ≡ some x → eqb x 2 ≡ false
@@ -62,10 +62,10 @@ kept-refused p q at x e t =
     (refused-number p at e)
 
 -- the commands behind k bytes, of the bytes behind them
-shifted : (n k : ℕ) (s : List ℕ) (at : ℕ) (b : Book) (m : Memory) → loadFrom n s (k + at) b m ≡ later k (loadFrom n (drop k s) at b m)
+shifted : (n k : ℕ) (s : List ℕ) (at : ℕ) (b : Book) (m : Memory) → loadFrom n s (k + at) b m ≡ shiftedBy k (loadFrom n (drop k s) at b m)
 unfolding loadFrom
 shifted n k s =
-    by-turns (drop k s) (λ n at b m l. loadFrom n s (k + at) b m ≡ later k l) (λ at b m. refl)
+    by-turns (drop k s) (λ n at b m l. loadFrom n s (k + at) b m ≡ shiftedBy k l) (λ at b m. refl)
     (λ n at b m e. rw (read-drop s k at, e)) (λ n at b m x e. rw (read-drop s k at, e))
     (λ n at b m c next x e a. rw (read-drop s k at, e, a)) (λ n at b m c next e a l h. rw (read-drop s k at, e, a) h) n
 
@@ -111,8 +111,8 @@ pieces p q b m =
       goesOn = λ t.
           goes-on p q (length p) 0 b m t ∙ ap (λ x. loadFrom (length (p ++ q)) (p ++ q) x b′ m′) (sym zeroed)
           ∙ shifted (length (p ++ q)) k (p ++ q) 0 b′ m′
-          ∙ ap (λ s. later k (loadFrom (length (p ++ q)) s 0 b′ m′)) (drop-append-le k p q inP)
-          ∙ ap (later k)
+          ∙ ap (λ s. shiftedBy k (loadFrom (length (p ++ q)) s 0 b′ m′)) (drop-append-le k p q inP)
+          ∙ ap (shiftedBy k)
           (enough (length (p ++ q)) (length (drop k p ++ q)) (drop k p ++ q) 0 b′ m′ (simp (length-append, length-drop) (omega arith)) (omega arith));
       ends = λ t. ends-there p q (length p) 0 b m t;
     }

@@ -27,8 +27,8 @@ readRefusal size t (refusedʳ n) = some n
 readRefusal size t End = none
 
 -- where entering a file ended, with the book and lent memory then
-abbrev pub endOf : LoadedFile → State
-endOf l = record { at = l .loaded .at; book = l .loaded .book; memory = l .meter }
+abbrev pub stateAtEnd : LoadedFile → State
+stateAtEnd l = record { at = l .loaded .at; book = l .loaded .book; memory = l .meter }
 
 -- for a file's bytes, and lent memory and line records of any length and contents
 pub record FileRight (file : List ℕ) (memory : Memory) (records : List Line) : Type 0 where
@@ -36,7 +36,7 @@ pub record FileRight (file : List ℕ) (memory : Memory) (records : List Line) :
   pub reads : ℕ
   pub allTaken : taken (roomIn memory) (readsTo file reads .commands) ≡ readsTo file reads .commands
   -- entering ended behind them, with the book and lent memory that they leave
-  pub left : endOf (load file emptyBook memory) ≡ leftAt memory (readsTo file reads)
+  pub left : stateAtEnd (load file emptyBook memory) ≡ leftAt memory (readsTo file reads)
   -- what stands there decides: the file's end, or the first refusal under its number
   pub answer :
       load file emptyBook memory .loaded .answer

@@ -17,8 +17,8 @@ unfinished Taken = true
 unfinished (Refused n) = eqb n 2
 
 -- the same with every position that much later
-abbrev pub later : ℕ → LoadedFile → LoadedFile
-later k l = record { loaded = record { answer = l .loaded .answer; at = k + l .loaded .at; book = l .loaded .book }; meter = l .meter }
+abbrev pub shiftedBy : ℕ → LoadedFile → LoadedFile
+shiftedBy k l = record { loaded = record { answer = l .loaded .answer; at = k + l .loaded .at; book = l .loaded .book }; meter = l .meter }
 
 -- a piece p of a file, and the bytes q after it: where the piece is unfinished, its unread bytes with q behind them, entered into what the
 -- piece left, do what the whole does; where it is not, the whole ends as the piece does
@@ -26,7 +26,7 @@ pub record Pieces (p q : List ℕ) (b : Book) (memory : Memory) : Type 0 where
   pub goesOn :
       T (unfinished (load p b memory .loaded .answer))
       → load (p ++ q) b memory
-      ≡ later (load p b memory .loaded .at) (load (drop (load p b memory .loaded .at) p ++ q) (load p b memory .loaded .book) (load p b memory .meter))
+      ≡ shiftedBy (load p b memory .loaded .at) (load (drop (load p b memory .loaded .at) p ++ q) (load p b memory .loaded .book) (load p b memory .meter))
   pub ends : unfinished (load p b memory .loaded .answer) ≡ false → load (p ++ q) b memory ≡ load p b memory
 
 -- pieces one after the other do what the whole file does

@@ -13,7 +13,7 @@ use Rattle.rules.specs.File.{table, widthsOf, total, bytesOf, byteOf, operandsO
 use Rattle.commands.specs.declared.entries.Command.{Command}
 use Rattle.commands.specs.declared.entries.Command.the-variants.{Contract as contractᶜ, Window as windowᶜ, Instruction as instructionᶜ}
 use Rattle.commands.specs.declared.entries.Command.the-variants.{Default as defaultᶜ, Reading as readingᶜ, Close as closeᶜ}
-use Rattle.file_table.specs.Table.{padded, rowOf, rowIn, rowFor}
+use Rattle.file_table.specs.Table.{padded, tableRow, rowIn, rowFor}
 
 -- ---- operands as bytes
 
@@ -66,7 +66,7 @@ pub record Encoded (c : Command) : Type 0 where
   pub parts : rowFor (byteOf c) .length ≡ 1 + total (take (rowFor (byteOf c) .count) (rowFor (byteOf c) .widths))
 
 pub encoded : (c : Command) → Encoded c
-unfolding table widthsOf total bytesOf writeOperands write padded rowOf rowIn rowFor
+unfolding table widthsOf total bytesOf writeOperands write padded tableRow rowIn rowFor
 encoded (contractᶜ k) = record { bytes = refl; long = refl; parts = refl }
 encoded (windowᶜ w) = record { bytes = refl; long = refl; parts = refl }
 encoded (instructionᶜ i) = record { bytes = refl; long = refl; parts = refl }

@@ -7,11 +7,11 @@ use Rattle.rules.specs.declared.file.Read.the-variants.{Got, Refused, End}
 use Rattle.file_read.specs.declared.reader.Step.{Step}
 
 -- the position after a read: past a command; after 1 or 2, and at the end, it has not moved
-abbrev pub after : Read → ℕ → ℕ
-after (Got c next) at = next
-after (Refused n) at = at
-after End at = at
+abbrev pub positionAfter : Read → ℕ → ℕ
+positionAfter (Got c next) at = next
+positionAfter (Refused n) at = at
+positionAfter End at = at
 
 -- a reader's step from a position
 unfoldable pub stepAt : List ℕ → ℕ → Step
-stepAt s at = record { read = readAt s at; at = after (readAt s at) at }
+stepAt s at = record { read = readAt s at; at = positionAfter (readAt s at) at }

@@ -2,7 +2,7 @@
 use crate::decode::read_at;
 use rules::file::Read;
 ghost use mathlib.Core.Path.{_≡_};
-ghost use Rattle.file_read.specs.Reader.{after, stepAt};
+ghost use Rattle.file_read.specs.Reader.{positionAfter, stepAt};
 
 pub struct Reader<'a> {
     pub src: &'a [u8],
@@ -23,7 +23,7 @@ pub struct Step {
 
 // The position after a command; at the end, and after a refusal, the position has not moved.
 fn moved(read: Read, at: usize) -> usize
-    ensures { λ r. ⌜ r ≡ after read at ⌝ }
+    ensures { λ r. ⌜ r ≡ positionAfter read at ⌝ }
 {
     match read {
         Read::Got(_, next) => next,

@@ -13,15 +13,15 @@ use lib.Seq.{drop-cons, take-append-seam}
 use Rattle.energy.specs.Lists.{all, else}
 use Rattle.energy.proofs.Tests.{T-and}
 use Rattle.rules.specs.File.{Layout, table, widthsOf, total}
-use Rattle.file_table.specs.Table.{padded, rowOf, layoutAt, rowIn, rowFor, byteWidths}
+use Rattle.file_table.specs.Table.{padded, tableRow, layoutAt, rowIn, rowFor, byteWidths}
 use Rattle.file_table.specs.Operands.{Narrow}
 use Rattle.file_table.proofs.Operands.{getD-padded}
 
 -- ---- a search for a command byte that has come to a place
 module _ (b k : ℕ) (searched : widthsOf b table ≡ widthsOf b (drop k table)) where
   -- the byte stands there
-  pub row-here : k < 6 → layoutAt k .byte ≡ b → rowOf (layoutAt k) ≡ rowFor b
-  unfolding widthsOf layoutAt table rowOf rowIn rowFor
+  pub row-here : k < 6 → layoutAt k .byte ≡ b → tableRow (layoutAt k) ≡ rowFor b
+  unfolding widthsOf layoutAt table tableRow rowIn rowFor
   row-here h e =
       let there : widthsOf b table ≡ some (layoutAt k .widths) =
       searched ∙ rw (drop-cons table k (record { byte = 0; widths = [] }) h, eq-eqb (layoutAt k .byte) b) in
@@ -40,7 +40,7 @@ module _ (b k : ℕ) (searched : widthsOf b table ≡ widthsOf b (drop k table))
 -- ---- what a row says
 
 pub row-widths : (b : ℕ) → take (rowFor b .count) (rowFor b .widths) ≡ byteWidths b
-unfolding else padded rowOf rowIn rowFor byteWidths
+unfolding else padded tableRow rowIn rowFor byteWidths
 row-widths b = go (widthsOf b table)
   where
     go : (o : Option (List ℕ)) → take (rowIn b o .count) (rowIn b o .widths) ≡ else o []
@@ -49,7 +49,7 @@ row-widths b = go (widthsOf b table)
 
 -- a row of length 0 is that of a byte without widths
 pub row-none : (b : ℕ) → rowFor b .length ≡ 0 → widthsOf b table ≡ none
-unfolding rowOf rowIn rowFor
+unfolding tableRow rowIn rowFor
 row-none b e = go (widthsOf b table) e
   where
     go : (o : Option (List ℕ)) → rowIn b o .length ≡ 0 → o ≡ none
@@ -67,7 +67,7 @@ module _ (b : ℕ) (h : rowFor b .length ≡ 0 → ⊥) where
       go (some ws) h = refl
 
   pub row-length : rowFor b .length ≡ 1 + total (byteWidths b)
-  unfolding else rowOf rowIn rowFor byteWidths
+  unfolding else tableRow rowIn rowFor byteWidths
   row-length = go (widthsOf b table) h
     where
       go : (o : Option (List ℕ)) → (rowIn b o .length ≡ 0 → ⊥) → rowIn b o .length ≡ 1 + total (else o [])
@@ -98,7 +98,7 @@ narrowTest : List ℕ → Bool
 narrowTest ws = leb (length ws) 11 && all (λ w. leb w 4) ws
 
 pub row-narrow : (b : ℕ) → Narrow (rowFor b .count) (rowFor b .widths)
-unfolding else all table narrowTest rowOf rowIn rowFor
+unfolding else all table narrowTest tableRow rowIn rowFor
 row-narrow b = go (widthsOf b table) (widths-pass narrowTest b table tt tt)
   where
     go : (o : Option (List ℕ)) → T (narrowTest (else o [])) → Narrow (rowIn b o .count) (rowIn b o .widths)

@@ -12,8 +12,8 @@ unfoldable pub padded : List ℕ → List ℕ
 padded xs = xs ++ replicate (11 - length xs) 0
 
 -- a row of the rules' table in the code's shape
-unfoldable pub rowOf : Layout → Row
-rowOf l = record { byte = l .byte; length = whole l; count = length (l .widths); widths = padded (l .widths) }
+unfoldable pub tableRow : Layout → Row
+tableRow l = record { byte = l .byte; length = whole l; count = length (l .widths); widths = padded (l .widths) }
 
 -- the row at a place of the rules' table
 unfoldable pub layoutAt : ℕ → Layout
@@ -22,7 +22,7 @@ layoutAt k = getD table k (record { byte = 0; widths = [] })
 -- the row of a command byte with these widths, and one of length 0 where it has none
 unfoldable pub rowIn : ℕ → Option (List ℕ) → Row
 rowIn b none = record { byte = 0; length = 0; count = 0; widths = padded [] }
-rowIn b (some ws) = rowOf (record { byte = b; widths = ws })
+rowIn b (some ws) = tableRow (record { byte = b; widths = ws })
 
 -- the row of a command byte
 unfoldable pub rowFor : ℕ → Row

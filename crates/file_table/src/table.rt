@@ -1,7 +1,7 @@
 // The table of the unit file: command bytes, whole lengths and operand widths. Decoder and encoder read them here.
 ghost use mathlib.Core.Path.{_≡_};
 ghost use Prim.Native.Nat.{_<_};
-ghost use Rattle.file_table.specs.Table.{rowOf, layoutAt, rowFor};
+ghost use Rattle.file_table.specs.Table.{tableRow, layoutAt, rowFor};
 
 pub const CONTRACT_BYTE: u8 = 0x43;
 
@@ -81,7 +81,7 @@ const MISSING: Row = Row {
 
 fn row_at(place: usize) -> Row
     requires { ⌜ place < 6 ⌝ }
-    ensures { λ r. ⌜ r ≡ rowOf (layoutAt place) ⌝ }
+    ensures { λ r. ⌜ r ≡ tableRow (layoutAt place) ⌝ }
 {
     TABLE[place]
 }

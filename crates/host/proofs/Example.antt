@@ -5,7 +5,7 @@ use Rattle.rules.proofs.Definitions.{opened}
 use Rattle.book.specs.Book.{bookSpan, bookCells, ledgerIn}
 use Rattle.book.specs.Sound.{noContractTests, emptyTests, tableTests, sound}
 use Rattle.settle_numbers.specs.Numbers.{numbersOf, numberBook}
-use Rattle.host_tables.specs.Tables.{contractIn, windowIn, instructionIn, defaultIn, entriesOf, bookOf, entire}
+use Rattle.host_tables.specs.Tables.{contractOfRow, windowOfRow, instructionOfRow, defaultOfRow, entriesOf, bookOf, entire}
 use Rattle.host_sums.specs.Sums.{sumsOf}
 use Rattle.host.specs.Calls.{settleInto, settleTables}
 use Rattle.host.specs.Example.{Example}
@@ -17,7 +17,7 @@ books = tt
 
 -- those of tables, numbers and sums
 unfoldable numbers : Unit {0}
-unfolding contractIn windowIn instructionIn defaultIn entriesOf bookOf entire numbersOf numberBook sumsOf
+unfolding contractOfRow windowOfRow instructionOfRow defaultOfRow entriesOf bookOf entire numbersOf numberBook sumsOf
 numbers = tt
 
 pub example : Example

@@ -11,7 +11,7 @@ use Rattle.rules.specs.declared.answer.Answer.the-variants.{Taken, Refused}
 use Rattle.rules.specs.declared.statement.Statement.{Statement}
 use Rattle.book.specs.Book.{emptyBook}
 use Rattle.book.specs.declared.Book.{Book}
-use Rattle.settle_numbers.specs.Numbers.{Numbered, numberBook}
+use Rattle.settle_numbers.specs.Numbers.{SettledAsNumbers, numberBook}
 use Rattle.file_load.specs.Load.{LoadedFile, load}
 use Rattle.host.specs.Answers.{numberOf, packed}
 use Rattle.host_sums.specs.Sums.{sumCount, sumsOf}
@@ -60,7 +60,7 @@ shortNumber (Refused n) = n
 -- settling a book into numbers. Whether there is room for the sums is asked last
 unfoldable pub settleInto : Book → Memory → List ℤ → List ℤ → SettledBook
 settleInto b meter lines sums =
-    let s : Numbered = numberBook b meter lines in
+    let s : SettledAsNumbers = numberBook b meter lines in
     let a : Answer = s .settlement .answer in
     cond (ltb (length sums) sumCount) (settledBook (shortNumber a) lines sums)
     (settledBook (numberOf a) (s .memory) (sumsBy a (s .settlement .statement) (b .nwindows) sums))

@@ -19,13 +19,13 @@ abbrev pub cut : Tables
 cut = tables guide (0 ∷ 180 ∷ 0 ∷ []) (5 ∷ []) []
 
 -- its metered MW, from minute 19 to minute 90
-abbrev pub metered : List ℕ
-metered =
+abbrev pub meteredMw : List ℕ
+meteredMw =
     (0 ∷ 2 ∷ 4 ∷ 6 ∷ 8 ∷ 10 ∷ 12 ∷ 12 ∷ 12 ∷ 12 ∷ 13 ∷ []) ++ times 15 (10 ∷ 13 ∷ []) ++ times 25 (13 ∷ []) ++ (13 ∷ 11 ∷ 9 ∷ 7 ∷ 5 ∷ 3 ∷ [])
 
 -- a day of meter memory with these, and 0 in every other minute
-abbrev pub day : Memory
-day = lent (replicate 19 (pos 0) ++ map (λ x. pos (1000 * x)) metered ++ replicate 1349 (pos 0))
+abbrev pub exampleDay : Memory
+exampleDay = lent (replicate 19 (pos 0) ++ map (λ x. pos (1000 * x)) meteredMw ++ replicate 1349 (pos 0))
 
 -- memory of so many numbers, all 7
 abbrev pub sevens : ℕ → List ℤ
@@ -47,11 +47,11 @@ sumNumbers = map pos (6 ∷ 1 ∷ 12800 ∷ 384000 ∷ 32400 ∷ 416400 ∷ 6 �
 
 -- room for six lines is 48 numbers, for the sums 262
 pub record Example : Type 0 where
-  pub settled : settleTables appendix day (sevens 49) (sevens 263) ≡ settledBook 0 (lineNumbers ++ sevens 1) (sumNumbers ++ sevens 1)
+  pub settled : settleTables appendix exampleDay (sevens 49) (sevens 263) ≡ settledBook 0 (lineNumbers ++ sevens 1) (sumNumbers ++ sevens 1)
   -- a number too few of either
-  pub fewLines : settleTables appendix day (sevens 47) (sevens 262) ≡ settledBook 26 (sevens 47) (sevens 262)
-  pub fewSums : settleTables appendix day (sevens 48) (sevens 261) ≡ settledBook 26 (sevens 48) (sevens 261)
+  pub fewLines : settleTables appendix exampleDay (sevens 47) (sevens 262) ≡ settledBook 26 (sevens 47) (sevens 262)
+  pub fewSums : settleTables appendix exampleDay (sevens 48) (sevens 261) ≡ settledBook 26 (sevens 48) (sevens 261)
   -- too few sums, and something before it: no readings, meter memory a minute short, a row cut short
   pub unread : settleTables appendix (lent (replicate 1440 missing)) (sevens 48) (sevens 261) ≡ settledBook 25 (sevens 48) (sevens 261)
   pub fewMinutes : settleTables appendix (lent (replicate 1439 (pos 0))) (sevens 48) (sevens 261) ≡ settledBook 15 (sevens 48) (sevens 261)
-  pub cutShort : settleTables cut day (sevens 48) (sevens 261) ≡ settledBook 11 (sevens 48) (sevens 261)
+  pub cutShort : settleTables cut exampleDay (sevens 48) (sevens 261) ≡ settledBook 11 (sevens 48) (sevens 261)

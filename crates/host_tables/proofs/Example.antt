@@ -1,11 +1,11 @@
 -- The example of a book in tables, by computation.
 use mathlib.Core.Path.{refl}
 use Rattle.energy.specs.Lists.{run, between}
-use Rattle.host_tables.specs.Tables.{contractIn, windowIn, instructionIn, defaultIn, entriesOf, bookOf, entire}
+use Rattle.host_tables.specs.Tables.{contractOfRow, windowOfRow, instructionOfRow, defaultOfRow, entriesOf, bookOf, entire}
 use Rattle.host_tables.specs.Example.{Example}
 
 pub example : Example
-unfolding run between contractIn windowIn instructionIn defaultIn entriesOf bookOf entire
+unfolding run between contractOfRow windowOfRow instructionOfRow defaultOfRow entriesOf bookOf entire
 example =
     record {
       contract = refl;

@@ -9,15 +9,15 @@ use lib.ListN.{take}
 use Rattle.commands.specs.declared.entries.Window.{Window}
 use Rattle.commands.specs.declared.entries.Instruction.{Instruction}
 use Rattle.commands.specs.declared.entries.Default.{Default}
-use Rattle.host_tables.specs.Tables.{Tables, tables, contractIn, windowIn, instructionIn, defaultIn, bookOf, entire}
+use Rattle.host_tables.specs.Tables.{Tables, tables, contractOfRow, windowOfRow, instructionOfRow, defaultOfRow, bookOf, entire}
 
 -- a contract's row: days, kind, service, contracted kW, ramp up, ramp down, response, recovery, availability, utilisation and optional rate
 abbrev pub contractRow : List ℕ
 contractRow = 31 ∷ 1 ∷ 0 ∷ 12000 ∷ 2000 ∷ 3000 ∷ 20 ∷ 60 ∷ 900 ∷ 30000 ∷ 55000 ∷ []
 
 -- two windows, two instructions, two defaults
-abbrev pub month : Tables
-month =
+abbrev pub exampleTables : Tables
+exampleTables =
     tables contractRow (30 ∷ 90 ∷ 1 ∷ 120 ∷ 180 ∷ 0 ∷ []) (5 ∷ 85 ∷ 200 ∷ 240 ∷ []) (31 ∷ 4 ∷ 1 ∷ 125 ∷ 2 ∷ 3 ∷ [])
 
 -- a window: start, end, verdict
@@ -35,7 +35,7 @@ default m k r = record { minute = record { 0 = m }; kind = k; reach = r }
 -- the book of these tables, and of rows beside them
 pub record Example : Type 0 where
   pub contract :
-      bookOf month .contract
+      bookOf exampleTables .contract
       ≡ record {
         days = 31;
         kind = 1;
@@ -50,24 +50,24 @@ pub record Example : Type 0 where
         optional = 55000;
       }
   -- the entries, and the first place after them
-  pub windows : take 3 (bookOf month .windows) ≡ window 30 90 1 ∷ window 120 180 0 ∷ window 0 0 0 ∷ []
-  pub instructions : take 3 (bookOf month .instructions) ≡ instruction 5 85 ∷ instruction 200 240 ∷ instruction 0 0 ∷ []
-  pub defaults : take 3 (bookOf month .defaults) ≡ default 31 4 1 ∷ default 125 2 3 ∷ default 0 0 0 ∷ []
+  pub windows : take 3 (bookOf exampleTables .windows) ≡ window 30 90 1 ∷ window 120 180 0 ∷ window 0 0 0 ∷ []
+  pub instructions : take 3 (bookOf exampleTables .instructions) ≡ instruction 5 85 ∷ instruction 200 240 ∷ instruction 0 0 ∷ []
+  pub defaults : take 3 (bookOf exampleTables .defaults) ≡ default 31 4 1 ∷ default 125 2 3 ∷ default 0 0 0 ∷ []
   -- how many of each
-  pub windowCount : bookOf month .nwindows ≡ 2
-  pub instructionCount : bookOf month .ninstructions ≡ 2
-  pub defaultCount : bookOf month .ndefaults ≡ 2
+  pub windowCount : bookOf exampleTables .nwindows ≡ 2
+  pub instructionCount : bookOf exampleTables .ninstructions ≡ 2
+  pub defaultCount : bookOf exampleTables .ndefaults ≡ 2
   -- the book is one with a contract, and closed
-  pub agreed : bookOf month .agreed ≡ true
-  pub closed : bookOf month .closed ≡ true
+  pub agreed : bookOf exampleTables .agreed ≡ true
+  pub closed : bookOf exampleTables .closed ≡ true
   -- a number too wide for its field, which would be in its range if it were cut to the field
-  pub wideDays : contractIn (257 ∷ []) .days ≡ 255
-  pub wideResponse : contractIn (1 ∷ 0 ∷ 0 ∷ 0 ∷ 0 ∷ 0 ∷ 65556 ∷ []) .response .0 ≡ 65535
-  pub wideWindow : windowIn (65536 ∷ 65566 ∷ 256 ∷ []) ≡ window 65535 65535 255
-  pub wideInstruction : instructionIn (65541 ∷ 65621 ∷ []) ≡ instruction 65535 65535
-  pub wideDefault : defaultIn (65536 ∷ 257 ∷ 257 ∷ []) ≡ default 65535 255 255
+  pub wideDays : contractOfRow (257 ∷ []) .days ≡ 255
+  pub wideResponse : contractOfRow (1 ∷ 0 ∷ 0 ∷ 0 ∷ 0 ∷ 0 ∷ 65556 ∷ []) .response .0 ≡ 65535
+  pub wideWindow : windowOfRow (65536 ∷ 65566 ∷ 256 ∷ []) ≡ window 65535 65535 255
+  pub wideInstruction : instructionOfRow (65541 ∷ 65621 ∷ []) ≡ instruction 65535 65535
+  pub wideDefault : defaultOfRow (65536 ∷ 257 ∷ 257 ∷ []) ≡ default 65535 255 255
   -- rows that are whole, and tables with one cut short or with a number too many
-  pub wholeRows : entire month ≡ true
+  pub wholeRows : entire exampleTables ≡ true
   pub shortContract : entire (tables (31 ∷ 1 ∷ 0 ∷ 12000 ∷ 2000 ∷ 3000 ∷ 20 ∷ 60 ∷ 900 ∷ 30000 ∷ []) [] [] []) ≡ false
   pub longContract : entire (tables (0 ∷ contractRow) [] [] []) ≡ false
   pub shortWindow : entire (tables contractRow (30 ∷ 90 ∷ []) [] []) ≡ false

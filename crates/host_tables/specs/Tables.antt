@@ -57,8 +57,8 @@ abbrev pub wordAt : List ℕ → ℕ → ℕ
 wordAt r i = min (numberAt r i) 65535
 
 -- the contract of a row
-unfoldable pub contractIn : List ℕ → Contract
-contractIn r =
+unfoldable pub contractOfRow : List ℕ → Contract
+contractOfRow r =
     record {
       days = byteAt r 0;
       kind = byteAt r 1;
@@ -74,16 +74,16 @@ contractIn r =
     }
 
 -- the window of a row
-unfoldable pub windowIn : List ℕ → Window
-windowIn r = record { start = record { 0 = wordAt r 0 }; end = record { 0 = wordAt r 1 }; verdict = byteAt r 2 }
+unfoldable pub windowOfRow : List ℕ → Window
+windowOfRow r = record { start = record { 0 = wordAt r 0 }; end = record { 0 = wordAt r 1 }; verdict = byteAt r 2 }
 
 -- the instruction of a row
-unfoldable pub instructionIn : List ℕ → Instruction
-instructionIn r = record { issue = record { 0 = wordAt r 0 }; cease = record { 0 = wordAt r 1 } }
+unfoldable pub instructionOfRow : List ℕ → Instruction
+instructionOfRow r = record { issue = record { 0 = wordAt r 0 }; cease = record { 0 = wordAt r 1 } }
 
 -- the default of a row
-unfoldable pub defaultIn : List ℕ → Default
-defaultIn r = record { minute = record { 0 = wordAt r 0 }; kind = byteAt r 1; reach = byteAt r 2 }
+unfoldable pub defaultOfRow : List ℕ → Default
+defaultOfRow r = record { minute = record { 0 = wordAt r 0 }; kind = byteAt r 1; reach = byteAt r 2 }
 
 -- ---- tables
 
@@ -102,12 +102,12 @@ bookOf t =
     record {
       agreed = true;
       closed = true;
-      contract = contractIn (t .contract);
-      windows = entriesOf windowIn windowNumbers 128 (t .windows);
+      contract = contractOfRow (t .contract);
+      windows = entriesOf windowOfRow windowNumbers 128 (t .windows);
       nwindows = length (t .windows) / windowNumbers;
-      instructions = entriesOf instructionIn instructionNumbers 64 (t .instructions);
+      instructions = entriesOf instructionOfRow instructionNumbers 64 (t .instructions);
       ninstructions = length (t .instructions) / instructionNumbers;
-      defaults = entriesOf defaultIn defaultNumbers 128 (t .defaults);
+      defaults = entriesOf defaultOfRow defaultNumbers 128 (t .defaults);
       ndefaults = length (t .defaults) / defaultNumbers;
     }
 

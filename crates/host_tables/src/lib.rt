@@ -1,7 +1,7 @@
 // The book that a host's tables of numbers say.
 ghost use mathlib.Core.Path.{_≡_};
 ghost use Prim.Native.Nat.{_+_, min};
-ghost use Rattle.host_tables.specs.Tables.{bookOf, contractIn, defaultIn, entire, entriesOf, instructionIn, tables, windowIn};
+ghost use Rattle.host_tables.specs.Tables.{bookOf, contractOfRow, defaultOfRow, entire, entriesOf, instructionOfRow, tables, windowOfRow};
 ghost use Rattle.host_tables.specs.Tables.{byteAt, defaultNumbers, instructionNumbers, numberAt, windowNumbers, wordAt};
 use book::Book;
 use commands::contract::Contract;
@@ -54,7 +54,7 @@ fn word_at(r: &[u32], i: usize) -> u16
 
 // The contract of a row.
 fn contract_in(r: &[u32]) -> Contract
-    ensures { λ k. ⌜ k ≡ contractIn (now (r .entry)) ⌝ }
+    ensures { λ k. ⌜ k ≡ contractOfRow (now (r .entry)) ⌝ }
 {
     let contracted = Kw(number_at(r, 3) as i64);
     let response = Minutes(word_at(r, 6));
@@ -76,7 +76,7 @@ fn contract_in(r: &[u32]) -> Contract
 
 // The window of a row.
 fn window_in(r: &[u32]) -> Window
-    ensures { λ w. ⌜ w ≡ windowIn (now (r .entry)) ⌝ }
+    ensures { λ w. ⌜ w ≡ windowOfRow (now (r .entry)) ⌝ }
 {
     let start = Minutes(word_at(r, 0));
     let end = Minutes(word_at(r, 1));
@@ -89,7 +89,7 @@ fn window_in(r: &[u32]) -> Window
 
 // The instruction of a row.
 fn instruction_in(r: &[u32]) -> Instruction
-    ensures { λ x. ⌜ x ≡ instructionIn (now (r .entry)) ⌝ }
+    ensures { λ x. ⌜ x ≡ instructionOfRow (now (r .entry)) ⌝ }
 {
     let issue = Minutes(word_at(r, 0));
     let cease = Minutes(word_at(r, 1));
@@ -101,7 +101,7 @@ fn instruction_in(r: &[u32]) -> Instruction
 
 // The default of a row.
 fn default_in(r: &[u32]) -> Default
-    ensures { λ d. ⌜ d ≡ defaultIn (now (r .entry)) ⌝ }
+    ensures { λ d. ⌜ d ≡ defaultOfRow (now (r .entry)) ⌝ }
 {
     let minute = Minutes(word_at(r, 0));
     Default {
@@ -123,7 +123,7 @@ fn places(whole: usize, most: usize) -> usize
 
 // The windows of a table, in the book's 128 places.
 fn windows_of(s: &[u32]) -> [Window; 128]
-    ensures { λ r. ⌜ r ≡ entriesOf windowIn windowNumbers 128 (now (s .entry)) ⌝ }
+    ensures { λ r. ⌜ r ≡ entriesOf windowOfRow windowNumbers 128 (now (s .entry)) ⌝ }
 {
     let n = places(s.len() / WINDOW_NUMBERS, Contract::WINDOWS_MOST);
     let none = Window {
@@ -144,7 +144,7 @@ fn windows_of(s: &[u32]) -> [Window; 128]
 
 // The instructions of a table, in the book's 64 places.
 fn instructions_of(s: &[u32]) -> [Instruction; 64]
-    ensures { λ r. ⌜ r ≡ entriesOf instructionIn instructionNumbers 64 (now (s .entry)) ⌝ }
+    ensures { λ r. ⌜ r ≡ entriesOf instructionOfRow instructionNumbers 64 (now (s .entry)) ⌝ }
 {
     let n = places(s.len() / INSTRUCTION_NUMBERS, Contract::INSTRUCTIONS_MOST);
     let none = Instruction {
@@ -164,7 +164,7 @@ fn instructions_of(s: &[u32]) -> [Instruction; 64]
 
 // The defaults of a table, in the book's 128 places.
 fn defaults_of(s: &[u32]) -> [Default; 128]
-    ensures { λ r. ⌜ r ≡ entriesOf defaultIn defaultNumbers 128 (now (s .entry)) ⌝ }
+    ensures { λ r. ⌜ r ≡ entriesOf defaultOfRow defaultNumbers 128 (now (s .entry)) ⌝ }
 {
     let n = places(s.len() / DEFAULT_NUMBERS, Contract::DEFAULTS_MOST);
     let none = Default {

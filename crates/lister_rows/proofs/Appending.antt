@@ -6,7 +6,7 @@ use native.Mathlib.Omega.{arith}
 use lib.ListN.{length, set, replicate, length-append}
 use lib.Seq.{append-snoc, set-append-seam, take-append-seam}
 use borrow.Author.Tests.{lt-ltb}
-use Rattle.lister_rows.specs.Row.{Counted, rowOf, putByte, putAll}
+use Rattle.lister_rows.specs.Row.{Counted, rowOf, putByte, appendedTo}
 use Rattle.lister_rows.specs.Rows.{digit, digits, fieldsOf, lineFeed, row, space}
 use Rattle.lister_rows.specs.declared.row.Row.{Row}
 use Rattle.lister_rows.proofs.Digits.{digits-one, digits-more}
@@ -23,31 +23,31 @@ put-one bs b h =
     simp (lt-ltb (length bs) 128 h) cc
 
 -- bytes put behind others, as long as there is room
-put-all : (bs cs : List ℕ) → length bs + length cs ≤ 128 → putAll (rowOf bs) cs ≡ rowOf (bs ++ cs)
+put-all : (bs cs : List ℕ) → length bs + length cs ≤ 128 → appendedTo (rowOf bs) cs ≡ rowOf (bs ++ cs)
 put-all bs [] h = ap rowOf (sym (append-nil bs))
 put-all bs (c ∷ cs) h = rw (put-one bs c (omega arith), put-all (bs ++ (c ∷ [])) cs (rw length-append (omega arith)), append-snoc bs c cs)
 
 -- bytes put in two parts
-pub put-append : (r : Row) (xs ys : List ℕ) → putAll r (xs ++ ys) ≡ putAll (putAll r xs) ys
+pub put-append : (r : Row) (xs ys : List ℕ) → appendedTo r (xs ++ ys) ≡ appendedTo (appendedTo r xs) ys
 put-append r [] ys = refl
 put-append r (x ∷ xs) ys = put-append (putByte r x) xs ys
 
 -- ---- digits
 
 -- a number below 10 is its own digit
-pub put-digit : (r : Row) (n : ℕ) → n < 10 → putByte r (digit n) ≡ putAll r (digits n)
-put-digit r n h = ap (putAll r) (sym (digits-one n h))
+pub put-digit : (r : Row) (n : ℕ) → n < 10 → putByte r (digit n) ≡ appendedTo r (digits n)
+put-digit r n h = ap (appendedTo r) (sym (digits-one n h))
 
 -- the digits of n / 10, and the last one
-pub put-digits : (r : Row) (n : ℕ) → 10 ≤ n → putByte (putAll r (digits (n / 10))) (digit (n % 10)) ≡ putAll r (digits n)
-put-digits r n h = sym (put-append r (digits (n / 10)) (digit (n % 10) ∷ [])) ∙ ap (putAll r) (sym (digits-more n h))
+pub put-digits : (r : Row) (n : ℕ) → 10 ≤ n → putByte (appendedTo r (digits (n / 10))) (digit (n % 10)) ≡ appendedTo r (digits n)
+put-digits r n h = sym (put-append r (digits (n / 10)) (digit (n % 10) ∷ [])) ∙ ap (appendedTo r) (sym (digits-more n h))
 
 -- ---- fields
 
 -- a row with these fields more
 abbrev pub putFields : Row → List (List ℕ) → Row
 putFields r [] = r
-putFields r (f ∷ fs) = putFields (putAll r (space ∷ f)) fs
+putFields r (f ∷ fs) = putFields (appendedTo r (space ∷ f)) fs
 
 -- fields and a line feed put behind other bytes
 fields-on : (bs : List ℕ) (fs : List (List ℕ)) → length bs + length (fieldsOf fs) ≤ 128 → putByte (putFields (rowOf bs) fs) lineFeed ≡ rowOf (bs ++ fieldsOf fs)

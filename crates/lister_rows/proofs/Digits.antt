@@ -14,7 +14,7 @@ use mir.Val.{SFits}
 use Rattle.energy.specs.Lists.{all}
 use Rattle.energy.proofs.Tests.{and-T, all-snoc, off-T}
 use Rattle.lister_rows.specs.Rows.{digit, digits, digitsIn, signedDigits}
-use Rattle.lister_rows.specs.Digits.{isDigit, noLeadingZero, readOn, Numeral, Digits·theorem}
+use Rattle.lister_rows.specs.Digits.{isDigit, noLeadingZero, digitsAfter, Numeral, Digits·theorem}
 
 -- a step of the definition, by its test
 abbrev step : ℕ → ℕ → Bool → List ℕ
@@ -82,8 +82,8 @@ signed-length (negsuc n) h = omega (arith, digits-length (suc n) 18 (omega (arit
 
 -- ---- the numeral
 
-read-on : (n : ℕ) (xs ys : List ℕ) → readOn n (xs ++ ys) ≡ readOn (readOn n xs) ys
-unfolding readOn
+read-on : (n : ℕ) (xs ys : List ℕ) → digitsAfter n (xs ++ ys) ≡ digitsAfter (digitsAfter n xs) ys
+unfolding digitsAfter
 read-on n [] ys = refl
 read-on n (x ∷ xs) ys = read-on (10 * n + (x - 48)) xs ys
 
@@ -107,7 +107,7 @@ record Grown (n : ℕ) (bs : List ℕ) : Type 0 where
   led : 0 < n → T (leads bs)
 
 pub digits-numeral : Digits·theorem
-unfolding Digits·theorem readOn noLeadingZero all
+unfolding Digits·theorem digitsAfter noLeadingZero all
 digits-numeral n = by-digits Grown one more n .numeral
   where
     one : (n : ℕ) → n < 10 → Grown n (digit n ∷ [])

@@ -19,13 +19,13 @@ noLeadingZero (b ∷ []) = true
 noLeadingZero (b ∷ c ∷ bs) = not (eqb b (code "0"))
 
 -- what digits say after digits that said n
-unfoldable pub readOn : ℕ → List ℕ → ℕ
-readOn n [] = n
-readOn n (b ∷ bs) = readOn (10 * n + (b - code "0")) bs
+unfoldable pub digitsAfter : ℕ → List ℕ → ℕ
+digitsAfter n [] = n
+digitsAfter n (b ∷ bs) = digitsAfter (10 * n + (b - code "0")) bs
 
 -- these bytes are the decimal numeral of n
 pub record Numeral (n : ℕ) (bs : List ℕ) : Type 0 where
-  pub reads : readOn 0 bs ≡ n
+  pub reads : digitsAfter 0 bs ≡ n
   pub decimal : T (all isDigit bs)
   pub shortest : T (noLeadingZero bs)
 

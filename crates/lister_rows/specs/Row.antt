@@ -20,6 +20,6 @@ unfoldable pub putByte : Row → ℕ → Row
 putByte r b = cond (ltb (r .len) 128) (record { bytes = set (r .bytes) (r .len) b; len = r .len + 1 }) r
 
 -- a row with these bytes more
-abbrev pub putAll : Row → List ℕ → Row
-putAll r [] = r
-putAll r (b ∷ bs) = putAll (putByte r b) bs
+abbrev pub appendedTo : Row → List ℕ → Row
+appendedTo r [] = r
+appendedTo r (b ∷ bs) = appendedTo (putByte r b) bs

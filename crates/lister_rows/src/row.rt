@@ -1,7 +1,7 @@
 // A row by value: its bytes, and how many there are. Appending hands back the longer row.
 ghost use mathlib.Core.List.{[]};
 ghost use mathlib.Core.Path.{_≡_};
-ghost use Rattle.lister_rows.specs.Row.{putAll, putByte, rowOf};
+ghost use Rattle.lister_rows.specs.Row.{appendedTo, putByte, rowOf};
 ghost use Rattle.lister_rows.specs.Rows.{digits, signedDigits};
 use energy::magnitude::magnitude;
 
@@ -36,7 +36,7 @@ impl Row {
 
     // The digits of a number: those before the last one, then that one.
     pub fn number(self, n: u64) -> Row
-        ensures { λ r. ⌜ r ≡ putAll self (digits n) ⌝ }
+        ensures { λ r. ⌜ r ≡ appendedTo self (digits n) ⌝ }
     {
         if n < 10 {
             return self.put(b'0' + n as u8);
@@ -46,7 +46,7 @@ impl Row {
 
     // A number with a sign.
     pub fn signed(self, n: i64) -> Row
-        ensures { λ r. ⌜ r ≡ putAll self (signedDigits n) ⌝ }
+        ensures { λ r. ⌜ r ≡ appendedTo self (signedDigits n) ⌝ }
     {
         let size = magnitude(n);
         if n < 0 {

@@ -91,8 +91,8 @@ abbrev pub offer : ℕ → ℕ → ℕ → Command
 offer a b v = windowᶜ (record { start = record { 0 = a }; end = record { 0 = b }; verdict = v })
 
 -- an instruction: issue, cease
-abbrev pub call : ℕ → ℕ → Command
-call a b = instructionᶜ (record { issue = record { 0 = a }; cease = record { 0 = b } })
+abbrev pub instructed : ℕ → ℕ → Command
+instructed a b = instructionᶜ (record { issue = record { 0 = a }; cease = record { 0 = b } })
 
 -- a default: minute, kind, reach
 abbrev pub defaulted : ℕ → ℕ → ℕ → Command
@@ -103,9 +103,9 @@ abbrev pub metered : ℕ → ℤ → Command
 metered m z = readingᶜ (record { minute = record { 0 = m }; kw = record { 0 = z } })
 
 -- readings in the minutes from m
-abbrev pub readings : ℕ → List ℤ → List Command
-readings m [] = []
-readings m (z ∷ zs) = metered m z ∷ readings (suc m) zs
+abbrev pub readingsFrom : ℕ → List ℤ → List Command
+readingsFrom m [] = []
+readingsFrom m (z ∷ zs) = metered m z ∷ readingsFrom (suc m) zs
 
 -- n windows of a period each, from minute m
 abbrev pub periods : ℕ → ℕ → List Command
@@ -118,9 +118,9 @@ faults zero m = []
 faults (suc n) m = defaulted m 1 1 ∷ faults n (m + 30)
 
 -- n instructions of Appendix 2's contract, each issued at the end of the one before, from minute m
-abbrev pub calls : ℕ → ℕ → List Command
-calls zero m = []
-calls (suc n) m = call m (m + 20) ∷ calls n (m + 26)
+abbrev pub manyInstructed : ℕ → ℕ → List Command
+manyInstructed zero m = []
+manyInstructed (suc n) m = instructed m (m + 20) ∷ manyInstructed n (m + 26)
 
 -- ---- Appendices 2 and 3
 
@@ -131,7 +131,7 @@ times (suc n) xs = xs ++ times n xs
 
 -- readings in MW of minutes 2 to 5, and of minutes 19 to 90
 abbrev pub megawatts : List ℕ → List ℕ → List Command
-megawatts base active = readings 2 (map (λ x. pos (1000 * x)) base) ++ readings 19 (map (λ x. pos (1000 * x)) active)
+megawatts base active = readingsFrom 2 (map (λ x. pos (1000 * x)) base) ++ readingsFrom 19 (map (λ x. pos (1000 * x)) active)
 
 -- Appendix 2's metered MW
 abbrev pub generated : List Command
@@ -151,7 +151,7 @@ opening = agree guide ∷ offer 0 180 accepted ∷ []
 
 -- a contract, a window from 0 to 180, an instruction issued at 5 that ceases at 85, readings, and the close
 abbrev pub month : List ℕ → ℕ → List Command → List Command
-month terms verdict read = agree terms ∷ offer 0 180 verdict ∷ call 5 85 ∷ (read ++ (closeᶜ ∷ []))
+month terms verdict read = agree terms ∷ offer 0 180 verdict ∷ instructed 5 85 ∷ (read ++ (closeᶜ ∷ []))
 
 -- Appendix 2
 abbrev pub appendix2 : List Command
@@ -173,7 +173,7 @@ ledger cs = ledgerOf (taken 1440 cs)
 
 -- a command of each kind: Appendix 2's contract, window and instruction, a default, a reading of −1 kW, a close
 abbrev pub sample : List Command
-sample = agree guide ∷ offer 0 180 accepted ∷ call 5 85 ∷ defaulted 31 4 1 ∷ metered 7 (minus 1) ∷ closeᶜ ∷ []
+sample = agree guide ∷ offer 0 180 accepted ∷ instructed 5 85 ∷ defaulted 31 4 1 ∷ metered 7 (minus 1) ∷ closeᶜ ∷ []
 
 -- their bytes
 abbrev pub sampleBytes : List ℕ
@@ -193,8 +193,8 @@ abbrev pub twoDays : List ℕ → List Command → Ledger
 twoDays v cs = ledgerOf (taken 2880 (agree (set v days 2) ∷ cs))
 
 -- a line: instruction, period, stage, rate; kWh expected, delivered and capped; pence
-abbrev pub row : ℕ → ℕ → Stage → Rate → ℤ → ℤ → ℤ → ℤ → Line
-row i p s r x d c w =
+abbrev pub exampleLine : ℕ → ℕ → Stage → Rate → ℤ → ℤ → ℤ → ℤ → Line
+exampleLine i p s r x d c w =
     record {
       instruction = i;
       period = p;

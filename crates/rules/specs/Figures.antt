@@ -14,8 +14,8 @@ use Rattle.rules.specs.Refusal.{refusal, taken}
 use Rattle.rules.specs.Segment.{live}
 use Rattle.rules.specs.Statement.{lines, statementOf, windowsPaid, penalty, periodPence, nothing, settleRefusal}
 use Rattle.rules.specs.File.{table, whole, bytesOf, wordFrom}
-use Rattle.rules.specs.Examples.{minus, agree, guide, service, recovery, rampup, rampdown, flexible, accepted, rejected, offer, call, defaulted}
-use Rattle.rules.specs.Examples.{periods, faults, generated, opening, month, appendix2, appendix3, ledger, row, pays}
+use Rattle.rules.specs.Examples.{minus, agree, guide, service, recovery, rampup, rampdown, flexible, accepted, rejected, offer, instructed, defaulted}
+use Rattle.rules.specs.Examples.{periods, faults, generated, opening, month, appendix2, appendix3, ledger, exampleLine, pays}
 use Rattle.commands.specs.declared.entries.Command.{Command}
 use Rattle.rules.specs.declared.statement.Stage.the-variants.{Up, Steady, Down}
 use Rattle.rules.specs.declared.statement.Rate.the-variants.{Utilisation, Optional}
@@ -23,7 +23,7 @@ use Rattle.rules.specs.declared.statement.Line.{Line}
 
 -- Appendix 2's contract with another recovery, two windows after its instruction, and the instruction
 abbrev pub afterwards : ℕ → List Command
-afterwards r = agree (set guide recovery r) ∷ offer 150 180 accepted ∷ offer 180 210 accepted ∷ call 5 85 ∷ []
+afterwards r = agree (set guide recovery r) ∷ offer 150 180 accepted ∷ offer 180 210 accepted ∷ instructed 5 85 ∷ []
 
 -- the twelve figures
 pub record Figures : Type 0 where
@@ -32,12 +32,12 @@ pub record Figures : Type 0 where
   pub F1-settled : settleRefusal false 1440 6 (ledger appendix2) ≡ none
   pub F1-lines :
       lines (ledger appendix2)
-      ≡ row 1 1 Up Utilisation (pos 600) (pos 500) (pos 500) (pos 15000)
-      ∷ row 1 1 Steady Utilisation (pos 1000) (pos 1017) (pos 1000) (pos 30000)
-      ∷ row 1 2 Steady Utilisation (pos 6000) (pos 5750) (pos 5750) (pos 172500)
-      ∷ row 1 3 Steady Utilisation (pos 5000) (pos 5417) (pos 5000) (pos 150000)
-      ∷ row 1 3 Down Utilisation (pos 500) (pos 750) (pos 500) (pos 15000)
-      ∷ row 1 4 Down Utilisation (pos 100) (pos 50) (pos 50) (pos 1500)
+      ≡ exampleLine 1 1 Up Utilisation (pos 600) (pos 500) (pos 500) (pos 15000)
+      ∷ exampleLine 1 1 Steady Utilisation (pos 1000) (pos 1017) (pos 1000) (pos 30000)
+      ∷ exampleLine 1 2 Steady Utilisation (pos 6000) (pos 5750) (pos 5750) (pos 172500)
+      ∷ exampleLine 1 3 Steady Utilisation (pos 5000) (pos 5417) (pos 5000) (pos 150000)
+      ∷ exampleLine 1 3 Down Utilisation (pos 500) (pos 750) (pos 500) (pos 15000)
+      ∷ exampleLine 1 4 Down Utilisation (pos 100) (pos 50) (pos 50) (pos 1500)
       ∷ []
   pub F1-statement :
       statementOf (ledger appendix2)
@@ -77,12 +77,12 @@ pub record Figures : Type 0 where
   pub F10-plus : payment (pos 50) 30 ≡ pos 2
   pub F10-minus : payment (minus 50) 30 ≡ minus 1
   -- F11: cease at the response's expiry is taken and gives three lines, a minute earlier gets 19
-  pub F11-25 : refusal false 1440 (ledger opening) (call 5 25) ≡ none
-  pub F11-lines : length (lines (ledger (opening ++ (call 5 25 ∷ [])))) ≡ 3
-  pub F11-24 : refusal false 1440 (ledger opening) (call 5 24) ≡ some 19
+  pub F11-25 : refusal false 1440 (ledger opening) (instructed 5 25) ≡ none
+  pub F11-lines : length (lines (ledger (opening ++ (instructed 5 25 ∷ [])))) ≡ 3
+  pub F11-24 : refusal false 1440 (ledger opening) (instructed 5 24) ≡ some 19
   -- F12: F1 under a flexible contract, with its window rejected
   pub F12 :
-      first (row 0 0 Up Optional (pos 0) (pos 0) (pos 0) (pos 0)) (lines (ledger (month (set guide service flexible) rejected generated)))
-      ≡ row 1 1 Up Optional (pos 600) (pos 500) (pos 500) (pos 27500)
+      first (exampleLine 0 0 Up Optional (pos 0) (pos 0) (pos 0) (pos 0)) (lines (ledger (month (set guide service flexible) rejected generated)))
+      ≡ exampleLine 1 1 Up Optional (pos 600) (pos 500) (pos 500) (pos 27500)
   -- the table's whole lengths: contract, window, instruction, default, reading, close
   pub lengths : map whole table ≡ 32 ∷ 6 ∷ 5 ∷ 5 ∷ 7 ∷ 1 ∷ []

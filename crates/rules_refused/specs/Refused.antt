@@ -13,7 +13,7 @@ use Rattle.rules.specs.Refusal.{refusal, answerOf, taken}
 use Rattle.rules.specs.Statement.{settleRefusal}
 use Rattle.rules.specs.File.{readAt, write}
 use Rattle.rules.specs.Examples.{minus, agree, guide, days, kind, service, contracted, rampup, rampdown, response, recovery, availability}
-use Rattle.rules.specs.Examples.{utilisation, optional, flexible, accepted, rejected, offer, call, defaulted, metered, readings, periods, calls, opening}
+use Rattle.rules.specs.Examples.{utilisation, optional, flexible, accepted, rejected, offer, instructed, defaulted, metered, readingsFrom, periods, manyInstructed, opening}
 use Rattle.rules.specs.Examples.{appendix2, sample, sampleBytes}
 use Rattle.commands.specs.declared.entries.Command.{Command}
 use Rattle.commands.specs.declared.entries.Command.the-variants.{Contract as contractᶜ, Close as closeᶜ}
@@ -80,8 +80,8 @@ abbrev pub over : ℕ → List Command → Setting
 over n cs = record { size = 1440 * n; commands = agree (set guide days n) ∷ cs; now = 1440 * n }
 
 -- the same, and then meter memory of another size
-abbrev pub lent : ℕ → Setting → Setting
-lent n s = record { size = s .size; commands = s .commands; now = n }
+abbrev pub lending : ℕ → Setting → Setting
+lending n s = record { size = s .size; commands = s .commands; now = n }
 
 -- the same, closed
 abbrev pub shut : Setting → Setting
@@ -97,7 +97,7 @@ begun = day opening
 
 -- Appendix 2's contract with a recovery of 60, and its instruction, which ends at 91
 abbrev pub resting : Setting
-resting = day (agree (set guide recovery 60) ∷ offer 150 180 accepted ∷ call 5 85 ∷ [])
+resting = day (agree (set guide recovery 60) ∷ offer 150 180 accepted ∷ instructed 5 85 ∷ [])
 
 -- n windows in 3 days
 abbrev pub windows : ℕ → Setting
@@ -105,7 +105,7 @@ windows n = over 3 (periods n 0)
 
 -- 64 instructions in 2 days, the last one ending with the span
 abbrev pub called : Setting
-called = over 2 (calls 63 3 ++ (call 1641 2874 ∷ []))
+called = over 2 (manyInstructed 63 3 ++ (instructed 1641 2874 ∷ []))
 
 -- n defaults in Appendix 2's window
 abbrev pub faulty : ℕ → Setting
@@ -160,20 +160,20 @@ operandCases =
     ∷ empty enters agree (set guide utilisation 1000001) gets Refused 3
     ∷ empty enters agree (set guide optional 1000001) gets Refused 3
     ∷ empty enters agree (1 ∷ 0 ∷ 0 ∷ 3000 ∷ 3000 ∷ 3000 ∷ 1 ∷ 0 ∷ 0 ∷ 0 ∷ 0 ∷ []) gets Taken
-    ∷ lent 44640 empty enters agree (31 ∷ 1 ∷ 1 ∷ 500000 ∷ 500000 ∷ 500000 ∷ 240 ∷ 1200 ∷ 1000000 ∷ 1000000 ∷ 1000000 ∷ []) gets Taken
+    ∷ lending 44640 empty enters agree (31 ∷ 1 ∷ 1 ∷ 500000 ∷ 500000 ∷ 500000 ∷ 240 ∷ 1200 ∷ 1000000 ∷ 1000000 ∷ 1000000 ∷ []) gets Taken
     ∷ begun enters offer 44641 210 accepted gets Refused 3
     ∷ begun enters offer 44640 210 accepted gets Refused 5
     ∷ begun enters offer 180 0 accepted gets Refused 5
     ∷ begun enters offer 180 44641 accepted gets Refused 3
     ∷ over 31 [] enters offer 0 44640 accepted gets Taken
     ∷ begun enters offer 180 210 2 gets Refused 3
-    ∷ begun enters call 2 85 gets Refused 3
-    ∷ begun enters call 3 85 gets Taken
-    ∷ begun enters call 44640 85 gets Refused 19
-    ∷ begun enters call 44641 85 gets Refused 3
-    ∷ begun enters call 5 0 gets Refused 19
-    ∷ begun enters call 5 44640 gets Refused 16
-    ∷ begun enters call 5 44641 gets Refused 3
+    ∷ begun enters instructed 2 85 gets Refused 3
+    ∷ begun enters instructed 3 85 gets Taken
+    ∷ begun enters instructed 44640 85 gets Refused 19
+    ∷ begun enters instructed 44641 85 gets Refused 3
+    ∷ begun enters instructed 5 0 gets Refused 19
+    ∷ begun enters instructed 5 44640 gets Refused 16
+    ∷ begun enters instructed 5 44641 gets Refused 3
     ∷ begun enters defaulted 44640 1 1 gets Refused 16
     ∷ begun enters defaulted 44641 1 1 gets Refused 3
     ∷ begun enters defaulted 0 0 1 gets Refused 3
@@ -213,12 +213,12 @@ abbrev pub bookCases : List Case
 bookCases =
     shut begun enters agree guide gets Refused 12
     ∷ shut begun enters offer 180 210 accepted gets Refused 12
-    ∷ shut begun enters call 5 85 gets Refused 12
+    ∷ shut begun enters instructed 5 85 gets Refused 12
     ∷ shut begun enters defaulted 0 1 1 gets Refused 12
     ∷ shut begun enters metered 0 (pos 0) gets Refused 12
     ∷ shut begun enters closeᶜ gets Refused 12
     ∷ empty enters offer 0 180 accepted gets Refused 13
-    ∷ empty enters call 5 85 gets Refused 13
+    ∷ empty enters instructed 5 85 gets Refused 13
     ∷ empty enters defaulted 0 1 1 gets Refused 13
     ∷ empty enters metered 0 (pos 0) gets Refused 13
     ∷ empty enters closeᶜ gets Refused 13
@@ -230,18 +230,18 @@ bookCases =
 -- 15: a contract goes by its own span, every other command by the book's. 16: the end f of an instruction counts
 abbrev pub spanCases : List Case
 spanCases =
-    lent 1439 empty enters agree guide gets Refused 15
-    ∷ lent 1440 empty enters agree guide gets Taken
-    ∷ lent 4319 empty enters agree (set guide days 3) gets Refused 15
-    ∷ lent 1439 begun enters offer 180 210 accepted gets Refused 15
-    ∷ lent 1439 begun enters call 5 85 gets Refused 15
-    ∷ lent 1439 begun enters defaulted 0 1 1 gets Refused 15
-    ∷ lent 1439 begun enters metered 0 (pos 0) gets Refused 15
-    ∷ lent 1439 begun enters closeᶜ gets Refused 15
+    lending 1439 empty enters agree guide gets Refused 15
+    ∷ lending 1440 empty enters agree guide gets Taken
+    ∷ lending 4319 empty enters agree (set guide days 3) gets Refused 15
+    ∷ lending 1439 begun enters offer 180 210 accepted gets Refused 15
+    ∷ lending 1439 begun enters instructed 5 85 gets Refused 15
+    ∷ lending 1439 begun enters defaulted 0 1 1 gets Refused 15
+    ∷ lending 1439 begun enters metered 0 (pos 0) gets Refused 15
+    ∷ lending 1439 begun enters closeᶜ gets Refused 15
     ∷ begun enters offer 1410 1470 accepted gets Refused 16
     ∷ begun enters offer 1410 1440 accepted gets Taken
-    ∷ begun enters call 5 1435 gets Refused 16
-    ∷ begun enters call 5 1434 gets Taken
+    ∷ begun enters instructed 5 1435 gets Refused 16
+    ∷ begun enters instructed 5 1434 gets Taken
     ∷ day (agree guide ∷ offer 1410 1440 accepted ∷ []) enters defaulted 1440 1 1 gets Refused 16
     ∷ day (agree guide ∷ offer 1410 1440 accepted ∷ []) enters defaulted 1439 1 1 gets Taken
     ∷ begun enters metered 1440 (pos 0) gets Refused 16
@@ -255,11 +255,11 @@ orderCases =
     ∷ day (agree (set guide service flexible) ∷ []) enters offer 180 210 rejected gets Taken
     ∷ begun enters offer 150 210 accepted gets Refused 18
     ∷ begun enters offer 180 210 accepted gets Taken
-    ∷ begun enters call 5 24 gets Refused 19
-    ∷ begun enters call 5 25 gets Taken
-    ∷ resting enters call 150 170 gets Refused 20
-    ∷ resting enters call 151 171 gets Taken
-    ∷ day (agree (set guide recovery 60) ∷ []) enters call 3 85 gets Taken
+    ∷ begun enters instructed 5 24 gets Refused 19
+    ∷ begun enters instructed 5 25 gets Taken
+    ∷ resting enters instructed 150 170 gets Refused 20
+    ∷ resting enters instructed 151 171 gets Taken
+    ∷ day (agree (set guide recovery 60) ∷ []) enters instructed 3 85 gets Taken
     ∷ []
 
 -- 21: a window's end is not in it, and a rejected or an excluded window counts. 22: a minute's second reading. 23: each table, by itself
@@ -274,14 +274,14 @@ tableCases =
     ∷ read enters metered 8 (pos 1) gets Taken
     ∷ windows 128 enters offer 3840 3870 accepted gets Refused 23
     ∷ windows 127 enters offer 3810 3840 accepted gets Taken
-    ∷ over 2 (calls 64 3) enters call 1667 1687 gets Refused 23
-    ∷ over 2 (calls 63 3) enters call 1641 1661 gets Taken
+    ∷ over 2 (manyInstructed 64 3) enters instructed 1667 1687 gets Refused 23
+    ∷ over 2 (manyInstructed 63 3) enters instructed 1641 1661 gets Taken
     ∷ faulty 128 enters defaulted 0 1 1 gets Refused 23
     ∷ faulty 127 enters defaulted 0 1 1 gets Taken
     -- one place is left in a table, and together with any other it would be full
-    ∷ over 3 (periods 127 0 ++ (call 3 23 ∷ defaulted 0 1 1 ∷ [])) enters offer 3810 3840 accepted gets Taken
-    ∷ over 2 (periods 64 0 ++ (defaulted 0 1 1 ∷ calls 63 3)) enters call 1641 1661 gets Taken
-    ∷ day (opening ++ (call 3 23 ∷ replicate 127 (defaulted 0 1 1))) enters defaulted 0 1 1 gets Taken
+    ∷ over 3 (periods 127 0 ++ (instructed 3 23 ∷ defaulted 0 1 1 ∷ [])) enters offer 3810 3840 accepted gets Taken
+    ∷ over 2 (periods 64 0 ++ (defaulted 0 1 1 ∷ manyInstructed 63 3)) enters instructed 1641 1661 gets Taken
+    ∷ day (opening ++ (instructed 3 23 ∷ replicate 127 (defaulted 0 1 1))) enters defaulted 0 1 1 gets Taken
     ∷ []
 
 -- ---- the lowest number is given: beside the number that each of these gets, the later ones of its group hold too
@@ -289,17 +289,17 @@ tableCases =
 abbrev pub lowestCases : List Case
 lowestCases =
     -- a contract: 3 4 12 14 15
-    lent 1439 (shut begun) enters agree (set (set guide contracted 500001) rampup 1) gets Refused 3
-    ∷ lent 1439 (shut begun) enters agree (set guide rampup 1) gets Refused 4
-    ∷ lent 1439 (shut begun) enters agree guide gets Refused 12
-    ∷ lent 1439 begun enters agree guide gets Refused 14
+    lending 1439 (shut begun) enters agree (set (set guide contracted 500001) rampup 1) gets Refused 3
+    ∷ lending 1439 (shut begun) enters agree (set guide rampup 1) gets Refused 4
+    ∷ lending 1439 (shut begun) enters agree guide gets Refused 12
+    ∷ lending 1439 begun enters agree guide gets Refused 14
     ∷ begun enters agree (set guide days 2) gets Refused 14
-    ∷ lent 1439 empty enters agree (set guide rampup 1) gets Refused 4
+    ∷ lending 1439 empty enters agree (set guide rampup 1) gets Refused 4
     -- a window: 3 5 12 15 16 17 18 23
-    ∷ lent 4319 (shut (windows 128)) enters offer 31 44641 rejected gets Refused 3
-    ∷ lent 4319 (shut (windows 128)) enters offer 31 44640 rejected gets Refused 5
-    ∷ lent 4319 (shut (windows 128)) enters offer 30 44640 rejected gets Refused 12
-    ∷ lent 4319 (windows 128) enters offer 30 44640 rejected gets Refused 15
+    ∷ lending 4319 (shut (windows 128)) enters offer 31 44641 rejected gets Refused 3
+    ∷ lending 4319 (shut (windows 128)) enters offer 31 44640 rejected gets Refused 5
+    ∷ lending 4319 (shut (windows 128)) enters offer 30 44640 rejected gets Refused 12
+    ∷ lending 4319 (windows 128) enters offer 30 44640 rejected gets Refused 15
     ∷ windows 128 enters offer 30 44640 rejected gets Refused 16
     ∷ windows 128 enters offer 30 60 rejected gets Refused 17
     ∷ windows 128 enters offer 30 60 accepted gets Refused 18
@@ -308,31 +308,31 @@ lowestCases =
     ∷ empty enters offer 31 60 rejected gets Refused 5
     ∷ empty enters offer 30 60 rejected gets Refused 13
     -- an instruction: 3 12 15 16 19 20 23, but 3 holds with 16 only where 20 does not
-    ∷ lent 2879 (shut called) enters call 2 10 gets Refused 3
-    ∷ called enters call 44641 44640 gets Refused 3
-    ∷ lent 2879 (shut called) enters call 2870 2875 gets Refused 12
-    ∷ lent 2879 called enters call 2870 2875 gets Refused 15
-    ∷ called enters call 2870 2875 gets Refused 16
-    ∷ called enters call 2870 2874 gets Refused 19
-    ∷ called enters call 2850 2874 gets Refused 20
-    ∷ empty enters call 2 10 gets Refused 3
+    ∷ lending 2879 (shut called) enters instructed 2 10 gets Refused 3
+    ∷ called enters instructed 44641 44640 gets Refused 3
+    ∷ lending 2879 (shut called) enters instructed 2870 2875 gets Refused 12
+    ∷ lending 2879 called enters instructed 2870 2875 gets Refused 15
+    ∷ called enters instructed 2870 2875 gets Refused 16
+    ∷ called enters instructed 2870 2874 gets Refused 19
+    ∷ called enters instructed 2850 2874 gets Refused 20
+    ∷ empty enters instructed 2 10 gets Refused 3
     -- a default: 3 12 15 16 21 23
-    ∷ lent 1439 (shut (faulty 128)) enters defaulted 44641 1 1 gets Refused 3
-    ∷ lent 1439 (shut (faulty 128)) enters defaulted 1440 1 1 gets Refused 12
-    ∷ lent 1439 (faulty 128) enters defaulted 1440 1 1 gets Refused 15
+    ∷ lending 1439 (shut (faulty 128)) enters defaulted 44641 1 1 gets Refused 3
+    ∷ lending 1439 (shut (faulty 128)) enters defaulted 1440 1 1 gets Refused 12
+    ∷ lending 1439 (faulty 128) enters defaulted 1440 1 1 gets Refused 15
     ∷ faulty 128 enters defaulted 1440 1 1 gets Refused 16
     ∷ faulty 128 enters defaulted 180 1 1 gets Refused 21
     ∷ empty enters defaulted 0 0 1 gets Refused 3
     -- a reading: 3 12 15 22, and 16 in a minute past the span
-    ∷ lent 1439 (shut read) enters metered 7 (pos 500001) gets Refused 3
-    ∷ lent 1439 (shut read) enters metered 7 (pos 0) gets Refused 12
-    ∷ lent 1439 read enters metered 7 (pos 0) gets Refused 15
-    ∷ lent 1439 (shut read) enters metered 1440 (pos 500001) gets Refused 3
-    ∷ lent 1439 (shut read) enters metered 1440 (pos 0) gets Refused 12
-    ∷ lent 1439 read enters metered 1440 (pos 0) gets Refused 15
+    ∷ lending 1439 (shut read) enters metered 7 (pos 500001) gets Refused 3
+    ∷ lending 1439 (shut read) enters metered 7 (pos 0) gets Refused 12
+    ∷ lending 1439 read enters metered 7 (pos 0) gets Refused 15
+    ∷ lending 1439 (shut read) enters metered 1440 (pos 500001) gets Refused 3
+    ∷ lending 1439 (shut read) enters metered 1440 (pos 0) gets Refused 12
+    ∷ lending 1439 read enters metered 1440 (pos 0) gets Refused 15
     ∷ empty enters metered 7 (pos 500001) gets Refused 3
     -- a close: 12 15
-    ∷ lent 1439 (shut begun) enters closeᶜ gets Refused 12
+    ∷ lending 1439 (shut begun) enters closeᶜ gets Refused 12
     ∷ []
 
 -- 11 comes after 5 and before 12: the answer in a book that no list of commands leaves
@@ -349,8 +349,8 @@ without m cs = filter (λ c. not (isSome (readingIn c m))) cs
 -- two instructions, the second one's base minutes 29 to 32 right after the first one's end, and readings of 0 kW in all needed minutes
 abbrev pub twice : List Command
 twice =
-    agree guide ∷ call 3 23 ∷ call 32 52
-    ∷ (readings 0 (replicate 4 (pos 0)) ++ readings 17 (replicate 16 (pos 0)) ++ readings 46 (replicate 12 (pos 0)) ++ (closeᶜ ∷ []))
+    agree guide ∷ instructed 3 23 ∷ instructed 32 52
+    ∷ (readingsFrom 0 (replicate 4 (pos 0)) ++ readingsFrom 17 (replicate 16 (pos 0)) ++ readingsFrom 46 (replicate 12 (pos 0)) ++ (closeᶜ ∷ []))
 
 -- 24: an open book, the empty one too. 25: base, ramp up, steady and ramp down minutes, and none but these. 26: a line too many
 abbrev pub settlings : List Settling
@@ -378,10 +378,10 @@ settlings =
     ∷ day (without 29 twice) settles-into 6 gets Refused 25
     ∷ day (without 46 twice) settles-into 6 gets Refused 25
     -- 15 24 25 26, each with the later ones
-    ∷ lent 1439 (day (agree guide ∷ call 5 85 ∷ [])) settles-into 0 gets Refused 15
-    ∷ day (agree guide ∷ call 5 85 ∷ []) settles-into 0 gets Refused 24
-    ∷ shut (day (agree guide ∷ call 5 85 ∷ [])) settles-into 0 gets Refused 25
-    ∷ lent 1439 (day appendix2) settles-into 6 gets Refused 15
+    ∷ lending 1439 (day (agree guide ∷ instructed 5 85 ∷ [])) settles-into 0 gets Refused 15
+    ∷ day (agree guide ∷ instructed 5 85 ∷ []) settles-into 0 gets Refused 24
+    ∷ shut (day (agree guide ∷ instructed 5 85 ∷ [])) settles-into 0 gets Refused 25
+    ∷ lending 1439 (day appendix2) settles-into 6 gets Refused 15
     ∷ []
 
 -- ---- reading
@@ -391,7 +391,7 @@ abbrev pub findings : List Finding
 findings =
     sampleBytes at 0 gets Got (agree guide) 32
     ∷ sampleBytes at 32 gets Got (offer 0 180 accepted) 38
-    ∷ sampleBytes at 38 gets Got (call 5 85) 43
+    ∷ sampleBytes at 38 gets Got (instructed 5 85) 43
     ∷ sampleBytes at 43 gets Got (defaulted 31 4 1) 48
     ∷ sampleBytes at 48 gets Got (metered 7 (minus 1)) 55
     ∷ sampleBytes at 55 gets Got closeᶜ 56
@@ -420,7 +420,7 @@ isUnknown End = false
 -- ---- the promise
 
 -- of a list of commands
-pub record Entered (cases : List Case) : Type 0 where
+pub record EntryCases (cases : List Case) : Type 0 where
   -- those of each setting are taken
   pub settings : map (λ c. taken (c .setting .size) (c .setting .commands)) cases ≡ map (λ c. c .setting .commands) cases
   -- and after them the command gets its answer
@@ -432,7 +432,7 @@ pub record Entered (cases : List Case) : Type 0 where
       ≡ map (λ c. orEleven (c .answer)) cases
 
 -- the same of a list of settlements
-pub record Settled (cases : List Settling) : Type 0 where
+pub record SettlementCases (cases : List Settling) : Type 0 where
   pub settings : map (λ s. taken (s .setting .size) (s .setting .commands)) cases ≡ map (λ s. s .setting .commands) cases
   pub answers :
       map (λ s. answerOf (settleRefusal false (s .setting .now) (s .room) (ledgerOf (s .setting .commands)))) cases ≡ map (λ s. s .answer) cases
@@ -442,14 +442,14 @@ pub record Settled (cases : List Settling) : Type 0 where
 
 -- every example above
 pub record Refusals : Type 0 where
-  pub operands : Entered operandCases
-  pub inputs : Entered inputCases
-  pub books : Entered bookCases
-  pub spans : Entered spanCases
-  pub orders : Entered orderCases
-  pub tables : Entered tableCases
-  pub lowest : Entered lowestCases
-  pub settling : Settled settlings
+  pub operands : EntryCases operandCases
+  pub inputs : EntryCases inputCases
+  pub books : EntryCases bookCases
+  pub spans : EntryCases spanCases
+  pub orders : EntryCases orderCases
+  pub tables : EntryCases tableCases
+  pub lowest : EntryCases lowestCases
+  pub settling : SettlementCases settlings
   -- what is found at each position
   pub reading : map (λ f. readAt (f .bytes) (f .position)) findings ≡ map (λ f. f .found) findings
   -- the only bytes that do not get 1

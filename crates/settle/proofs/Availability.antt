@@ -23,7 +23,7 @@ use Rattle.commands.specs.declared.entries.Window.{Window}
 use Rattle.rules.specs.declared.statement.Available.{Available}
 use Rattle.book.specs.Book.{noDefault, noWindow}
 use Rattle.settle_live.specs.Live.{covers, LiveTable}
-use Rattle.settle_availability.specs.Paid.{numberOf, windowOf, reachFrom, reachTo, reachesPlace, reachedTo, countedTo, penaltyBy, paidBy}
+use Rattle.settle_availability.specs.Paid.{windowNumberOf, windowOf, reachFrom, reachTo, reachesPlace, reachedTo, countedTo, penaltyBy, paidPeriodsBy}
 use Rattle.settle_availability.specs.Paid.{entryOf, entryBy, entriesTo, periodsTo}
 use Rattle.rules.proofs.Folds.{any-all, count-filter, count-shift}
 use Rattle.settle.proofs.LedgerTables.{WindowsOf, windowAt}
@@ -103,7 +103,7 @@ module _ {g : Ledger} {table : List ℕ} {ws : List Window} {n : ℕ} {ds : List
   defaultAt j = getD (g .defaults) j noDefault
 
   -- a default is in live window i exactly where its period has the window's number
-  numbered : (i : ℕ) (x : Default) → i < n → eqb (numberOf table x) (suc i) ≡ (live g (windowAt g i) && within (windowAt g i) (x .minute .0))
+  numbered : (i : ℕ) (x : Default) → i < n → eqb (windowNumberOf table x) (suc i) ≡ (live g (windowAt g i) && within (windowAt g i) (x .minute .0))
   numbered i x h = number-at (P .windows) (P .numbers) i (x .minute .0 / 30) h ∙ rw (covers-is (x .minute .0) (P .windows .each i h)) refl
 
   -- the window of a default that is in a live one
@@ -112,14 +112,14 @@ module _ {g : Ledger} {table : List ℕ} {ws : List Window} {n : ℕ} {ds : List
     pub has : covers (windowAt g k) (x .minute .0 / 30) ≡ true
     pub window : windowOf table ws x ≡ windowAt g k
 
-  pub own-window : (x : Default) (k : ℕ) → numberOf table x ≡ suc k → OwnWindow x k
+  pub own-window : (x : Default) (k : ℕ) → windowNumberOf table x ≡ suc k → OwnWindow x k
   own-window x k e =
       let l : k < n = number-below (P .windows) (P .numbers) (x .minute .0 / 30) k e in
-      let q : numberOf table x - 1 ≡ k = omega arith in
+      let q : windowNumberOf table x - 1 ≡ k = omega arith in
       record {
         below = l;
         has = on-and (live g (windowAt g k)) (covers (windowAt g k) (x .minute .0 / 30))
-            (sym (number-at (P .windows) (P .numbers) k (x .minute .0 / 30) l) ∙ eq-true (numberOf table x) (suc k) e) .1;
+            (sym (number-at (P .windows) (P .numbers) k (x .minute .0 / 30) l) ∙ eq-true (windowNumberOf table x) (suc k) e) .1;
         window = ap (λ z. getD ws z noWindow) q ∙ P .windows .window k l;
       }
 
@@ -137,9 +137,9 @@ module _ {g : Ledger} {table : List ℕ} {ws : List Window} {n : ℕ} {ds : List
         ]
 
     reaches-is : reachesPlace table ws x p ≡ (within (windowAt g i) (x .minute .0) && reaches x (suc p))
-    reaches-is = go (numberOf table x) refl ∙ rw (numbered i x h, alive) refl
+    reaches-is = go (windowNumberOf table x) refl ∙ rw (numbered i x h, alive) refl
       where
-        go : (m : ℕ) → numberOf table x ≡ m → reachesPlace table ws x p ≡ (eqb (numberOf table x) (suc i) && reaches x (suc p))
+        go : (m : ℕ) → windowNumberOf table x ≡ m → reachesPlace table ws x p ≡ (eqb (windowNumberOf table x) (suc i) && reaches x (suc p))
         go zero e = rw (e, eqb·zero-suc i) refl
         go (suc k) e =
             let H = own-window x k e in
@@ -185,7 +185,7 @@ module _ {g : Ledger} {table : List ℕ} {ws : List Window} {n : ℕ} {ds : List
       ∙ count-places (countedTo table ds d) faulty noWindow (g .windows) (λ i l. counted-is i (omega (arith, P .windows .count))))
 
   -- ---- the entries
-  paid-is : (i : ℕ) → i < n → paidBy table (reachedTo table ws ds d) (windowAt g i) i ≡ length (paidPeriods g (windowAt g i))
+  paid-is : (i : ℕ) → i < n → paidPeriodsBy table (reachedTo table ws ds d) (windowAt g i) i ≡ length (paidPeriods g (windowAt g i))
   unfolding paidPeriods
   paid-is i h =
       let w : Window = windowAt g i in
@@ -235,5 +235,5 @@ module _ {g : Ledger} {table : List ℕ} {ws : List Window} {n : ℕ} {ds : List
     unfolding entryOf
     pence-is =
         sum-first entry (λ (v : Available). v .pence .0) (λ m. pos (periodsTo table reached ws m * each)) n (ap pos (zero-mul each))
-        (λ m h. ap pos (add-mul (periodsTo table reached ws m) (paidBy table reached (getD ws m noWindow) m) each)) n (le-refl n)
+        (λ m h. ap pos (add-mul (periodsTo table reached ws m) (paidPeriodsBy table reached (getD ws m noWindow) m) each)) n (le-refl n)
         ∙ ap (sum (λ (v : Available). v .pence .0)) (sym paid-are)

@@ -29,9 +29,9 @@ use Rattle.book.specs.Sound.{Shaped}
 use Rattle.book.specs.declared.Book.{Book}
 use Rattle.settle_terms.specs.declared.Terms.{Terms}
 use Rattle.settle_terms.specs.Terms.{termsOf, issueOf, ceaseOf, Timed}
-use Rattle.settle_survey.specs.Survey.{LaidAt, has, surveyOf, surveyTo}
+use Rattle.settle_survey.specs.Survey.{SurveyableAt, has, surveyOf, surveyTo}
 use Rattle.settle_live.specs.Live.{Cleared, Windows, isLive, LiveTable}
-use Rattle.settle_availability.specs.Paid.{numberOf, windowOf, Placed, Spans}
+use Rattle.settle_availability.specs.Paid.{windowNumberOf, windowOf, Placed, Spans}
 use Rattle.settle_lines.specs.Cursor.{Planned}
 use Rattle.book.proofs.Month.{span-cells, span-is as book-span}
 use Rattle.rules.proofs.Lists.{getD-within}
@@ -170,7 +170,7 @@ module _ {b : Book} {times : List ℕ} {readings : Memory} (G : Grounds b times 
   reading-is m h = rw (lt-ltb m (bookSpan b) (omega (arith, span-is)), getD-within meter m missing (pos 0) (omega (arith, span-held))) refl
 
   -- ---- the survey
-  laid-at : (j : ℕ) → j < b .ninstructions → LaidAt t times meter j
+  laid-at : (j : ℕ) → j < b .ninstructions → SurveyableAt t times meter j
   unfolding termsOf
   laid-at j h = omega (arith, terms .each j h, call-sound j h .three, span-held, span-small)
 
@@ -250,9 +250,9 @@ module _ {b : Book} {times : List ℕ} {readings : Memory} (G : Grounds b times 
           room = λ l. omega (arith, reaches x l);
         }
       where
-        reaches : (x : Default) → 0 < numberOf live x → Inside (windowOf live (b .windows) x) x × (windowOf live (b .windows) x .end .0 ≤ mostMinute)
+        reaches : (x : Default) → 0 < windowNumberOf live x → Inside (windowOf live (b .windows) x) x × (windowOf live (b .windows) x .end .0 ≤ mostMinute)
         reaches x l =
-            let i : ℕ = numberOf live x - 1 in
+            let i : ℕ = windowNumberOf live x - 1 in
             let o = own-window priced x i (omega arith) in
             rw (o .window) (reach-inside (windowAt g i) x (o .has), omega (arith, windows .each i (o .below), span-small))
 

@@ -18,13 +18,13 @@ use Rattle.rules.proofs.Count.{count-segments}
 use Rattle.book.specs.Book.{noInstruction}
 use Rattle.settle_terms.specs.declared.Terms.{Terms}
 use Rattle.settle_terms.specs.Terms.{issueOf, ceaseOf}
-use Rattle.settle_survey.specs.Survey.{Laid, has, surveyOf, surveyTo}
+use Rattle.settle_survey.specs.Survey.{Surveyable, has, surveyOf, surveyTo}
 use Rattle.rules.proofs.Folds.{concatMap-snoc}
 use Rattle.settle.proofs.LedgerTables.{TermsOf, instructionAt}
 
 -- the table of instructions is a ledger's, and so are the cells
 pub record Surveyed (g : Ledger) (t : Terms) (times : List ℕ) (meter : List ℤ) : Type 0 where
-  pub laid : Laid t times meter
+  pub laid : Surveyable t times meter
   pub terms : TermsOf g t times
   pub reading : (m : ℕ) → m < spanIn g → isSome (g .reading m) ≡ has meter m
 

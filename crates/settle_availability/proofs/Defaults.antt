@@ -15,7 +15,7 @@ use Rattle.commands.specs.declared.entries.Default.{Default}
 use Rattle.commands.specs.declared.entries.Window.{Window}
 use Rattle.rules.specs.Ledger.{noDefault}
 use Rattle.settle_live.specs.Live.{Marked, Unmarked}
-use Rattle.settle_availability.specs.Paid.{numberOf, windowOf, reachFrom, reachTo, reachesPlace, countsIn, reachedTo, countedTo, DefaultMarked}
+use Rattle.settle_availability.specs.Paid.{windowNumberOf, windowOf, reachFrom, reachTo, reachesPlace, countsIn, reachedTo, countedTo, DefaultMarked}
 use Rattle.settle_availability.specs.Paid.{DefaultsMarked, marked}
 
 -- a table of zeros has no mark
@@ -40,32 +40,32 @@ bit false = refl
 
 module _ (live : List ℕ) (ws : List Window) where
   -- a default in no live window marks nothing
-  pub default-none : (d : Default) (reached counted : List ℕ) → numberOf live d ≡ 0 → DefaultMarked live ws d reached reached counted counted
+  pub default-none : (d : Default) (reached counted : List ℕ) → windowNumberOf live d ≡ 0 → DefaultMarked live ws d reached reached counted counted
   default-none d reached counted e =
       record {
         same = (refl, refl);
-        period = λ p. rw (eq-true (numberOf live d) 0 e) refl;
-        window = λ i. rw (eq-false (numberOf live d) (suc i) (λ q. omega arith), and-false (from-to 1 3 (d .kind))) refl;
+        period = λ p. rw (eq-true (windowNumberOf live d) 0 e) refl;
+        window = λ i. rw (eq-false (windowNumberOf live d) (suc i) (λ q. omega arith), and-false (from-to 1 3 (d .kind))) refl;
       }
 
-  module _ (d : Default) {reached reached′ : List ℕ} (h : 0 < numberOf live d)
+  module _ (d : Default) {reached reached′ : List ℕ} (h : 0 < windowNumberOf live d)
       (m : Marked reached (reachFrom (windowOf live ws d) d) (reachTo (windowOf live ws d) d) 1 reached′) where
     reached-marked : (p : ℕ) → getD reached′ p 0 ≡ cond (reachesPlace live ws d p) 1 (getD reached p 0)
-    reached-marked p = rw (eq-false (numberOf live d) 0 (λ e. omega arith)) (m .entry p)
+    reached-marked p = rw (eq-false (windowNumberOf live d) 0 (λ e. omega arith)) (m .entry p)
 
     -- one that counts for P marks its window
-    pub default-counted : (counted : List ℕ) → from-to 1 3 (d .kind) ≡ true → numberOf live d - 1 < length counted
-        → DefaultMarked live ws d reached reached′ counted (set counted (numberOf live d - 1) 1)
+    pub default-counted : (counted : List ℕ) → from-to 1 3 (d .kind) ≡ true → windowNumberOf live d - 1 < length counted
+        → DefaultMarked live ws d reached reached′ counted (set counted (windowNumberOf live d - 1) 1)
     default-counted counted k l =
         record {
-          same = (m .same, length-set counted (numberOf live d - 1) 1);
+          same = (m .same, length-set counted (windowNumberOf live d - 1) 1);
           period = reached-marked;
           window = λ i.
-              elim (ℕ-discrete (numberOf live d) (suc i)) [
+              elim (ℕ-discrete (windowNumberOf live d) (suc i)) [
                 | yes e ↦
-                    let q : numberOf live d - 1 ≡ i = omega arith in
-                    rw (k, eq-true (numberOf live d) (suc i) e, q) (getD-set-same counted i 1 0 (omega arith))
-                | no e ↦ rw (k, eq-false (numberOf live d) (suc i) e) (getD-set-other counted (numberOf live d - 1) i 1 0 (λ q. e (omega arith)))
+                    let q : windowNumberOf live d - 1 ≡ i = omega arith in
+                    rw (k, eq-true (windowNumberOf live d) (suc i) e, q) (getD-set-same counted i 1 0 (omega arith))
+                | no e ↦ rw (k, eq-false (windowNumberOf live d) (suc i) e) (getD-set-other counted (windowNumberOf live d - 1) i 1 0 (λ q. e (omega arith)))
               ];
         }
 

@@ -20,12 +20,12 @@ use Rattle.settle_availability.specs.declared.paid.Entries.{Entries}
 -- ---- defaults
 
 -- the number of the live window that a default is in, from 1, and 0 in none
-abbrev pub numberOf : List ℕ → Default → ℕ
-numberOf live d = getD live (d .minute .0 / 30) 0
+abbrev pub windowNumberOf : List ℕ → Default → ℕ
+windowNumberOf live d = getD live (d .minute .0 / 30) 0
 
 -- the window of a default that is in a live one
 abbrev pub windowOf : List ℕ → List Window → Default → Window
-windowOf live ws d = getD ws (numberOf live d - 1) noWindow
+windowOf live ws d = getD ws (windowNumberOf live d - 1) noWindow
 
 -- the first place that a default in window w reaches: its own period's, or the window's
 abbrev pub reachFrom : Window → Default → ℕ
@@ -38,11 +38,11 @@ reachTo w d = cond (eqb (d .reach) 1) (d .minute .0 / 30 + 1) (cond (from-to 2 3
 -- a default reaches place p, which is period p + 1: it is in a live window, and the place is in its reach
 abbrev pub reachesPlace : List ℕ → List Window → Default → ℕ → Bool
 reachesPlace live ws d p =
-    not (eqb (numberOf live d) 0) && (leb (reachFrom (windowOf live ws d) d) p && ltb p (reachTo (windowOf live ws d) d))
+    not (eqb (windowNumberOf live d) 0) && (leb (reachFrom (windowOf live ws d) d) p && ltb p (reachTo (windowOf live ws d) d))
 
 -- a default counts for P in window i, from 0: it is in it, and of kind 1, 2 or 3
 abbrev pub countsIn : List ℕ → Default → ℕ → Bool
-countsIn live d i = from-to 1 3 (d .kind) && eqb (numberOf live d) (suc i)
+countsIn live d i = from-to 1 3 (d .kind) && eqb (windowNumberOf live d) (suc i)
 
 -- one of the first n defaults reaches place p
 abbrev pub reachedTo : List ℕ → List Window → List Default → ℕ → ℕ → Bool
@@ -57,9 +57,9 @@ countedTo live ds (suc n) i = countedTo live ds n i || countsIn live (getD ds n 
 -- a default's window is in its table, and the places that it reaches are in a table of size places
 pub record Placed (live : List ℕ) (ws : List Window) (size : ℕ) (d : Default) : Type 0 where
   pub inside : d .minute .0 / 30 < length live
-  pub number : numberOf live d ≤ 128
-  pub order : 0 < numberOf live d → reachFrom (windowOf live ws d) d ≤ reachTo (windowOf live ws d) d
-  pub room : 0 < numberOf live d → reachTo (windowOf live ws d) d ≤ size
+  pub number : windowNumberOf live d ≤ 128
+  pub order : 0 < windowNumberOf live d → reachFrom (windowOf live ws d) d ≤ reachTo (windowOf live ws d) d
+  pub room : 0 < windowNumberOf live d → reachTo (windowOf live ws d) d ≤ size
 
 -- the tables of reached periods and of counted windows once default d has marked them
 pub record DefaultMarked (live : List ℕ) (ws : List Window) (d : Default) (reached reached′ counted counted′ : List ℕ) : Type 0 where
@@ -87,8 +87,8 @@ abbrev pub paidIn : (ℕ → Bool) → ℕ → ℕ → ℕ
 paidIn reached a b = count (λ p. not (reached p)) (between a b)
 
 -- the paid periods of window i: none unless it is live, which its number at its first place shows
-abbrev pub paidBy : List ℕ → (ℕ → Bool) → Window → ℕ → ℕ
-paidBy live reached w i =
+abbrev pub paidPeriodsBy : List ℕ → (ℕ → Bool) → Window → ℕ → ℕ
+paidPeriodsBy live reached w i =
     cond (eqb (getD live (w .start .0 / 30) 0) (suc i)) (paidIn reached (w .start .0 / 30) (w .end .0 / 30)) 0
 
 -- the entry of n paid periods, at so many pence each
@@ -97,7 +97,7 @@ entryOf n each = record { periods = n; pence = record { 0 = pos (n * each) } }
 
 -- the entry of window i
 abbrev pub entryBy : List ℕ → (ℕ → Bool) → ℕ → Window → ℕ → Available
-entryBy live reached each w i = entryOf (paidBy live reached w i) each
+entryBy live reached each w i = entryOf (paidPeriodsBy live reached w i) each
 
 -- the entries of the first n windows, and nothing in the places after them
 abbrev pub entriesTo : List ℕ → (ℕ → Bool) → ℕ → List Window → ℕ → List Available
@@ -108,7 +108,7 @@ entriesTo live reached each ws (suc n) =
 -- the paid periods of the first n windows
 abbrev pub periodsTo : List ℕ → (ℕ → Bool) → List Window → ℕ → ℕ
 periodsTo live reached ws zero = 0
-periodsTo live reached ws (suc n) = periodsTo live reached ws n + paidBy live reached (getD ws n noWindow) n
+periodsTo live reached ws (suc n) = periodsTo live reached ws n + paidPeriodsBy live reached (getD ws n noWindow) n
 
 -- the entries, and the pence of all their periods
 unfoldable pub entriesBy : List ℕ → (ℕ → Bool) → ℕ → List Window → ℕ → Entries

@@ -20,7 +20,7 @@ use Rattle.book.specs.declared.Book.{Book}
 use Rattle.settle.specs.declared.prepare.Prepared.{Prepared}
 use Rattle.settle_lines.specs.Cursor.{steppedLine}
 use Rattle.settle.specs.Settle.{Settled, settledBy, settleBook}
-use Rattle.settle_numbers.specs.Numbers.{stageNumber, rateNumber, numbersOf, Numbered, numberedBy, numberBook}
+use Rattle.settle_numbers.specs.Numbers.{stageNumber, rateNumber, numbersOf, SettledAsNumbers, numberedBy, numberBook}
 use Rattle.settle.specs.Prepared.{summed, lastCursor, settledWith, Prepares}
 use Rattle.rules.proofs.Folds.{concatMap-snoc, length-first, first-snoc}
 use Rattle.settle_lines.proofs.Step.{stored-first}
@@ -82,7 +82,7 @@ module _ {b : Book} {readings : Memory} (memory : List ℤ) {p : Prepared} (P : 
   abbrev records : List Line
   records = replicate (length memory / 8) (line 0)
 
-  abbrev made : Numbered
+  abbrev made : SettledAsNumbers
   made =
       record { settlement = summed (p .settlement) (lastCursor p meter); memory = numbersTo line (p .lines) ++ drop (8 * p .lines) memory }
 

@@ -23,8 +23,8 @@ use Rattle.settle.specs.declared.Settlement.{Settlement}
 use Rattle.settle.specs.Settle.{noStatement}
 
 -- how many numbers a line is
-abbrev pub lineNumbers : ℕ
-lineNumbers = 8
+abbrev pub numbersPerLine : ℕ
+numbersPerLine = 8
 
 -- a stage as a number
 abbrev pub stageNumber : Stage → ℤ
@@ -51,21 +51,21 @@ numbersOf l =
     ∷ []
 
 -- the answer with its statement, and the numbers lent after it
-pub record Numbered : Type 0 where
+pub record SettledAsNumbers : Type 0 where
   pub settlement : Settlement
   pub memory : List ℤ
 
 -- settling refused under a number alters no number; one that is not puts the numbers of its lines, one line after the other, into the first ones
-abbrev pub numberedBy : Option ℕ → Ledger → List ℤ → Numbered
+abbrev pub numberedBy : Option ℕ → Ledger → List ℤ → SettledAsNumbers
 numberedBy none g memory =
     record {
       settlement = record { answer = answerOf none; statement = statementOf g };
-      memory = concatMap numbersOf (lines g) ++ drop (lineNumbers * length (lines g)) memory;
+      memory = concatMap numbersOf (lines g) ++ drop (numbersPerLine * length (lines g)) memory;
     }
 numberedBy (some n) g memory =
     record { settlement = record { answer = answerOf (some n); statement = noStatement }; memory = memory }
 
 -- settling a book into numbers, eight to a line: what `settle_numbers` promises
-unfoldable pub numberBook : Book → Memory → List ℤ → Numbered
+unfoldable pub numberBook : Book → Memory → List ℤ → SettledAsNumbers
 numberBook b meter memory =
-    numberedBy (settleRefusal (not (sound b)) (roomIn meter) (length memory / lineNumbers) (ledgerIn b meter)) (ledgerIn b meter) memory
+    numberedBy (settleRefusal (not (sound b)) (roomIn meter) (length memory / numbersPerLine) (ledgerIn b meter)) (ledgerIn b meter) memory

@@ -6,7 +6,7 @@ ghost use lib.ListN.{length, take, drop};
 ghost use Rattle.book_memory.specs.Meter.{lent};
 ghost use Rattle.energy.specs.Lists.{between, concatMap};
 ghost use Rattle.settle_lines.specs.Cursor.{Plan, Ready, cursorAt, steppedLine};
-ghost use Rattle.settle_numbers.specs.Numbers.{lineNumbers, numberBook, numbersOf, rateNumber, stageNumber};
+ghost use Rattle.settle_numbers.specs.Numbers.{numbersPerLine, numberBook, numbersOf, rateNumber, stageNumber};
 use book::Book;
 use rules::statement::Line;
 use rules::statement::Rate;
@@ -45,9 +45,9 @@ fn rate_number(r: Rate) -> i64
 
 // The numbers of a line, into the eight from `at` on.
 fn put(numbers: &mut [i64], at: usize, l: Line)
-    requires { ⌜ at + lineNumbers ≤ length (now numbers) ⌝ }
+    requires { ⌜ at + numbersPerLine ≤ length (now numbers) ⌝ }
     ensures { λ _.
-        ⌜ now (numbers .exit) ≡ take at (now (numbers .entry)) ++ numbersOf l ++ drop (at + lineNumbers) (now (numbers .entry)) ⌝ }
+        ⌜ now (numbers .exit) ≡ take at (now (numbers .entry)) ++ numbersOf l ++ drop (at + numbersPerLine) (now (numbers .entry)) ⌝ }
 {
     let s = l.stage;
     let r = l.rate;
@@ -78,14 +78,14 @@ fn fill_numbers<'a, 'b, 'c>(
     meter: &'c [i32],
     n: usize,
 ) -> Cursor
-    requires { ⌜ (lineNumbers * n ≤ length (now numbers))
+    requires { ⌜ (numbersPerLine * n ≤ length (now numbers))
         × Plan t (now times) (now live) (now meter)
         × ((k : ℕ) → k < n → Ready t (now times) (now live) (now meter) (cursorAt t (now times) (now live) (now meter) k)) ⌝ }
     ensures { λ r. ⌜ r ≡ cursorAt t (now (times .entry)) (now (live .entry)) (now (meter .entry)) n ⌝ }
     ensures { λ _.
         ⌜ now (numbers .exit)
         ≡ concatMap numbersOf (map (steppedLine t (now (times .entry)) (now (live .entry)) (now (meter .entry))) (between 0 n))
-        ++ drop (lineNumbers * n) (now (numbers .entry)) ⌝ }
+        ++ drop (numbersPerLine * n) (now (numbers .entry)) ⌝ }
 {
     let mut c = first(t, times, live, meter);
     let mut k: usize = 0;

@@ -14,20 +14,20 @@ use Rattle.settle_survey.specs.declared.Survey.{Survey}
 use Rattle.settle_terms.specs.Terms.{issueOf, ceaseOf}
 
 -- instruction j lies in the month and in meter memory
-pub record LaidAt (t : Terms) (times : List ℕ) (meter : List ℤ) (j : ℕ) : Type 0 where
+pub record SurveyableAt (t : Terms) (times : List ℕ) (meter : List ℤ) (j : ℕ) : Type 0 where
   pub three : 3 ≤ issueOf times j
   pub steady : issueOf times j + t .response .0 ≤ ceaseOf times j
   pub inside : ceaseOf times j + t .downminutes .0 ≤ length meter
   pub small : ceaseOf times j + t .downminutes .0 ≤ mostMinute
 
 -- every instruction does
-pub record Laid (t : Terms) (times : List ℕ) (meter : List ℤ) : Type 0 where
+pub record Surveyable (t : Terms) (times : List ℕ) (meter : List ℤ) : Type 0 where
   pub response : t .response .0 ≤ 240
   pub ramp : t .upminutes .0 ≤ t .response .0
   pub some : 1 ≤ t .upminutes .0
   pub few : t .instructions ≤ 64
   pub table : 128 ≤ length times
-  pub each : (j : ℕ) → j < t .instructions → LaidAt t times meter j
+  pub each : (j : ℕ) → j < t .instructions → SurveyableAt t times meter j
 
 -- the cell of a minute holds a reading
 abbrev pub has : List ℤ → ℕ → Bool

@@ -4,7 +4,7 @@ ghost use Prim.Native.Nat.{_+_, _*_, _≤_, _<_};
 ghost use lib.ListN.{length};
 ghost use Rattle.energy.specs.Lists.{all, between};
 ghost use Rattle.rules.specs.Cuts.{touched as touchedOf};
-ghost use Rattle.settle_survey.specs.Survey.{Laid, has, surveyOf, surveyTo};
+ghost use Rattle.settle_survey.specs.Survey.{Surveyable, has, surveyOf, surveyTo};
 use book_memory::holds_reading;
 use energy::units::Minutes;
 use settle_terms::Terms;
@@ -51,7 +51,7 @@ fn touched(a: Minutes, b: Minutes) -> usize
 
 // The survey with instruction `at`.
 fn surveyed(t: Terms, times: &[u16], meter: &[i32], at: usize, s: Survey) -> Survey
-    requires { ⌜ Laid t (now times) (now meter) ⌝ }
+    requires { ⌜ Surveyable t (now times) (now meter) ⌝ }
     requires { ⌜ (at < t .instructions) × (s .count ≤ 3000000 * at) ⌝ }
     ensures { λ r. ⌜ (r ≡ surveyOf t (now (times .entry)) (now (meter .entry)) at s) × (r .count ≤ 3000000 * (at + 1)) ⌝ }
 {
@@ -75,7 +75,7 @@ fn surveyed(t: Terms, times: &[u16], meter: &[i32], at: usize, s: Survey) -> Sur
 
 // The survey of all instructions.
 pub fn survey_all(t: Terms, times: &[u16], meter: &[i32]) -> Survey
-    requires { ⌜ Laid t (now times) (now meter) ⌝ }
+    requires { ⌜ Surveyable t (now times) (now meter) ⌝ }
     ensures { λ r. ⌜ r ≡ surveyTo t (now (times .entry)) (now (meter .entry)) (t .instructions) ⌝ }
 {
     let mut s = Survey {

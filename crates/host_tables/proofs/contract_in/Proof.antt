@@ -3,13 +3,13 @@
 use mir.Syntax.{w64}
 use mir.ValLaws.{toZ-pos}
 use native.Mathlib.Omega.{arith}
-use Rattle.host_tables.specs.Tables.{contractIn}
+use Rattle.host_tables.specs.Tables.{contractOfRow}
 use borrow.Author.Needs.{needs}
 use Rattle.host_tables.proofs.contract_in.Statement.{statement}
 use Rattle.host_tables.proofs.contract_in.Tie as tie
 
 returns : tie.Need-returns
-unfolding contractIn
+unfolding contractOfRow
 returns c =
     let kw = c .before .before .before .before .before .before .before .before .before .before .number-at in
     cc (toZ-pos w64 (kw .result) (omega (arith, kw .ok)))

@@ -1,9 +1,9 @@
 -- `host_tables::default_in` meets its contract: each field is read from its place.
-use Rattle.host_tables.specs.Tables.{defaultIn}
+use Rattle.host_tables.specs.Tables.{defaultOfRow}
 use borrow.Author.Needs.{needs}
 use Rattle.host_tables.proofs.default_in.Statement.{statement}
 use Rattle.host_tables.proofs.default_in.Tie as tie
 
 pub default-in-spec : {M : Type 1} → statement M
-unfolding defaultIn
+unfolding defaultOfRow
 default-in-spec = tie.close (tie.spec (λ c κs. search needs) (λ c κs. search needs) (λ c κs. search needs) (λ c. cc))

@@ -2,19 +2,19 @@
 use Prim.Native.Nat.{_≤_, _-_}
 use native.Mathlib.Omega.{arith}
 use borrow.Author.Needs.{needs}
-use Rattle.host_tables.specs.Tables.{windowIn, windowNumbers}
+use Rattle.host_tables.specs.Tables.{windowOfRow, windowNumbers}
 use Rattle.host_tables.proofs.FilledTables.{Rows, rows-none, rows-next, rows-all}
 use Rattle.host_tables.proofs.windows_of.Statement.{statement}
 use Rattle.host_tables.proofs.windows_of.Tie as tie
 
 abbrev Inv-loop : tie.InvT-loop
-Inv-loop s n entries₀ i₀ entries i = (i ≤ n) × Rows windowIn windowNumbers s 128 i entries
+Inv-loop s n entries₀ i₀ entries i = (i ≤ n) × Rows windowOfRow windowNumbers s 128 i entries
 
 abbrev μ-loop : tie.MeasureT-loop
 μ-loop s n entries₀ i₀ entries i = n - i
 
 pub windows-of-spec : {M : Type 1} → statement M
-unfolding windowIn
+unfolding windowOfRow
 windows-of-spec =
     tie.close
     (tie.spec Inv-loop μ-loop (λ c κs. search needs) (λ c. (omega arith, rows-none)) (λ c. search needs) (λ c. search needs) (λ c. search needs)

@@ -2,7 +2,7 @@
 -- their sums to the answer.
 use mathlib.Core.Path.{sym, _∙_, ap}
 use borrow.Author.Needs.{needs}
-use Rattle.settle_numbers.specs.Numbers.{Numbered}
+use Rattle.settle_numbers.specs.Numbers.{SettledAsNumbers}
 use Rattle.settle_numbers.proofs.LinesAsNumbers.{numbered}
 use Rattle.settle_numbers.proofs.settle_numbers.Statement.{statement}
 use Rattle.settle_numbers.proofs.settle_numbers.Tie as tie
@@ -17,7 +17,7 @@ returns c =
     let p = c .before .before .before .before .before .before .before .before .prepare .ensures in
     let f = c .before .before .fill-numbers .ensures in
     let n = numbered (c .before .before .before .before .before .before .before .before .before .args .numbers .now) p in
-    (c .sum-up .ensures ∙ rw (f .0) (ap (λ (s : Numbered). s .settlement) n), f .1 ∙ ap (λ (s : Numbered). s .memory) n)
+    (c .sum-up .ensures ∙ rw (f .0) (ap (λ (s : SettledAsNumbers). s .settlement) n), f .1 ∙ ap (λ (s : SettledAsNumbers). s .memory) n)
 
 -- the table of live periods has the length that `prepare` promises
 slice-aggregate-fill-numbers-2 : tie.Need-slice-aggregate-fill-numbers-2

@@ -2,12 +2,12 @@
 use mathlib.Core.Path.{_≡_}
 use native.Mathlib.Omega.{arith}
 use Rattle.settle_terms.specs.Terms.{issueOf, ceaseOf}
-use Rattle.settle_survey.specs.Survey.{LaidAt, surveyOf}
+use Rattle.settle_survey.specs.Survey.{SurveyableAt, surveyOf}
 use borrow.Author.Needs.{needs}
 use Rattle.settle_survey.proofs.surveyed.Statement.{statement}
 use Rattle.settle_survey.proofs.surveyed.Tie as tie
 
-laid : (s : tie.Start) → LaidAt (s .args .t) (s .args .times .now) (s .args .meter .now) (s .args .at)
+laid : (s : tie.Start) → SurveyableAt (s .args .t) (s .args .times .now) (s .args .meter .now) (s .args .at)
 laid s = s .pre .0 .each (s .args .at) (s .pre .1 .0)
 
 expiry-of-requires : tie.Need-expiry-of-requires

@@ -2,7 +2,7 @@
 use mathlib.Core.Path.{_≡_, refl, sym, ap, _∙_}
 use borrow.Author.Needs.{needs}
 use Rattle.rules.specs.File.{readAt}
-use Rattle.file_read.specs.Reader.{after, stepAt}
+use Rattle.file_read.specs.Reader.{positionAfter, stepAt}
 use Rattle.file_load.specs.Turn.{turnAt}
 use Rattle.file_load.proofs.file.read_and_enter.Statement.{statement}
 use Rattle.file_load.proofs.file.read_and_enter.Tie as tie
@@ -13,7 +13,7 @@ unfolding stepAt
 found c = ap (λ x. x .read) (c .read-from .ensures)
 
 moved : (c : tie.After-read-from)
-    → c .read-from .result .at ≡ after (readAt (c .before .before .args .s .now) (c .before .before .args .at)) (c .before .before .args .at)
+    → c .read-from .result .at ≡ positionAfter (readAt (c .before .before .args .s .now) (c .before .before .args .at)) (c .before .before .args .at)
 unfolding stepAt
 moved c = ap (λ x. x .at) (c .read-from .ensures)
 
@@ -31,7 +31,7 @@ returns-3 c =
     let d = c .before .before .before .before .before .before .before in
     let read = found d in
     let got = c .before .before .before .before .before .read2 .given .1 in
-    let next = moved d ∙ ap (λ r. after r (d .before .before .args .at)) (sym read ∙ got) in
+    let next = moved d ∙ ap (λ r. positionAfter r (d .before .before .args .at)) (sym read ∙ got) in
     let e = c .before .before .enter-known .ensures in
     rw (← read, got) (rw (← e .entry, ← next) (c .entered .ensures), e .meter)
 

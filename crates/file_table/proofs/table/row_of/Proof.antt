@@ -4,7 +4,7 @@ use Prim.Native.Nat.{_-_, _≤_}
 use borrow.Author.Needs.{needs}
 use lib.ListN.{drop}
 use Rattle.rules.specs.File.{table, widthsOf}
-use Rattle.file_table.specs.Table.{padded, rowOf, rowIn}
+use Rattle.file_table.specs.Table.{padded, tableRow, rowIn}
 use Rattle.file_table.proofs.Rows.{row-here, row-later, row-missing}
 use Rattle.file_table.proofs.table.row_of.Statement.{statement}
 use Rattle.file_table.proofs.table.row_of.Tie as tie
@@ -19,13 +19,13 @@ loop-holds : tie.Need-loop-holds Inv-loop μ-loop
 loop-holds c = (search needs, refl)
 
 returns : tie.Need-returns Inv-loop μ-loop
-unfolding rowOf
+unfolding tableRow
 returns c =
     let row = c .before .before .row-at .ensures in
     row ∙ row-here _ _ (c .before .before .before .before .loop .inv .1) (search needs) (sym (ap (λ r. r .byte) row) ∙ c .if1 .taken)
 
 loop-again : tie.Need-loop-again Inv-loop μ-loop
-unfolding rowOf
+unfolding tableRow
 loop-again c =
     let row = c .before .before .row-at .ensures in
     (search needs, row-later _ _ (c .before .before .before .before .loop .inv .1) (search needs) (λ e. c .if1 .left (ap (λ r. r .byte) row ∙ e)))

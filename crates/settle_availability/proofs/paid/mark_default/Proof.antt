@@ -5,7 +5,7 @@ use Prim.Native.Nat.{_<_}
 use native.Mathlib.Omega.{arith}
 use lib.ListN.{getD}
 use borrow.Author.Needs.{needs}
-use Rattle.settle_availability.specs.Paid.{numberOf}
+use Rattle.settle_availability.specs.Paid.{windowNumberOf}
 use Rattle.settle_availability.proofs.Defaults.{default-none, default-counted, default-reached}
 use Rattle.settle_availability.proofs.paid.mark_default.Statement.{statement}
 use Rattle.settle_availability.proofs.paid.mark_default.Tie as tie
@@ -18,7 +18,7 @@ module _ (n : tie.After-number-at) where
   s = n .before .before .before .before .before .before
 
   -- the number of the default's window
-  number-is : n .number-at .result ≡ numberOf (s .args .live .now) (s .args .d)
+  number-is : n .number-at .result ≡ windowNumberOf (s .args .live .now) (s .args .d)
   number-is = n .number-at .ensures ∙ ap (λ z. getD (s .args .live .now) z 0) (n .before .place-of .ensures)
 
 returns : tie.Need-returns
@@ -26,7 +26,7 @@ returns c =
     let a = s (c .before) .args in
     default-none (a .live .now) (a .t4) (a .d) (a .reached .now) (a .counted .now) (omega (arith, number-is (c .before), c .if1 .taken))
 
-above : (c : tie.Else1) → 0 < numberOf (s (c .before) .args .live .now) (s (c .before) .args .d)
+above : (c : tie.Else1) → 0 < windowNumberOf (s (c .before) .args .live .now) (s (c .before) .args .d)
 above c = omega (arith, number-is (c .before), c .if1 .left)
 
 mark-requires : tie.Need-mark-requires
