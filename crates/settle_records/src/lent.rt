@@ -18,12 +18,12 @@ pub fn settle(b: Book, meter: &[i32], lines: &mut [Line]) -> Settlement
     let p = prepare(b, meter, lines.len());
     let times = p.times;
     let live = p.live;
-    let ts: &[u16] = &times;
-    let ls: &[u8] = &live;
-    let mut c = first(p.terms, ts, ls, meter);
+    let lent_times: &[u16] = &times;
+    let lent_live: &[u8] = &live;
+    let mut c = first(p.terms, lent_times, lent_live, meter);
     let mut k: usize = 0;
     while k < p.lines {
-        let s = step(p.terms, ts, ls, meter, c);
+        let s = step(p.terms, lent_times, lent_live, meter, c);
         lines[k] = s.line;
         c = s.next;
         k += 1;

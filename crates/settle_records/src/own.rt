@@ -2,6 +2,7 @@
 ghost use mathlib.Core.Path.{_≡_};
 ghost use Prim.Native.Nat.{_≤_};
 ghost use Rattle.book_memory.specs.Meter.{lent};
+ghost use Rattle.rules.specs.Lines.{mostLines};
 ghost use Rattle.settle_records.specs.Own.{ownBook};
 use crate::lent::settle;
 use book::Book;
@@ -14,9 +15,9 @@ pub struct Own {
     pub lines: [Line; LINES_MOST],
 }
 
-// Settles into the first n of the records, which all hold something before.
+// Settles into the first n of the records, which all hold `before` until then.
 pub fn settle_into(b: Book, meter: &[i32], n: usize, before: Line) -> Own
-    requires { ⌜ n ≤ 1679 ⌝ }
+    requires { ⌜ n ≤ mostLines ⌝ }
     ensures { λ r. ⌜ r ≡ ownBook b (lent (now (meter .entry))) n before ⌝ }
 {
     let mut lines = [before; LINES_MOST];
