@@ -2,7 +2,7 @@
 use mathlib.Core.Path.{_≡_, refl, sym, ap, _∙_, subst, subst⁻¹}
 use mathlib.Core.Bool.{true, false, cond}
 use mathlib.Core.List.{List, [], _∷_, _++_}
-use mathlib.Core.Option.{Option, none, some, Option·none-ne-some}
+use mathlib.Core.Option.{some, Option·none-ne-some}
 use Prim.Native.Nat.{ℕ, _≤_, _<_}
 use native.Mathlib.Nat.{le-refl}
 use native.Mathlib.Omega.{arith}
@@ -14,12 +14,13 @@ use Rattle.energy.proofs.Tests.{to-T, of-T}
 use Rattle.commands.specs.Input.{isReading}
 use Rattle.commands.proofs.Chain.{true-or-false}
 use Rattle.rules.specs.Ledger.{Ledger, ledgerOf}
-use Rattle.rules.specs.Refusal.{refusal, joined, takenAfter, taken}
+use Rattle.rules.specs.Refusal.{taken}
 use Rattle.rules.specs.Reached.{Reached, untouched, agreed, Untouched, Agreed}
 use Rattle.rules.specs.File.{written}
 use Rattle.rules.specs.Rewritten.{Rewritten}
 use Rattle.commands.specs.declared.entries.Command.{Command}
 use Rattle.rules.proofs.Rewritten.{rewritten}
+use Rattle.rules.proofs.Taken.{taken-ind}
 use Rattle.book_memory.specs.Meter.{putMeter, cellReading, missing, Memory, kwAt, lent}
 use Rattle.book.specs.Book.{emptyBook, bookSpan, bookCells, ledgerIn, putBook, putAll}
 use Rattle.book.specs.Sound.{sound, Shaped, FromCommands, Sound·theorem}
@@ -42,23 +43,15 @@ pub record Leads (size : ℕ) (t : List Command) : Type 0 where
   pub meter : Memory
   pub follows : Follows size t (putAll emptyBook t) meter
 
-leads-on : (size : ℕ) (t cs : List Command) → Leads size t → Leads size (takenAfter size t cs)
-unfolding takenAfter
-leads-on size t [] l = l
-leads-on size t (c ∷ cs) l = leads-on size (joined (refusal false size (ledgerOf t) c) t c) cs (go (refusal false size (ledgerOf t) c) refl)
-  where
-    go : (o : Option ℕ) → refusal false size (ledgerOf t) c ≡ o → Leads size (joined o t c)
-    go none e =
-        record {
-          meter = putMeter (l .meter) c;
-          follows = subst⁻¹ (λ b. Follows size (t ++ (c ∷ [])) b (putMeter (l .meter) c)) (putAll-snoc emptyBook t c) (put-follows (l .follows) c e);
-        }
-    go (some n) e = l
-
 pub leads : (size : ℕ) (cs : List Command) → Leads size (taken size cs)
 unfolding taken putAll
 leads size cs =
-    leads-on size [] cs
+    taken-ind size (Leads size)
+    (λ t c l e. record {
+      meter = putMeter (l .meter) c;
+      follows = subst⁻¹ (λ b. Follows size (t ++ (c ∷ [])) b (putMeter (l .meter) c)) (putAll-snoc emptyBook t c) (put-follows (l .follows) c e);
+    })
+    [] cs
     (record {
       meter = lent (replicate size missing);
       follows = subst (λ n. Follows n [] emptyBook (lent (replicate size missing))) (length-replicate size missing) (starts (lent (replicate size missing)));

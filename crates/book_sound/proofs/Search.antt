@@ -11,13 +11,12 @@ use lib.Dec.{T, leb, ltb, leb→le, le→leb, ltb→lt, lt→ltb}
 use lib.ListN.{length, getD, take, List·getD-map}
 use lib.Seq.{getD-take, length-take-le}
 use Rattle.energy.specs.Lists.{any}
-use Rattle.energy.proofs.Tests.{T-and, and-T, to-T, of-T}
+use Rattle.energy.proofs.Tests.{T-and, and-T, to-T, of-T, same-test}
 use Rattle.rules.specs.Ledger.{within, noWindow}
 use Rattle.rules.specs.Reached.{windowsSound}
 use Rattle.commands.specs.declared.contract.Contract.{Contract}
 use Rattle.commands.specs.declared.entries.Window.{Window}
 use Rattle.rules.proofs.Tables.{WindowFits, windows-cons}
-use Rattle.book_sound.proofs.Tables.{same-test}
 use Rattle.book_sound.specs.Columns.{WindowsInOrder, NeverFalling, Ordered, Held, Started}
 
 -- ---- an element that a test holds of

@@ -6,7 +6,7 @@ use Prim.Native.Nat.{ℕ, zero, suc, _+_, _-_, _≤_, _<_, _^_}
 use native.Mathlib.Numerals.{add-one, sub-one}
 use native.Mathlib.Omega.{arith}
 use lib.IntN.{ℤ, pos, negsuc}
-use lib.Dec.{T, eqb, leb}
+use lib.Dec.{eqb, leb}
 use lib.ListN.{length, getD, take, drop, set, length-set, drop-of-length-le}
 use lib.Seq.{slice, slice-cons, take-suc, take-suc-set, take-all, length-take-le}
 use borrow.Author.Tests.{ne-eqb, leb-false}
@@ -16,15 +16,6 @@ use Rattle.energy.specs.Lists.{all, last}
 use Rattle.energy.proofs.Integers.{parts-fit}
 use Rattle.rules.proofs.Lists.{getD-within}
 use Rattle.book_sound.specs.Unused.{isZero}
-
--- ---- tests
-
--- tests that hold together are the same
-pub same-test : (a b : Bool) → (T a → T b) → (T b → T a) → a ≡ b
-same-test true true f g = refl
-same-test true false f g = absurd (f tt)
-same-test false true f g = absurd (g tt)
-same-test false false f g = refl
 
 -- a signed number is 0 where its bits are
 pub zero-bits : (z : ℤ) → SFits w64 z → eqb (ofZ w64 z) 0 ≡ isZero z

@@ -9,7 +9,6 @@ use Rattle.rules.specs.Ledger.{Ledger, ledgerOf}
 use Rattle.rules.specs.Refusal.{taken}
 use Rattle.rules.specs.Statement.{lines}
 use Rattle.rules.specs.Examples.{appendix2, appendix2File, ledger}
-use Rattle.rules.proofs.Definitions.{opened}
 use Rattle.rules.proofs.Figures.{figures}
 use Rattle.rules.proofs.Appendix2.{appendix2-read}
 use Rattle.demands.specs.Steps.{Step, read, settled, start, outcomes, readsTo}

@@ -2,7 +2,7 @@
 use mathlib.Core.Path.{_≡_}
 use mathlib.Core.List.{List, [], _∷_, _++_}
 use mathlib.Core.Option.{some}
-use Prim.Native.Nat.{ℕ, _≤_}
+use Prim.Native.Nat.{_≤_}
 use lib.IntN.{pos}
 use lib.ListN.{length, getElem?, replicate}
 use Rattle.book_memory.specs.Meter.{Memory, roomIn}
