@@ -41,6 +41,12 @@ module _ {b : Book} {meter : Memory} {c : Command} where
 
 -- ---- a number up to 15, with so much room in lent memory
 
+-- as the code works it out of what it asked before
+pub first-number : (b : Book) (room : ℕ) (c : Command) (n input : ℕ) (s : Bool)
+    → n ≡ anyRefusal input s (b .closed) (b .agreed) (isContract c) (ltb room (onContract spanOf (always (bookCells b)) c)) → input ≡ inputRefusal c
+    → s ≡ sound b → n ≡ anyOf b room c
+first-number b room c n input s e i k = e ∙ rw (i, k)
+
 -- where there is one, it is the refusal
 pub any-refuses : (b : Book) (room : ℕ) (c : Command) (n : ℕ) → n ≡ anyOf b room c → n ≢ 0 → EntersAt b room c (refusedAs n b)
 any-refuses b room c n e h meter q = refuses (by-any b meter c ∙ rw (q, ← e, ne-eqb n 0 h)) h
@@ -113,28 +119,28 @@ module _ {b : Book} {room n : ℕ} where
             room-for some (own-allowed p some (length-replicate room missing) (sym (e some) ∙ z));
       }
 
-  pub window-own : {w : Window} → Past b room (windowᶜ w) → length (b .windows) ≡ 128
-      → n ≡ windowRefusal (b .contract .service) (bookSpan b) (windowsEnd (b .nwindows) (getD (b .windows) (b .nwindows - 1) noWindow))
-      (b .nwindows) w
+  pub window-own : {w : Window} {span last : ℕ} → Past b room (windowᶜ w) → length (b .windows) ≡ 128 → span ≡ bookSpan b → last ≡ b .nwindows - 1
+      → n ≡ windowRefusal (b .contract .service) span (windowsEnd (b .nwindows) (getD (b .windows) last noWindow)) (b .nwindows) w
       → Own b room (windowᶜ w) n (b .nwindows) 128
   unfolding ledgerIn
-  window-own {w} p l e =
-      own-decides p (λ m. refl) (λ m. e ∙ sym (window-number b m (p .agreed) w (omega (arith, p .tables .windows))))
+  window-own {w} p l es el e =
+      own-decides p (λ m. refl) (λ m. (rw (es, el) at e) ∙ sym (window-number b m (p .agreed) w (omega (arith, p .tables .windows))))
       (λ m a. has-room (b .windows) (b .nwindows) 128 l (p .tables .windows) (a .kind .room))
 
-  pub instruction-own : {i : Instruction} → Past b room (instructionᶜ i) → length (b .instructions) ≡ 64
-      → n ≡ instructionRefusal (b .contract) (bookSpan b)
-      (readyAfter (b .contract) (b .ninstructions) (getD (b .instructions) (b .ninstructions - 1) noInstruction)) (b .ninstructions) i
+  pub instruction-own : {i : Instruction} {span last : ℕ} → Past b room (instructionᶜ i) → length (b .instructions) ≡ 64 → span ≡ bookSpan b
+      → last ≡ b .ninstructions - 1
+      → n ≡ instructionRefusal (b .contract) span (readyAfter (b .contract) (b .ninstructions) (getD (b .instructions) last noInstruction))
+      (b .ninstructions) i
       → Own b room (instructionᶜ i) n (b .ninstructions) 64
   unfolding ledgerIn
-  instruction-own {i} p l e =
-      own-decides p (λ m. refl) (λ m. e ∙ sym (instruction-number b m (p .agreed) i (omega (arith, p .tables .instructions))))
+  instruction-own {i} p l es el e =
+      own-decides p (λ m. refl) (λ m. (rw (es, el) at e) ∙ sym (instruction-number b m (p .agreed) i (omega (arith, p .tables .instructions))))
       (λ m a. has-room (b .instructions) (b .ninstructions) 64 l (p .tables .instructions) (a .kind .room))
 
-  pub default-own : {d : Default} → Past b room (defaultᶜ d) → length (b .defaults) ≡ 128
-      → n ≡ defaultRefusal (bookSpan b) (take (b .nwindows) (b .windows)) (b .ndefaults) d
+  pub default-own : {d : Default} {span : ℕ} → Past b room (defaultᶜ d) → length (b .defaults) ≡ 128 → span ≡ bookSpan b
+      → n ≡ defaultRefusal span (take (b .nwindows) (b .windows)) (b .ndefaults) d
       → Own b room (defaultᶜ d) n (b .ndefaults) 128
   unfolding ledgerIn
-  default-own {d} p l e =
-      own-decides p (λ m. refl) (λ m. e ∙ sym (default-number b m (p .agreed) d (omega (arith, p .tables .defaults))))
+  default-own {d} p l es e =
+      own-decides p (λ m. refl) (λ m. (rw es at e) ∙ sym (default-number b m (p .agreed) d (omega (arith, p .tables .defaults))))
       (λ m a. has-room (b .defaults) (b .ndefaults) 128 l (p .tables .defaults) (a .kind .room))

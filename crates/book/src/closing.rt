@@ -4,7 +4,6 @@ ghost use Rattle.book.specs.Enter.{EntersAt};
 ghost use Rattle.book.specs.Sound.{sound as soundOf};
 use crate::Book;
 use crate::Entry;
-use book_refusal::any::any_refusal;
 use commands::entries::Command;
 
 impl Book {
@@ -21,8 +20,7 @@ impl Book {
         requires { ⌜ sound ≡ soundOf self ⌝ }
         ensures { λ r. ⌜ EntersAt self room Command.Close r ⌝ }
     {
-        let short = room < self.cells();
-        let met = any_refusal(0, sound, self.closed, self.agreed, false, short);
+        let met = self.first_refusal(0, sound, room);
         if met != 0 {
             return self.refused(met);
         }

@@ -4,7 +4,6 @@ ghost use Rattle.book.specs.Enter.{EntersAt};
 ghost use Rattle.book.specs.Sound.{sound as soundOf};
 use crate::Book;
 use crate::Entry;
-use book_refusal::any::any_refusal;
 use book_refusal::defaults::default_refusal;
 use commands::entries::Command;
 use commands::entries::Default;
@@ -24,8 +23,7 @@ impl Book {
         ensures { λ r. ⌜ EntersAt self room (Command.Default d) r ⌝ }
     {
         let input = d.input_refusal();
-        let short = room < self.cells();
-        let met = any_refusal(input, sound, self.closed, self.agreed, false, short);
+        let met = self.first_refusal(input, sound, room);
         if met != 0 {
             return self.refused(met);
         }

@@ -5,7 +5,6 @@ ghost use Rattle.book.specs.Sound.{sound as soundOf};
 use crate::Book;
 use crate::Entry;
 use crate::answers::last_place;
-use book_refusal::any::any_refusal;
 use book_refusal::instructions::instruction_refusal;
 use commands::entries::Command;
 use commands::entries::Instruction;
@@ -25,8 +24,7 @@ impl Book {
         ensures { λ r. ⌜ EntersAt self room (Command.Instruction i) r ⌝ }
     {
         let input = i.input_refusal();
-        let short = room < self.cells();
-        let met = any_refusal(input, sound, self.closed, self.agreed, false, short);
+        let met = self.first_refusal(input, sound, room);
         if met != 0 {
             return self.refused(met);
         }

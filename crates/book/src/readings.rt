@@ -6,7 +6,6 @@ ghost use Rattle.book.specs.Sound.{sound as soundOf};
 use crate::Book;
 use crate::Entry;
 use book_memory::put_reading;
-use book_refusal::any::any_refusal;
 use book_refusal::readings::reading_refusal;
 use commands::entries::Command;
 use commands::entries::Reading;
@@ -26,8 +25,7 @@ impl Book {
         ensures { λ e. ⌜ Enters self (lent (now (meter .entry))) (Command.Reading r) e (lent (now (meter .exit))) ⌝ }
     {
         let input = r.input_refusal();
-        let short = meter.len() < self.cells();
-        let met = any_refusal(input, sound, self.closed, self.agreed, false, short);
+        let met = self.first_refusal(input, sound, meter.len());
         if met != 0 {
             return self.refused(met);
         }

@@ -21,7 +21,8 @@ const MOST: i32 = Contract::READING_MOST.0 as i32;
 // command, is left for `enter_known`, which has the number. A month has 44,640 readings, and none of them changes the book: handing it
 // through each of them took most of the time.
 pub fn take_reading(span: usize, c: Command, meter: &mut [i32]) -> bool
-    ensures { λ r. ⌜ (r ≡ takesReading span (lent (now (meter .entry))) c) × (lent (now (meter .exit)) ≡ cond r (putMeter (lent (now (meter .entry))) c) (lent (now (meter .entry)))) ⌝ }
+    ensures { λ r. ⌜ (r ≡ takesReading span (lent (now (meter .entry))) c)
+        × (lent (now (meter .exit)) ≡ cond r (putMeter (lent (now (meter .entry))) c) (lent (now (meter .entry)))) ⌝ }
 {
     match c {
         Command::Contract(_) => false,
@@ -35,7 +36,8 @@ pub fn take_reading(span: usize, c: Command, meter: &mut [i32]) -> bool
 
 // The same of a reading.
 fn take_in_span(span: usize, r: Reading, meter: &mut [i32]) -> bool
-    ensures { λ t. ⌜ (t ≡ takesReading span (lent (now (meter .entry))) (Command.Reading r)) × (lent (now (meter .exit)) ≡ cond t (putMeter (lent (now (meter .entry))) (Command.Reading r)) (lent (now (meter .entry)))) ⌝ }
+    ensures { λ t. ⌜ (t ≡ takesReading span (lent (now (meter .entry))) (Command.Reading r))
+        × (lent (now (meter .exit)) ≡ cond t (putMeter (lent (now (meter .entry))) (Command.Reading r)) (lent (now (meter .entry)))) ⌝ }
 {
     let taken = is_taken(span, r, meter);
     if taken {

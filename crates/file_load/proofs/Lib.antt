@@ -1,4 +1,2 @@
 pub mod From
-pub mod Turns
-pub mod RaisedKw
-pub mod Runs
+mod Turns

@@ -24,7 +24,9 @@ use Rattle.book.proofs.StaysSound.{Kept, kept}
 use Rattle.book.proofs.OpenSpan.{reading-enters}
 use Rattle.file_read.proofs.Steps.{got-within}
 use Rattle.file_load.specs.Load.{LoadedFile, carriesOn, loadsOn}
-use Rattle.file_load.specs.Turn.{goesBy, turnBy, turnAt, Stand, standBy, standAt, stands, Run}
+use Rattle.file_readings.specs.Run.{Stand, standBy, standAt, stands, Run}
+use Rattle.file_readings.proofs.Runs.{chosen, stands-room}
+use Rattle.file_load.specs.Turn.{goesBy, turnBy, turnAt}
 use Rattle.file_load.specs.declared.file.Loaded.{Loaded}
 use Rattle.file_load.specs.declared.file.Turn.{Turn}
 use Rattle.file_load.proofs.From.{from, from-step}
@@ -67,10 +69,6 @@ module _ (s : List ℕ) (at : ℕ) (b : Book) (meter : Memory) where
 
 -- ---- a turn without the book
 
--- a command read is a reading that is taken, or it is left
-abbrev chosen : Bool → ℕ → ℕ → Memory → Command → Stand
-chosen x at next meter c = cond x (record { at = next; meter = putMeter meter c }) (record { at = at; meter = meter })
-
 module _ (span : ℕ) (s : List ℕ) (at : ℕ) (meter : Memory) where
   -- what is left from there is what was left before it, for a sound book whose open span it is
   stand-rest : (b : Book) → sound b ≡ true → span ≡ openSpan b (roomIn meter)
@@ -91,36 +89,15 @@ module _ (span : ℕ) (s : List ℕ) (at : ℕ) (meter : Memory) where
       go (refusedʳ n) e = refl
       go End e = refl
 
-  -- meter memory has the room that it had
-  stand-room : roomIn (standAt span s at meter .meter) ≡ roomIn meter
-  unfolding standAt takesReading
-  stand-room = go (readAt s at)
-    where
-      answered : (x : Bool) (next : ℕ) (r : Reading) → roomIn (chosen x at next meter (readingᶜ r) .meter) ≡ roomIn meter
-      answered true next r = length-set (meter .cells) (r .minute .0) (r .kw .0)
-      answered false next r = refl
-
-      go : (r : Read) → roomIn (standBy span at meter r .meter) ≡ roomIn meter
-      go (Got c next) =
-          reading-or-not (λ c. roomIn (chosen (takesReading span meter c) at next meter c .meter) ≡ roomIn meter)
-          (λ r. answered (takesReading span meter (readingᶜ r)) next r) (λ c o. rw (o _ _ (always false)) refl) c
-      go (refusedʳ n) = refl
-      go End = refl
-
 -- so many turns without the book: what is left then is what was left before them
 module _ (span : ℕ) (s : List ℕ) (x : Stand) where
-  stands-room : (n : ℕ) → roomIn (stands n span s x .meter) ≡ roomIn (x .meter)
-  unfolding stands
-  stands-room zero = refl
-  stands-room (suc n) = stand-room span s (stands n span s x .at) (stands n span s x .meter) ∙ stands-room n
-
   stands-rest : (b : Book) → sound b ≡ true → span ≡ openSpan b (roomIn (x .meter)) → (n : ℕ)
       → from s (x .at) b (x .meter) ≡ from s (stands n span s x .at) b (stands n span s x .meter)
   unfolding stands
   stands-rest b k o zero = refl
   stands-rest b k o (suc n) =
       stands-rest b k o n
-      ∙ stand-rest span s (stands n span s x .at) (stands n span s x .meter) b k (o ∙ ap (openSpan b) (sym (stands-room n)))
+      ∙ stand-rest span s (stands n span s x .at) (stands n span s x .meter) b k (o ∙ ap (openSpan b) (sym (stands-room span s x n)))
 
 -- a run of turns without the book, as the code has it
 pub run-again : (s : List ℕ) (at : ℕ) (b : Book) (span : ℕ) (meter : Memory) (next : ℕ) (after : Memory) → Run span s at meter next after → Kept b

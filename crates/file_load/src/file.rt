@@ -8,10 +8,10 @@ ghost use Rattle.book.specs.Book.{emptyBook};
 ghost use Rattle.book.specs.Sound.{sound};
 ghost use Rattle.file_load.specs.Load.{load as loadOf};
 ghost use Rattle.file_load.specs.Turn.{stopsAt, goesBy, turnAt};
-use crate::readings::take_readings;
 use book::Book;
 use book::Entry;
 use file_read::reader::read_from;
+use file_readings::take_readings;
 use rules::answer::Answer;
 use rules::file::Read;
 
@@ -84,7 +84,10 @@ fn read_and_enter(b: Book, s: &[u8], at: usize, meter: &mut [i32]) -> Turn
 // Readings, of which a file has most, are taken without the book, by its open span, which is asked again after every other command.
 pub fn load(b: Book, s: &[u8], meter: &mut [i32]) -> Loaded
     requires { ⌜ sound b ≡ true ⌝ }
-    ensures { λ r. ⌜ (r ≡ loadOf (now (s .entry)) b (lent (now (meter .entry))) .loaded) × (lent (now (meter .exit)) ≡ loadOf (now (s .entry)) b (lent (now (meter .entry))) .meter) × (sound (r .book) ≡ true) × (r .at ≤ length (now (s .entry))) ⌝ }
+    ensures { λ r. ⌜ (r ≡ loadOf (now (s .entry)) b (lent (now (meter .entry))) .loaded)
+        × (lent (now (meter .exit)) ≡ loadOf (now (s .entry)) b (lent (now (meter .entry))) .meter)
+        × (sound (r .book) ≡ true)
+        × (r .at ≤ length (now (s .entry))) ⌝ }
 {
     let mut l = Loaded {
         answer: Answer::Taken,
@@ -108,7 +111,9 @@ pub fn load(b: Book, s: &[u8], meter: &mut [i32]) -> Loaded
 
 // All commands of a file into the empty book.
 pub fn load_file(s: &[u8], meter: &mut [i32]) -> Loaded
-    ensures { λ r. ⌜ (r ≡ loadOf (now (s .entry)) emptyBook (lent (now (meter .entry))) .loaded) × (lent (now (meter .exit)) ≡ loadOf (now (s .entry)) emptyBook (lent (now (meter .entry))) .meter) × (sound (r .book) ≡ true) ⌝ }
+    ensures { λ r. ⌜ (r ≡ loadOf (now (s .entry)) emptyBook (lent (now (meter .entry))) .loaded)
+        × (lent (now (meter .exit)) ≡ loadOf (now (s .entry)) emptyBook (lent (now (meter .entry))) .meter)
+        × (sound (r .book) ≡ true) ⌝ }
 {
     load(Book::empty(), s, meter)
 }

@@ -1,3 +1,2 @@
 // Whole unit files and pieces of them, read and entered.
 pub mod file;
-mod readings;

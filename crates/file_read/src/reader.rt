@@ -53,7 +53,9 @@ impl<'a> Reader<'a> {
 
     // What stands at the reader's position, and the reader after it.
     pub fn read(self) -> Next<'a>
-        ensures { λ r. ⌜ (r .reader .src ≡ self .entry .src) × (r .reader .at ≡ stepAt (now (self .entry .src)) (self .entry .at) .at) × (r .read ≡ stepAt (now (self .entry .src)) (self .entry .at) .read) ⌝ }
+        ensures { λ r. ⌜ (r .reader .src ≡ self .entry .src)
+            × (r .reader .at ≡ stepAt (now (self .entry .src)) (self .entry .at) .at)
+            × (r .read ≡ stepAt (now (self .entry .src)) (self .entry .at) .read) ⌝ }
     {
         let step = step_at(self.src, self.at);
         Next {

@@ -15,7 +15,7 @@ pub const READING_BYTE: u8 = 0x4D;
 
 pub const CLOSE_BYTE: u8 = 0x5A;
 
-// What a reading's row says, for `file_load`, which takes readings by widths that the compiler knows: those of its minute and its kW, and its length.
+// What a reading's row says, for `file_readings`, which takes readings by widths that the compiler knows: those of its minute and its kW, and its length.
 pub const MINUTE_WIDTH: u8 = 2;
 
 pub const KW_WIDTH: u8 = 4;

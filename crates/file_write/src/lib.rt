@@ -20,7 +20,8 @@ pub struct Written {
 // Writes a book and the readings in meter memory as a unit file into the first of the lent bytes. Those after it keep their contents; a
 // refusal alters none.
 pub fn write_book(b: Book, meter: &[i32], out: &mut [u8]) -> Written
-    ensures { λ r. ⌜ (r ≡ writeBook b (lent (now (meter .entry))) (now (out .entry)) .written) × (now (out .exit) ≡ writeBook b (lent (now (meter .entry))) (now (out .entry)) .memory) ⌝ }
+    ensures { λ r. ⌜ (r ≡ writeBook b (lent (now (meter .entry))) (now (out .entry)) .written)
+        × (now (out .exit) ≡ writeBook b (lent (now (meter .entry))) (now (out .entry)) .memory) ⌝ }
 {
     let left = b.sound();
     if !left {

@@ -241,7 +241,10 @@ pub fn availability(
     kw: Kw,
     rate: u32,
 ) -> Entries
-    requires { ⌜ Spans windows n × (length (now live) ≡ periodPlaces) × ((j : ℕ) → j < d → Placed (now live) windows periodPlaces (getD defaults j noDefault)) × (d ≤ 128) ⌝ }
+    requires { ⌜ Spans windows n
+        × (length (now live) ≡ periodPlaces)
+        × ((j : ℕ) → j < d → Placed (now live) windows periodPlaces (getD defaults j noDefault))
+        × (d ≤ 128) ⌝ }
     requires { ⌜ Upto 500000 (kw .0) × (rate ≤ 1000000) ⌝ }
     ensures { λ r. ⌜ (r ≡ availabilityBy (now (live .entry)) windows n defaults d (natAbs (kw .0)) rate) × Within 100000000000000 (r .pence .0) ⌝ }
 {

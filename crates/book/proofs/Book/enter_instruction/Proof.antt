@@ -1,7 +1,7 @@
 -- `Book::enter_instruction` meets its contract: a number up to 15 decides, then one of an instruction's own, and without either its table has
 -- a place.
 use borrow.Author.Needs.{needs}
-use mathlib.Core.Path.{_≡_, _∙_}
+use mathlib.Core.Path.{_≡_}
 use Prim.Native.Nat.{_<_}
 use native.Mathlib.Omega.{arith}
 use lib.ListN.{length}
@@ -10,16 +10,15 @@ use Rattle.energy.proofs.Tests.{of-T}
 use Rattle.rules.proofs.Folds.{length-mapped}
 use Rattle.book.proofs.SoundTests.{sound-used}
 use Rattle.book.proofs.Refusals.{anyOf}
-use Rattle.book.proofs.EnteringByNumbers.{Past, past-any, any-refuses, Own, instruction-own}
+use Rattle.book.proofs.EnteringByNumbers.{first-number, Past, past-any, any-refuses, Own, instruction-own}
 use Rattle.book.proofs.Book.enter_instruction.Statement.{statement}
 use Rattle.book.proofs.Book.enter_instruction.Tie as tie
 
 -- the number up to 15
-any : (c : tie.After-any-refusal) → let at = c .before .before .before .args in
-    c .any-refusal .result ≡ anyOf (at .t1) (at .room) (instructionᶜ (at .i))
-any c = c .any-refusal .ensures ∙ (rw (c .before .cells .ensures, c .before .before .input-refusal .ensures, c .before .before .before .pre))
+any : (c : tie.After-first-refusal) → let at = c .before .before .args in c .first-refusal .result ≡ anyOf (at .t1) (at .room) (instructionᶜ (at .i))
+any c = first-number _ _ _ _ _ _ (c .first-refusal .ensures) (c .before .input-refusal .ensures) (c .before .before .pre)
 
-past : (c : tie.Else1) → let at = c .before .before .before .before .args in Past (at .t1) (at .room) (instructionᶜ (at .i))
+past : (c : tie.Else1) → let at = c .before .before .before .args in Past (at .t1) (at .room) (instructionᶜ (at .i))
 past c = past-any _ _ _ _ (any (c .before)) (c .if1 .left)
 
 -- the last entry is of the table
@@ -34,21 +33,21 @@ cells : (c : tie.Start) → length (c .args .t1 .instructions) ≡ 64
 cells c = search (length-mapped, needs)
 
 -- the number of its kind
-own : (c : tie.After-instruction-refusal) → let at = c .before .before .before .before .before .before .before .before .before .args in
+own : (c : tie.After-instruction-refusal) → let at = c .before .before .before .before .before .before .before .before .args in
     Own (at .t1) (at .room) (instructionᶜ (at .i)) (c .instruction-refusal .result) (at .t1 .ninstructions) 64
 own c =
     let last = c .before .before .before .before in
-    instruction-own (past (last .before)) (cells (last .before .before .before .before .before))
-    (c .instruction-refusal .ensures ∙ (rw (c .before .span .ensures, last .last-place .ensures)))
+    instruction-own (past (last .before)) (cells (last .before .before .before .before))
+    (c .before .span .ensures) (last .last-place .ensures) (c .instruction-refusal .ensures)
 
 -- without one, there is a place
-place : (c : tie.Else2) → c .before .before .before .before .before .before .before .before .before .before .args .t1 .ninstructions < 64
+place : (c : tie.Else2) → c .before .before .before .before .before .before .before .before .before .args .t1 .ninstructions < 64
 place c = own (c .before) .place (c .if2 .left)
 
 pub enter-instruction-spec : {M : Type 1} → statement M
 enter-instruction-spec =
     tie.close
-    (tie.spec (λ c κs. search needs) (λ c κs. search needs) (λ c κs. search needs) (λ c κs. search needs)
+    (tie.spec (λ c κs. search needs) (λ c κs. search needs) (λ c κs. search needs)
     (λ c. rw (c .refused .ensures) (any-refuses _ _ _ _ (any (c .before .before)) (c .before .if1 .taken))) (λ c κs. search needs)
     (λ c. omega (arith, inside c)) (λ c. inside c) (λ c κs. search needs) instruction-refusal-requires (λ c κs. search needs)
     (λ c. rw (c .refused2 .ensures) (own (c .before .before) .refuses (c .before .if2 .taken)))

@@ -20,7 +20,7 @@ use Rattle.rules.specs.declared.file.Read.the-variants.{Got}
 use Rattle.book_memory.specs.Meter.{cellReading, putMeter, takesReading, Memory}
 use Rattle.book_memory.proofs.TakenReading.{taken-fits}
 use Rattle.file_read.proofs.Finds.{entire, found-reads}
-use Rattle.file_load.specs.Turn.{Stand, standAt}
+use Rattle.file_readings.specs.Run.{Stand, standAt}
 
 -- ---- the kW
 

@@ -1,4 +1,4 @@
--- `file_load::readings::near_kw` meets its contract: raised, the number is far from a sign, and lowered again it is the same reading or none.
+-- `file_readings::near_kw` meets its contract: raised, the number is far from a sign, and lowered again it is the same reading or none.
 use mathlib.Core.Path.{_≡_}
 use native.Mathlib.Omega.{arith}
 use borrow.Author.Needs.{needs}
@@ -7,9 +7,9 @@ use mir.Syntax.{w64}
 use mir.Val.{SFits, toZ}
 use mir.Facts.{toZ-pos, toZ-ofZ}
 use Rattle.energy.proofs.Integers.{exact, diff-parts, fits-parts}
-use Rattle.file_load.proofs.RaisedKw.{raised, near-cell}
-use Rattle.file_load.proofs.readings.near_kw.Statement.{statement}
-use Rattle.file_load.proofs.readings.near_kw.Tie as tie
+use Rattle.file_readings.proofs.RaisedKw.{raised, near-cell}
+use Rattle.file_readings.proofs.near_kw.Statement.{statement}
+use Rattle.file_readings.proofs.near_kw.Tie as tie
 
 -- raised, it is far from a sign
 number : (c : tie.Start) → toZ w64 (raised (c .args .number)) ≡ pos (raised (c .args .number))

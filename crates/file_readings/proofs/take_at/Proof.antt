@@ -1,9 +1,9 @@
--- `file_load::readings::take_at` meets its contract: the near reading is taken as the one that stands there is.
+-- `file_readings::take_at` meets its contract: the near reading is taken as the one that stands there is.
 use borrow.Author.Needs.{needs}
 use Rattle.book_memory.specs.Meter.{lent}
-use Rattle.file_load.proofs.RaisedKw.{near-stand}
-use Rattle.file_load.proofs.readings.take_at.Statement.{statement}
-use Rattle.file_load.proofs.readings.take_at.Tie as tie
+use Rattle.file_readings.proofs.RaisedKw.{near-stand}
+use Rattle.file_readings.proofs.take_at.Statement.{statement}
+use Rattle.file_readings.proofs.take_at.Tie as tie
 
 returns : tie.Need-returns
 returns c =

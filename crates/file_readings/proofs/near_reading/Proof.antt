@@ -1,4 +1,4 @@
--- `file_load::readings::near_reading` meets its contract: the minute and the kW stand after the byte.
+-- `file_readings::near_reading` meets its contract: the minute and the kW stand after the byte.
 use mathlib.Core.Path.{_≡_}
 use Prim.Native.Nat.{ℕ, _+_, _-_, _^_, _<_}
 use native.Mathlib.Omega.{arith}
@@ -9,8 +9,8 @@ use mir.Syntax.{w64}
 use mir.Facts.{toZ-ofZ}
 use Rattle.rules.specs.File.{wordFrom}
 use Rattle.file_table.proofs.Words.{word-below}
-use Rattle.file_load.proofs.readings.near_reading.Statement.{statement}
-use Rattle.file_load.proofs.readings.near_reading.Tie as tie
+use Rattle.file_readings.proofs.near_reading.Statement.{statement}
+use Rattle.file_readings.proofs.near_reading.Tie as tie
 
 -- what so many bytes from a position on say
 below : (i : ℕ) (c : tie.After-shared-slice-known) (n : ℕ) → wordFrom 0 (take i (drop n (c .before .args .s .now))) < 256 ^ i

@@ -1,4 +1,4 @@
--- `file_load::readings::take_readings` meets its contract. The loop's invariant: the run so far. The measure is what is left of the bytes.
+-- `file_readings::take_readings` meets its contract. The loop's invariant: the run so far. The measure is what is left of the bytes.
 use mathlib.Core.Path.{_≡_, refl, sym, _∙_}
 use mathlib.Core.Bool.{cond}
 use Prim.Native.Nat.{_+_, _-_, _≤_}
@@ -7,10 +7,10 @@ use borrow.Author.Needs.{needs}
 use borrow.Author.Tests.{not-true, not-false}
 use lib.ListN.{length, getD}
 use Rattle.book_memory.specs.Meter.{lent}
-use Rattle.file_load.specs.Turn.{Run}
-use Rattle.file_load.proofs.Runs.{whole, run-none, run-more, no-reading, still}
-use Rattle.file_load.proofs.readings.take_readings.Statement.{statement}
-use Rattle.file_load.proofs.readings.take_readings.Tie as tie
+use Rattle.file_readings.specs.Run.{Run}
+use Rattle.file_readings.proofs.Runs.{whole, run-none, run-more, no-reading, still}
+use Rattle.file_readings.proofs.take_readings.Statement.{statement}
+use Rattle.file_readings.proofs.take_readings.Tie as tie
 
 abbrev Inv-loop : tie.InvT-loop
 Inv-loop span s start meter₀ at₀ meter at = Run span s start (lent meter₀) at (lent meter) × (length meter ≡ length meter₀)

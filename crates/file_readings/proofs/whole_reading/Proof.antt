@@ -1,9 +1,9 @@
--- `file_load::readings::whole_reading` meets its contract.
+-- `file_readings::whole_reading` meets its contract.
 use borrow.Author.Needs.{needs}
 use borrow.Author.Tests.{lt-ltb, le-ltb}
-use Rattle.file_load.specs.Turn.{wholeReading}
-use Rattle.file_load.proofs.readings.whole_reading.Statement.{statement}
-use Rattle.file_load.proofs.readings.whole_reading.Tie as tie
+use Rattle.file_readings.specs.Run.{wholeReading}
+use Rattle.file_readings.proofs.whole_reading.Statement.{statement}
+use Rattle.file_readings.proofs.whole_reading.Tie as tie
 
 pub whole-reading-spec : {M : Type 1} → statement M
 unfolding wholeReading

@@ -1,25 +1,27 @@
--- Turns without the book, one after the other: how a run of them goes on, and where it ends.
+-- Readings one after the other: how a run of them goes on, that lent memory keeps its room, and where it ends.
 use mathlib.Core.Path.{_≡_, refl, sym, ap, _∙_}
 use mathlib.Core.Bool.{Bool, true, false, cond, _&&_, true≢false}
 use mathlib.Core.List.{List, []}
 use mathlib.Core.Option.{Option, some}
-use Prim.Native.Nat.{ℕ, suc, _+_, _-_, _≤_, _<_}
+use Prim.Native.Nat.{ℕ, zero, suc, _+_, _-_, _≤_, _<_}
 use native.Mathlib.Omega.{arith}
 use borrow.Author.Tests.{leb-true, eqb-true, lt-ltb, le-leb}
 use lib.Dec.{eqb, leb, ltb}
-use lib.ListN.{length, getD, drop}
+use lib.ListN.{length, length-set, getD, drop}
 use Rattle.energy.specs.Lists.{else}
 use Rattle.energy.proofs.Tests.{on-and}
 use Rattle.commands.specs.declared.entries.Command.{Command}
+use Rattle.commands.specs.declared.entries.Command.the-variants.{Reading as readingᶜ}
+use Rattle.commands.specs.declared.entries.Reading.{Reading}
 use Rattle.commands.specs.Command.{always}
 use Rattle.commands.proofs.ByKind.{reading-or-not}
 use Rattle.rules.specs.File.{table, widthsOf, total, operands, byteOf, readAt}
 use Rattle.rules.specs.declared.file.Read.{Read}
 use Rattle.rules.specs.declared.file.Read.the-variants.{Got, End, Refused as refusedʳ}
-use Rattle.book_memory.specs.Meter.{takesReading, Memory}
+use Rattle.book_memory.specs.Meter.{putMeter, takesReading, Memory, roomIn}
 use Rattle.file_read.proofs.Finds.{Found, ended, unknown, short, entire, found}
 use Rattle.file_read.proofs.Steps.{got-within, byte-back}
-use Rattle.file_load.specs.Turn.{Stand, standBy, standAt, stands, Run, wholeReading}
+use Rattle.file_readings.specs.Run.{Stand, standBy, standAt, stands, Run, wholeReading}
 
 -- what is known where a whole reading stands
 pub whole : (s : List ℕ) (at : ℕ) → wholeReading s at ≡ true → (at + 7 ≤ length s) × (getD s at 0 ≡ 0x4D)
@@ -51,6 +53,34 @@ module _ (span : ℕ) (s : List ℕ) (start : ℕ) (meter₀ : Memory) where
       within : (t : Bool) → cond t (at + 7) at ≤ length s
       within true = room
       within false = omega (arith, room)
+
+-- ---- lent memory
+
+-- a command read is a reading that is taken, or it is left
+abbrev pub chosen : Bool → ℕ → ℕ → Memory → Command → Stand
+chosen x at next meter c = cond x (record { at = next; meter = putMeter meter c }) (record { at = at; meter = meter })
+
+module _ (span : ℕ) (s : List ℕ) where
+  -- meter memory has the room that it had
+  stand-room : (at : ℕ) (meter : Memory) → roomIn (standAt span s at meter .meter) ≡ roomIn meter
+  unfolding standAt takesReading
+  stand-room at meter = go (readAt s at)
+    where
+      answered : (x : Bool) (next : ℕ) (r : Reading) → roomIn (chosen x at next meter (readingᶜ r) .meter) ≡ roomIn meter
+      answered true next r = length-set (meter .cells) (r .minute .0) (r .kw .0)
+      answered false next r = refl
+
+      go : (r : Read) → roomIn (standBy span at meter r .meter) ≡ roomIn meter
+      go (Got c next) =
+          reading-or-not (λ c. roomIn (chosen (takesReading span meter c) at next meter c .meter) ≡ roomIn meter)
+          (λ r. answered (takesReading span meter (readingᶜ r)) next r) (λ c o. rw (o _ _ (always false)) refl) c
+      go (refusedʳ n) = refl
+      go End = refl
+
+  pub stands-room : (x : Stand) (n : ℕ) → roomIn (stands n span s x .meter) ≡ roomIn (x .meter)
+  unfolding stands
+  stands-room x zero = refl
+  stands-room x (suc n) = stand-room (stands n span s x .at) (stands n span s x .meter) ∙ stands-room x n
 
 -- ---- where it ends
 

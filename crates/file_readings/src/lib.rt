@@ -5,7 +5,7 @@ ghost use Prim.Native.Nat.{_+_, _≤_, _<_, _^_};
 ghost use lib.ListN.{length, getD, take, drop};
 ghost use Rattle.rules.specs.File.{wordFrom, signedOf};
 ghost use Rattle.book_memory.specs.Meter.{cellReading, lent};
-ghost use Rattle.file_load.specs.Turn.{wholeReading, standAt, Run};
+ghost use Rattle.file_readings.specs.Run.{wholeReading, standAt, Run};
 use book_memory::take_reading;
 use commands::contract::Contract;
 use commands::entries::Command;

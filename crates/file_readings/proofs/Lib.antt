@@ -1,0 +1,2 @@
+mod RaisedKw
+pub mod Runs
