@@ -1,0 +1,50 @@
+-- The calls that take tables: what each answers and leaves, from whether the tables hold whole rows and, where they do, from what the book that they
+-- say came to.
+use mathlib.Core.Path.{_≡_}
+use mathlib.Core.Bool.{Bool, true, false, not}
+use mathlib.Core.List.{List}
+use Prim.Native.Nat.{ℕ, _^_, _<_}
+use native.Mathlib.Omega.{arith}
+use lib.IntN.{ℤ}
+use lib.ListN.{length}
+use borrow.Author.Tests.{not-true, not-false}
+use Rattle.book_memory.specs.Meter.{Memory}
+use Rattle.book.specs.declared.Book.{Book}
+use Rattle.file_write.specs.Write.{writeBook}
+use Rattle.file_write.specs.declared.Written.{Written}
+use Rattle.host_tables.specs.Tables.{Tables, bookOf, entire}
+use Rattle.host.specs.Answers.{numberOf, packed}
+use Rattle.host.specs.Calls.{settledBook, settleInto, settleTables, writeTables, writtenFile}
+
+-- the windows that a table says are few
+pub few-windows : (t : Tables) (b : Book) → b ≡ bookOf t → length (t .windows) < 2 ^ 64 → b .nwindows < 2 ^ 63
+unfolding bookOf
+few-windows t b eb h = rw eb (omega arith)
+
+module _ (t : Tables) (meter : Memory) (whole : Bool) (et : whole ≡ entire t) where
+  -- a row cut short: not settled
+  pub not-settled : (lines sums : List ℤ) → not whole ≡ true → settledBook 11 lines sums ≡ settleTables t meter lines sums
+  unfolding settleTables
+  not-settled lines sums h = rw (← et, not-true whole h)
+
+  -- whole rows, settled
+  pub settled : (lines sums lines′ sums′ : List ℤ) (b : Book) (r : ℕ) → not whole ≡ false → b ≡ bookOf t
+      → settledBook r lines′ sums′ ≡ settleInto b meter lines sums
+      → settledBook r lines′ sums′ ≡ settleTables t meter lines sums
+  unfolding settleTables
+  settled lines sums lines′ sums′ b r h eb es = rw (← et, not-false whole h, ← eb, ← es)
+
+  -- a row cut short: not written
+  pub not-written : (file : List ℕ) (r : ℕ) → not whole ≡ true → r ≡ packed 11 0 → writtenFile r file ≡ writeTables t meter file
+  unfolding writeTables
+  not-written file r h er = rw (← et, not-true whole h, er)
+
+  -- whole rows, written
+  pub written : (file file′ : List ℕ) (b : Book) (w : Written) (n r : ℕ) → not whole ≡ false → b ≡ bookOf t
+      → w ≡ writeBook b meter file .written
+      → file′ ≡ writeBook b meter file .memory
+      → n ≡ numberOf (w .answer)
+      → r ≡ packed n (w .size)
+      → writtenFile r file′ ≡ writeTables t meter file
+  unfolding writeTables
+  written file file′ b w n r h eb ew ef en er = rw (← et, not-false whole h, ← eb, ← ew, ← ef, er, en)
