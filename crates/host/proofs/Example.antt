@@ -7,7 +7,8 @@ use Rattle.book.specs.Sound.{noContractTests, emptyTests, tableTests, sound}
 use Rattle.settle_numbers.specs.Numbers.{numbersOf, numberBook}
 use Rattle.host_tables.specs.Tables.{contractOfRow, windowOfRow, instructionOfRow, defaultOfRow, entriesOf, bookOf, entire}
 use Rattle.host_sums.specs.Sums.{sumsOf}
-use Rattle.host.specs.Calls.{settleInto, settleTables}
+use Rattle.host.specs.Calls.{settleTables}
+use Rattle.host_settle.specs.SettleInto.{settleInto}
 use Rattle.host.specs.Example.{Example}
 
 -- the book's definitions, all opened by one name

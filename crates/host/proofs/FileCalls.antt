@@ -15,8 +15,9 @@ use Rattle.file_load.specs.Load.{load}
 use Rattle.file_load.specs.declared.file.Loaded.{Loaded}
 use Rattle.file_write.specs.Write.{writeBook}
 use Rattle.file_write.specs.declared.Written.{Written}
-use Rattle.host.specs.Answers.{numberOf, packed}
-use Rattle.host.specs.Calls.{enteredFile, enterFile, rewrittenFile, settledBook, settledFile, settleFile, settleInto, writeFile}
+use Rattle.host_settle.specs.Answers.{numberOf, packed}
+use Rattle.host.specs.Calls.{enteredFile, enterFile, rewrittenFile, settledFile, settleFile, writeFile}
+use Rattle.host_settle.specs.SettleInto.{settledBook, settleInto}
 
 -- the windows of a sound book are few
 pub few-windows : (b : Book) → sound b ≡ true → b .nwindows < 2 ^ 63

@@ -1,5 +1,4 @@
 -- What the proofs of several functions use, and the example.
-mod Settled
 mod FileCalls
 mod TableCalls
 pub mod Example

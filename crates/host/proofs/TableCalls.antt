@@ -13,8 +13,9 @@ use Rattle.book.specs.declared.Book.{Book}
 use Rattle.file_write.specs.Write.{writeBook}
 use Rattle.file_write.specs.declared.Written.{Written}
 use Rattle.host_tables.specs.Tables.{Tables, bookOf, entire}
-use Rattle.host.specs.Answers.{numberOf, packed}
-use Rattle.host.specs.Calls.{settledBook, settleInto, settleTables, writeTables, writtenFile}
+use Rattle.host_settle.specs.Answers.{numberOf, packed}
+use Rattle.host.specs.Calls.{settleTables, writeTables, writtenFile}
+use Rattle.host_settle.specs.SettleInto.{settledBook, settleInto}
 
 -- the windows that a table says are few
 pub few-windows : (t : Tables) (b : Book) → b ≡ bookOf t → length (t .windows) < 2 ^ 64 → b .nwindows < 2 ^ 63

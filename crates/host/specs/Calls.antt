@@ -1,20 +1,15 @@
 -- The calls for hosts: what each answers, and what all lent memory holds after it, by one equation over the rules, refusals included.
 use mathlib.Core.Bool.{cond}
-use mathlib.Core.List.{List, _++_}
+use mathlib.Core.List.{List}
 use Prim.Native.Nat.{ℕ}
-use lib.Dec.{ltb}
 use lib.IntN.{ℤ}
-use lib.ListN.{length, drop}
 use Rattle.book_memory.specs.Meter.{Memory}
 use Rattle.rules.specs.declared.answer.Answer.{Answer}
 use Rattle.rules.specs.declared.answer.Answer.the-variants.{Taken, Refused}
-use Rattle.rules.specs.declared.statement.Statement.{Statement}
 use Rattle.book.specs.Book.{emptyBook}
-use Rattle.book.specs.declared.Book.{Book}
-use Rattle.settle_numbers.specs.Numbers.{SettledAsNumbers, numberBook}
 use Rattle.file_load.specs.Load.{LoadedFile, load}
-use Rattle.host.specs.Answers.{numberOf, packed}
-use Rattle.host_sums.specs.Sums.{sumCount, sumsOf}
+use Rattle.host_settle.specs.Answers.{numberOf, packed}
+use Rattle.host_settle.specs.SettleInto.{SettledBook, settledBook, settleInto}
 use Rattle.host_tables.specs.Tables.{Tables, bookOf, entire}
 use Rattle.file_write.specs.Write.{WrittenBytes, writeBook}
 
@@ -36,34 +31,6 @@ enterFile file meter =
     enteredFile (packed (numberOf (l .loaded .answer)) (l .loaded .at)) (l .meter)
 
 -- ---- a book settled
-
--- the number of the answer, and line and sum memory after it
-pub record SettledBook : Type 0 where
-  pub number : ℕ
-  pub lines : List ℤ
-  pub sums : List ℤ
-
--- what a call answers and leaves, as one
-abbrev pub settledBook : ℕ → List ℤ → List ℤ → SettledBook
-settledBook number lines sums = record { number = number; lines = lines; sums = sums }
-
--- a statement for so many windows goes into the first numbers; a refusal alters none
-abbrev pub sumsBy : Answer → Statement → ℕ → List ℤ → List ℤ
-sumsBy Taken s windows sums = sumsOf s windows ++ drop sumCount sums
-sumsBy (Refused n) s windows sums = sums
-
--- the number where sum memory is shorter than a statement's sums: that of settling into the lines, else 26
-abbrev pub shortNumber : Answer → ℕ
-shortNumber Taken = 26
-shortNumber (Refused n) = n
-
--- settling a book into numbers. Whether there is room for the sums is asked last
-unfoldable pub settleInto : Book → Memory → List ℤ → List ℤ → SettledBook
-settleInto b meter lines sums =
-    let s : SettledAsNumbers = numberBook b meter lines in
-    let a : Answer = s .settlement .answer in
-    cond (ltb (length sums) sumCount) (settledBook (shortNumber a) lines sums)
-    (settledBook (numberOf a) (s .memory) (sumsBy a (s .settlement .statement) (b .nwindows) sums))
 
 -- the book that tables say, settled. Tables with a row cut short say no book: 11
 unfoldable pub settleTables : Tables → Memory → List ℤ → List ℤ → SettledBook

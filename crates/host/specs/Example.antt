@@ -8,7 +8,8 @@ use lib.ListN.{replicate}
 use Rattle.book_memory.specs.Meter.{Memory, lent, missing}
 use Rattle.rules.specs.Examples.{guide, times}
 use Rattle.host_tables.specs.Tables.{Tables, tables}
-use Rattle.host.specs.Calls.{settledBook, settleTables}
+use Rattle.host.specs.Calls.{settleTables}
+use Rattle.host_settle.specs.SettleInto.{settledBook}
 
 -- Appendix 2's contract, window and instruction
 abbrev pub appendix : Tables

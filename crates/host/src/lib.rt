@@ -1,22 +1,20 @@
 // The package for hosts in C or Rust: whole unit files, and tables of numbers, entered and settled into numbers, or written as a unit file.
 // Every call is total: it answers for every length and every contents of what is lent. Each promise is one equation: the answer and all lent memory
 // after the call are what the definition of the call gives for what was lent.
-mod answers;
-mod settling;
-
 ghost use mathlib.Core.Path.{_≡_};
 ghost use Rattle.book_memory.specs.Meter.{lent};
 ghost use Rattle.host.specs.Calls.{enterFile, settleFile, settleTables, writeFile, writeTables};
-ghost use Rattle.host.specs.Calls.{enteredFile, rewrittenFile, settledBook, settledFile, writtenFile};
+ghost use Rattle.host.specs.Calls.{enteredFile, rewrittenFile, settledFile, writtenFile};
+ghost use Rattle.host_settle.specs.SettleInto.{settledBook};
 ghost use Rattle.host_tables.specs.Tables.{tables};
-use answers::number_of;
-use answers::pack;
 use file_load::file::load_file;
 use file_write::write_book;
+use host_settle::answers::number_of;
+use host_settle::answers::pack;
+use host_settle::settle_book;
 use host_tables::book_of;
 use host_tables::entire_tables;
 use rules::answer::Answer;
-use settling::settle_book;
 
 // Enters a whole unit file. The answer is the refusal's number, or 0, and 256 times the offset of the refused command, or the file's length.
 #[no_mangle]

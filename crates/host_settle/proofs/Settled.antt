@@ -25,8 +25,8 @@ use Rattle.book.specs.Sound.{sound}
 use Rattle.book.specs.declared.Book.{Book}
 use Rattle.settle_numbers.specs.Numbers.{numbersOf, numberBook, numberedBy}
 use Rattle.settle.specs.declared.Settlement.{Settlement}
-use Rattle.host.specs.Answers.{numberOf}
-use Rattle.host.specs.Calls.{settledBook, settleInto, shortNumber, sumsBy}
+use Rattle.host_settle.specs.Answers.{numberOf}
+use Rattle.host_settle.specs.SettleInto.{settledBook, settleInto, shortNumber, sumsBy}
 use Rattle.host_sums.specs.Sums.{sumCount, sumsOf}
 
 -- a statement's lines fit the memory lent for them: else it gets 26

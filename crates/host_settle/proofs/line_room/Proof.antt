@@ -1,9 +1,9 @@
--- `host::settling::line_room` meets its contract: each arm knows whether the sums have room.
+-- `host_settle::line_room` meets its contract: each arm knows whether the sums have room.
 use mathlib.Core.Path.{refl}
 use native.Mathlib.Omega.{arith}
 use borrow.Author.Tests.{le-ltb, lt-ltb}
-use Rattle.host.proofs.settling.line_room.Statement.{statement}
-use Rattle.host.proofs.settling.line_room.Tie as tie
+use Rattle.host_settle.proofs.line_room.Statement.{statement}
+use Rattle.host_settle.proofs.line_room.Tie as tie
 
 pub line-room-spec : {M : Type 1} → statement M
 line-room-spec =

@@ -1,13 +1,13 @@
 // What a call answers, as one number.
 ghost use mathlib.Core.Path.{_≡_};
-ghost use Rattle.host.specs.Answers.{numberOf, packed};
+ghost use Rattle.host_settle.specs.Answers.{numberOf, packed};
 use rules::answer::Answer;
 
 // The most that an offset stands for in an answer: what is left of 64 bits beside the number's 8.
 const OFFSET_MOST: usize = 72057594037927935;
 
 // The number of an answer.
-pub(crate) fn number_of(a: Answer) -> u8
+pub fn number_of(a: Answer) -> u8
     ensures { λ r. ⌜ r ≡ numberOf a ⌝ }
 {
     match a {
@@ -17,7 +17,7 @@ pub(crate) fn number_of(a: Answer) -> u8
 }
 
 // A number with an offset.
-pub(crate) fn pack(number: u8, offset: usize) -> u64
+pub fn pack(number: u8, offset: usize) -> u64
     ensures { λ r. ⌜ r ≡ packed number offset ⌝ }
 {
     if offset < OFFSET_MOST {

@@ -1,4 +1,4 @@
--- `host::settling::settle_book` meets its contract: the answer and the room for the sums decide whether these are written, and the lines fit the
+-- `host_settle::settle_book` meets its contract: the answer and the room for the sums decide whether these are written, and the lines fit the
 -- memory lent for them.
 use mathlib.Core.Path.{ap}
 use native.Mathlib.Omega.{arith}
@@ -6,10 +6,10 @@ use lib.ListN.{take}
 use lib.Seq.{length-take-le}
 use Rattle.book_memory.specs.Meter.{lent}
 use Rattle.settle.specs.declared.Settlement.{Settlement}
-use Rattle.host.proofs.Settled.{few-lines, short-taken, long-taken, refused}
+use Rattle.host_settle.proofs.Settled.{few-lines, short-taken, long-taken, refused}
 use borrow.Author.Needs.{needs}
-use Rattle.host.proofs.settling.settle_book.Statement.{statement}
-use Rattle.host.proofs.settling.settle_book.Tie as tie
+use Rattle.host_settle.proofs.settle_book.Statement.{statement}
+use Rattle.host_settle.proofs.settle_book.Tie as tie
 
 returns : tie.Need-returns
 returns c =

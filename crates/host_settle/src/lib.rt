@@ -1,10 +1,12 @@
-// A book settled into numbers.
+// A book settled into numbers for a host, and what a call answers as one number.
+pub mod answers;
+
 ghost use mathlib.Core.Path.{_≡_};
 ghost use mathlib.Core.Bool.{cond};
 ghost use Prim.Native.Nat.{_≤_, _<_, _^_};
 ghost use lib.Dec.{ltb};
 ghost use Rattle.book_memory.specs.Meter.{lent};
-ghost use Rattle.host.specs.Calls.{settleInto, settledBook};
+ghost use Rattle.host_settle.specs.SettleInto.{settleInto, settledBook};
 ghost use Rattle.host_sums.specs.Sums.{sumCount};
 use book::Book;
 use host_sums::SUMS;
@@ -24,7 +26,7 @@ fn line_room(lines: usize, sums: usize) -> usize
 }
 
 // The number under which settling a book is refused, or 0. Line and sum memory are written only where it is 0.
-pub(crate) fn settle_book(b: Book, meter: &[i32], lines: &mut [i64], sums: &mut [i64]) -> u8
+pub fn settle_book(b: Book, meter: &[i32], lines: &mut [i64], sums: &mut [i64]) -> u8
     requires { ⌜ b .nwindows < 2 ^ 63 ⌝ }
     ensures { λ r.
         ⌜ settledBook r (now (lines .exit)) (now (sums .exit))
