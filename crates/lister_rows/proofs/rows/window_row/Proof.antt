@@ -13,8 +13,13 @@ use Rattle.lister_rows.proofs.rows.window_row.Tie as tie
 returns : tie.Need-returns
 unfolding windowRow
 returns c =
-    let t = c .before .before in
-    let s = t .before .before .before .before .before .before in
+    let c5 = c .before in
+    let t = c5 .before in
+    let c4 = t .before in
+    let c3 = c4 .before .before in
+    let c2 = c3 .before in
+    let c1 = c2 .before in
+    let s = c1 .before in
     let a = s .args in
     let given = t .struct-told .given in
     let pence : SFits w64 (a .a .pence .0) = omega (arith, given) in
@@ -23,7 +28,7 @@ returns c =
       digits-length (a .n) 9 (omega (arith, s .fits .n)),
       digits-length (a .a .periods) 9 (omega (arith, given)),
       signed-length (a .a .pence .0) pence,
-    )) (cc (toZ-ofZ pence))
+    )) (rw (c .put2 .ensures, c5 .amount .ensures, c4 .count2 .ensures, c3 .count .ensures, c2 .put .ensures, c1 .empty .ensures, toZ-ofZ pence))
 
 pub window-row-spec : {M : Type 1} → statement M
 window-row-spec =

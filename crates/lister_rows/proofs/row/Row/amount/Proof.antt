@@ -4,4 +4,4 @@ use Rattle.lister_rows.proofs.row.Row.amount.Statement.{statement}
 use Rattle.lister_rows.proofs.row.Row.amount.Tie as tie
 
 pub amount-spec : {M : Type 1} → statement M
-amount-spec = tie.close (tie.spec (λ c κs. tt) (λ c κs. tt) (λ c. cc (toZ-ofZ (c .before .before .fits .n))))
+amount-spec = tie.close (tie.spec (λ c κs. tt) (λ c κs. tt) (λ c. rw (c .signed .ensures, c .before .put .ensures, toZ-ofZ (c .before .before .fits .n))))

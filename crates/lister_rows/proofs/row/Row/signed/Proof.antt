@@ -25,13 +25,15 @@ returns : tie.Need-returns
 returns c =
     let s = c .before .before .before .before in
     let n = toZ-ofZ (s .fits .n) in
-    rw (minus (s .args .n) (rw n at (c .before .before .if1 .taken))) (cc)
+    let below = minus (s .args .n) (rw n at (c .before .before .if1 .taken)) in
+    rw (below, c .number .ensures, c .before .put .ensures, c .before .before .before .magnitude .ensures, n)
 
 returns-2 : tie.Need-returns-2
 returns-2 c =
     let s = c .before .before .before in
     let n = toZ-ofZ (s .fits .n) in
-    rw (plain (s .args .n) (rw n at (c .before .if1 .left))) (cc)
+    let from0 = plain (s .args .n) (rw n at (c .before .if1 .left)) in
+    rw (from0, c .number2 .ensures, c .before .before .magnitude .ensures, n)
 
 pub signed-spec : {M : Type 1} → statement M
 signed-spec = tie.close (tie.spec (λ c κs. tt) (λ c κs. tt) (λ c κs. tt) returns (λ c κs. tt) returns-2)
