@@ -17,7 +17,9 @@ use Rattle.rules.specs.declared.statement.Line.{Line}
 use Rattle.book.specs.Book.{ledgerIn}
 use Rattle.book.specs.Sound.{sound}
 use Rattle.book.specs.declared.Book.{Book}
+use Rattle.settle.specs.declared.Settlement.{Settlement}
 use Rattle.settle.specs.declared.prepare.Prepared.{Prepared}
+use Rattle.settle_lines.specs.declared.cursor.Cursor.{Cursor}
 use Rattle.settle_lines.specs.Cursor.{steppedLine}
 use Rattle.settle.specs.Settle.{Settled, settledBy, settleBook}
 use Rattle.settle_numbers.specs.Numbers.{stageNumber, rateNumber, numbersOf, SettledAsNumbers, numberedBy, numberBook}
@@ -102,8 +104,17 @@ module _ {b : Book} {readings : Memory} (memory : List ℤ) {p : Prepared} (P : 
       let n : p .lines ≡ 0 = sym (P .count) ∙ ap (λ (s : Settled). s .settlement .statement .lines) e in
       λ i. record { settlement = e i .settlement; memory = numbersTo line (n i) ++ drop (8 * n i) memory }
 
-  pub numbered : made ≡ numberBook b readings memory
+  numbered : made ≡ numberBook b readings memory
   unfolding settleBook numberBook
   numbered =
       by-refusal (settleRefusal (not (sound b)) (roomIn readings) (length memory / 8) g)
       (P .settles records long-records ∙ rw long-records refl)
+
+  -- the answer and the numbers, from what `fill_numbers` and `sum_up` promise
+  pub settles : (s : Settlement) (sums : Cursor) (zs : List ℤ) → sums ≡ lastCursor p meter
+      → zs ≡ numbersTo line (p .lines) ++ drop (8 * p .lines) memory
+      → s ≡ summed (p .settlement) sums → (s ≡ numberBook b readings memory .settlement) × (zs ≡ numberBook b readings memory .memory)
+  settles s sums zs e ez es = (
+    es ∙ ap (summed (p .settlement)) e ∙ ap (λ (m : SettledAsNumbers). m .settlement) numbered,
+    ez ∙ ap (λ (m : SettledAsNumbers). m .memory) numbered,
+  )

@@ -1,9 +1,8 @@
 -- `settle_numbers::settle_numbers` meets its contract: `prepare` decides before a number is written, `fill_numbers` stores the lines, and `sum_up` adds
 -- their sums to the answer.
-use mathlib.Core.Path.{sym, _∙_, ap}
+use mathlib.Core.Path.{sym}
 use borrow.Author.Needs.{needs}
-use Rattle.settle_numbers.specs.Numbers.{SettledAsNumbers}
-use Rattle.settle_numbers.proofs.LinesAsNumbers.{numbered}
+use Rattle.settle_numbers.proofs.LinesAsNumbers.{settles}
 use Rattle.settle_numbers.proofs.settle_numbers.Statement.{statement}
 use Rattle.settle_numbers.proofs.settle_numbers.Tie as tie
 
@@ -15,9 +14,9 @@ sum-up-requires c κs =
 returns : tie.Need-returns
 returns c =
     let p = c .before .before .before .before .before .before .before .before .prepare .ensures in
-    let f = c .before .before .fill-numbers .ensures in
-    let n = numbered (c .before .before .before .before .before .before .before .before .before .args .numbers .now) p in
-    (c .sum-up .ensures ∙ rw (f .0) (ap (λ (s : SettledAsNumbers). s .settlement) n), f .1 ∙ ap (λ (s : SettledAsNumbers). s .memory) n)
+    let f = c .before .before .fill-numbers in
+    settles (c .before .before .before .before .before .before .before .before .before .args .numbers .now) p _ (f .result) _ (f .ensures .0)
+    (f .ensures .1) (c .sum-up .ensures)
 
 -- the table of live periods has the length that `prepare` promises
 slice-aggregate-fill-numbers-2 : tie.Need-slice-aggregate-fill-numbers-2
