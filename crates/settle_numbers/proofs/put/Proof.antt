@@ -1,14 +1,14 @@
 -- `settle_numbers::put` meets its contract: each store keeps the length, so the next place is inside, and the eight stores, in a row, are one.
 use mathlib.Core.Path.{_≡_, refl, _∙_}
 use mathlib.Core.List.{List, [], _∷_}
-use Prim.Native.Nat.{ℕ, _+_, _-_, _≤_, _<_, _^_}
+use Prim.Native.Nat.{ℕ, _+_, _-_, _*_, _≤_, _<_, _^_}
 use native.Mathlib.Omega.{arith}
 use lib.Dec.{lit<}
 use lib.IntN.{ℤ}
 use lib.ListN.{length, set, take, length-set}
 use borrow.Author.Needs.{needs}
 use mir.Syntax.{w64}
-use mir.Val.{SFits, toZ, ofZ}
+use mir.Val.{Fits, SFits, toZ, ofZ}
 use mir.ValLaws.{toZ-pos}
 use mir.Facts.{toZ-ofZ}
 use Rattle.rules.specs.declared.statement.Line.{Line}
@@ -46,6 +46,10 @@ inside k at n m h room e = omega arith
 below : (n : ℕ) → n < 2 ^ 32 → n < 2 ^ 63
 below n h = omega arith
 
+-- such a place is a number, and so is its place in bytes
+place : (k at n : ℕ) → k < 8 → at + 8 ≤ n → n * 8 < 2 ^ 63 → Fits w64 (at + k) × Fits w64 ((at + k) * 8)
+place k at n h room lent = (record { fits = omega arith }, record { fits = omega arith })
+
 -- where the numbers are stored: once the first k are, there are as many as before, and the place k is inside
 module _ (c : tie.After-struct-told4) where
   abbrev ys : List ℤ
@@ -65,6 +69,12 @@ module _ (c : tie.After-struct-told4) where
 
   same-length : (k : ℕ) → length (after ys at line stage rate k) ≡ length ys
   same-length = as-long ys at line stage rate
+
+  fits : (k : ℕ) → k < 8 → Fits w64 (at + k) × Fits w64 ((at + k) * 8)
+  fits k h =
+      let s = c .before .before .before .before .before .before .before .before in
+      let lent : length ys * 8 < 2 ^ 63 = omega (arith, s .good .0) in
+      place k at (length ys) h (s .pre) lent
 
   slice-set : (k : ℕ) → k < 8 → at + k < length (after ys at line stage rate k)
   slice-set k h = inside k at (length ys) _ h (c .before .before .before .before .before .before .before .before .pre) (same-length k)
@@ -89,8 +99,8 @@ pub put-spec : {M : Type 1} → statement M
 put-spec =
     tie.close
     (tie.spec (λ c. search needs) (λ c. search needs) (λ c κs. search needs) (λ c κs. search needs) (λ c. search needs) (λ c. search needs)
-    (λ c. search needs) (λ c. search needs) (λ c. slice-set c 1 (lit< tt)) (λ c. search needs) (λ c. search needs)
-    (λ c. slice-set c 2 (lit< tt)) (λ c. search needs) (λ c. search needs) (λ c. slice-set c 3 (lit< tt)) (λ c. search needs)
-    (λ c. search needs) (λ c. slice-set c 4 (lit< tt)) (λ c. search needs) (λ c. search needs) (λ c. slice-set c 5 (lit< tt))
-    (λ c. search needs) (λ c. search needs) (λ c. slice-set c 6 (lit< tt)) (λ c. search needs) (λ c. search needs)
+    (λ c. fits c 1 (lit< tt) .0) (λ c. fits c 1 (lit< tt) .1) (λ c. slice-set c 1 (lit< tt)) (λ c. fits c 2 (lit< tt) .0) (λ c. fits c 2 (lit< tt) .1)
+    (λ c. slice-set c 2 (lit< tt)) (λ c. fits c 3 (lit< tt) .0) (λ c. fits c 3 (lit< tt) .1) (λ c. slice-set c 3 (lit< tt)) (λ c. fits c 4 (lit< tt) .0)
+    (λ c. fits c 4 (lit< tt) .1) (λ c. slice-set c 4 (lit< tt)) (λ c. fits c 5 (lit< tt) .0) (λ c. fits c 5 (lit< tt) .1) (λ c. slice-set c 5 (lit< tt))
+    (λ c. fits c 6 (lit< tt) .0) (λ c. fits c 6 (lit< tt) .1) (λ c. slice-set c 6 (lit< tt)) (λ c. fits c 7 (lit< tt) .0) (λ c. fits c 7 (lit< tt) .1)
     (λ c. slice-set c 7 (lit< tt)) (λ c. same-length c 8) returns)
