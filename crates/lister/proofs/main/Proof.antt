@@ -1,14 +1,29 @@
--- `lister::main` is safe and ends: the rows that are written out stand in the buffer.
-use mathlib.Core.Path.{sym}
+-- `lister::main` is safe and ends: buffer and meter memory have the lengths that they are made with, and the rows that are written out stand in the
+-- buffer of rows.
+use mathlib.Core.Path.{_≡_, sym}
+use Prim.Native.Nat.{ℕ, zero-le, _≤_}
 use native.Mathlib.Omega.{arith}
 use borrow.Author.Needs.{needs}
+use lib.IntN.{negsuc}
+use lib.ListN.{length, replicate, length-replicate}
 use lib.Seq.{length-take-le}
 use Rattle.energy.proofs.Puts.{laid-within}
 use Rattle.lister.proofs.main.Statement.{statement}
 use Rattle.lister.proofs.main.Tie as tie
 
+-- the lengths, not computed
+buffer-long : length (replicate {A = ℕ} 61440 0) ≡ 61440
+buffer-long = length-replicate {A = ℕ} 61440 0
+
+meter-long : length (replicate 15840 (negsuc 2147483647)) ≡ 15840
+meter-long = length-replicate 15840 (negsuc 2147483647)
+
+-- what `list_input` asks of them
+asked : (n m : ℕ) → n ≡ 61440 → m ≡ 15840 → (32 ≤ n) × (n ≤ 65536) × (m ≡ 15840)
+asked n m e f = (omega arith, omega arith, f)
+
 array-share-prefix-rows : tie.Need-array-share-prefix-rows
-array-share-prefix-rows c = laid-within (omega arith) (c .before .before .list-input .ensures .prints)
+array-share-prefix-rows c = laid-within zero-le (c .before .before .list-input .ensures .prints)
 
 slice-aggregate-write-all : tie.Need-slice-aggregate-write-all
 slice-aggregate-write-all c =
@@ -18,5 +33,5 @@ slice-aggregate-write-all c =
 pub main-spec : {M : Type 1} → statement M
 main-spec =
     tie.close
-    (tie.spec (λ c. search needs) (λ c. search needs) (λ c κs. search needs) array-share-prefix-rows slice-aggregate-write-all (λ c κs. search needs)
-    (λ c. search needs))
+    (tie.spec (λ c. sym buffer-long) (λ c. sym meter-long) (λ c κs. asked _ _ buffer-long meter-long) array-share-prefix-rows slice-aggregate-write-all
+    (λ c κs. search needs) (λ c. search needs))

@@ -78,8 +78,8 @@ loop-again c =
     let nothing = rw (goes (c .before)) at (l .ensures .1) in (
       l .ensures .0 .keeps,
       l .ensures .0 .fits,
-      search (needs, l, f, t .inv),
-      search (needs, l, f, t .inv),
+      l .kept .1 .1 .0 ∙ f .kept .0 ∙ t .inv .2,
+      l .kept .1 .1 .1 .0 ∙ t .inv .3,
       nothing .holds ∙ put-none (t .rows) 0 ∙ t .inv .4,
       again (met d) (l .ensures .0) (goes (c .before)),
     )
@@ -89,12 +89,12 @@ same-length : tie.Need-same-length Inv-loop μ-loop
 same-length c =
     let d = c .before .before .before .before .before .before in
     let f = d .before .before .before .before .before .before .fill in
-    search (needs, d .list-piece, f, d .before .before .before .before .before .before .before .before .loop .inv)
+    d .list-piece .kept .1 .1 .0 ∙ f .kept .0 ∙ d .before .before .before .before .before .before .before .before .loop .inv .2
 
 same-length-2 : tie.Need-same-length-2 Inv-loop μ-loop
 same-length-2 c =
     let d = c .before .before .before .before .before .before in
-    search (needs, d .list-piece, d .before .before .before .before .before .before .before .before .loop .inv)
+    d .list-piece .kept .1 .1 .1 .0 ∙ d .before .before .before .before .before .before .before .before .loop .inv .3
 
 pub list-input-spec : {M : Type 1} → statement M
 list-input-spec =
