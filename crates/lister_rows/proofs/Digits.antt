@@ -74,6 +74,10 @@ digits-length = by-digits (λ n bs. (k : ℕ) → n < 10 ^ suc k → length bs �
     more n bs h rest (suc k) l =
         rw length-append (omega (arith, rest k (div-lt-iff-lt-mul (omega arith) .1 (rw pow-suc at l))))
 
+-- a count of 32 bits has at most 10 digits
+pub count-length : (n : ℕ) → n < 2 ^ 32 → length (digits n) ≤ 10
+count-length n h = digits-length n 9 (omega arith)
+
 -- a signed 64-bit number has at most 20 bytes
 pub signed-length : (z : ℤ) → SFits w64 z → length (signedDigits z) ≤ 20
 unfolding signedDigits

@@ -5,7 +5,7 @@ use mir.Syntax.{w64}
 use mir.Val.{SFits}
 use mir.Facts.{toZ-ofZ}
 use Rattle.lister_rows.specs.Rows.{lineRow}
-use Rattle.lister_rows.proofs.Digits.{digits-length, signed-length}
+use Rattle.lister_rows.proofs.Digits.{count-length, signed-length}
 use Rattle.lister_rows.proofs.Appending.{row-put}
 use Rattle.lister_rows.proofs.rows.line_row.Statement.{statement}
 use Rattle.lister_rows.proofs.rows.line_row.Tie as tie
@@ -28,14 +28,14 @@ returns c =
     let l = s .before .args .l in
     let told = c7 .before .struct-told .given in
     let given = told .1 .1 .1 .1 in
-    let expected : SFits w64 (l .expected .0) = omega (arith, given) in
-    let delivered : SFits w64 (l .delivered .0) = omega (arith, given) in
-    let capped : SFits w64 (l .capped .0) = omega (arith, given) in
-    let pence : SFits w64 (l .pence .0) = omega (arith, given) in
+    let expected : SFits w64 (l .expected .0) = record { sfits = given .0 .1 .1 .0 .1 } in
+    let delivered : SFits w64 (l .delivered .0) = record { sfits = given .1 .0 .1 .1 .0 .1 } in
+    let capped : SFits w64 (l .capped .0) = record { sfits = given .1 .1 .0 .1 .1 .0 .1 } in
+    let pence : SFits w64 (l .pence .0) = record { sfits = given .1 .1 .1 .0 .1 .1 .0 .1 } in
     row-put _ _ (omega (
       arith,
-      digits-length (l .instruction) 9 (omega (arith, told .0)),
-      digits-length (l .period) 9 (omega (arith, told .1 .0)),
+      count-length (l .instruction) (told .0 .1),
+      count-length (l .period) (told .1 .0 .1),
       signed-length (l .expected .0) expected,
       signed-length (l .delivered .0) delivered,
       signed-length (l .capped .0) capped,
