@@ -42,6 +42,10 @@ inside h k e ef et x = (omega arith, omega arith, omega arith, x)
 place-fits : {i n : ℕ} → i < n → n ≤ 128 → (i < 128) × Fits w64 (i * 6) × Fits w64 (i * 16) × Fits w64 (i + 1)
 place-fits h few = omega arith
 
+here : (t : tie.In-loop Inv-loop μ-loop)
+    → let i = t .before .loop .i in (i < 128) × Fits w64 (i * 6) × Fits w64 (i * 16) × Fits w64 (i + 1)
+here t = place-fits (t .loop-test .taken) (t .before .before .before .before .pre .0 .few)
+
 -- one window more, and its periods
 more : (i n total k : ℕ) → i < n → total ≤ mostPeriods * i → k ≤ mostPeriods → (i + 1 ≤ n) × (total + k ≤ mostPeriods * (i + 1))
 more i n total k h l m = omega arith
@@ -98,7 +102,8 @@ loop-again c =
     let k = c .before .paid-periods in
     let from = c .before .before .before .before .place-of in
     let to = c .before .before .before .place-of2 in
-    let next = more (l .i) (a .n) (l .total) (k .result) (c .before .before .before .before .before .before .before .before .loop-test .taken) (l .inv .3) (k .ensures .1) in (
+    let h = c .before .before .before .before .before .before .before .before .loop-test .taken in
+    let next = more (l .i) (a .n) (l .total) (k .result) h (l .inv .3) (k .ensures .1) in (
       next .0,
       entries-next (a .live .now) (marked (a .reached .now)) (a .t4) (l .i) (from .result) (to .result) (n .result) (k .result) (from .ensures)
           (to .ensures) (n .ensures) (k .ensures .0) (natAbs (a .each .0)) (l .entries) (c .entry-of .result) (l .inv .1) (c .entry-of .ensures),
@@ -135,12 +140,8 @@ returns c =
 pub entries-of-spec : {M : Type 1} → statement M
 entries-of-spec =
     tie.close
-    (tie.spec Inv-loop μ-loop loop-holds (λ c. place-fits (c .loop-test .taken) (c .before .before .before .before .pre .0 .few) .1)
-    (λ c. place-fits (c .loop-test .taken) (c .before .before .before .before .pre .0 .few) .0) (λ c κs. tt) (λ c κs. tt) number-at-requires
-    (λ c. place-fits (c .before .before .before .before .before .before .loop-test .taken) (c .before .before .before .before .before .before .before .before .before .before .pre .0 .few) .3)
-    paid-periods-requires entry-of-requires
-    (λ c. place-fits (c .before .before .before .before .before .before .before .before .loop-test .taken) (c .before .before .before .before .before .before .before .before .before .before .before .before .pre .0 .few) .2)
-    (λ c. place-fits (c .before .before .before .before .before .before .before .before .loop-test .taken) (c .before .before .before .before .before .before .before .before .before .before .before .before .pre .0 .few) .0)
-    add-total
-    (λ c. place-fits (c .before .before .before .before .before .before .before .before .loop-test .taken) (c .before .before .before .before .before .before .before .before .before .before .before .before .pre .0 .few) .3)
-    (λ c. search needs) loop-again times-requires returns)
+    (tie.spec Inv-loop μ-loop loop-holds (λ c. here c .1) (λ c. here c .0) (λ c κs. tt) (λ c κs. tt) number-at-requires
+    (λ c. here (c .before .before .before .before .before .before) .3) paid-periods-requires entry-of-requires
+    (λ c. here (c .before .before .before .before .before .before .before .before) .2)
+    (λ c. here (c .before .before .before .before .before .before .before .before) .0) add-total
+    (λ c. here (c .before .before .before .before .before .before .before .before) .3) (λ c. search needs) loop-again times-requires returns)
