@@ -1,4 +1,4 @@
--- Inner, and for hosts: a book settled into numbers, its answer as a number, and line and sum memory after it, by one equation over the rules, refusals included.
+-- Inner, and for hosts: a book settled into numbers: the number of its answer, and line and sum memory after it, by one equation over the rules.
 use mathlib.Core.Bool.{cond}
 use mathlib.Core.List.{List, _++_}
 use Prim.Native.Nat.{ℕ}
