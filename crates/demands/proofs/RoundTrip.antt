@@ -46,7 +46,7 @@ use Rattle.demands.proofs.Files.{file-right, taken-along}
 
 -- the conditions under which a book is written: it is sound, lent memory has the cells for it, and the lent bytes hold its file
 record Writable (b : Book) (memory : Memory) (bytes : List ℕ) : Type 0 where
-  left : sound b ≡ true
+  sound : sound b ≡ true
   cells : cellsIn (ledgerIn b memory) ≤ roomIn memory
   file : bytesIn (writeBook b memory bytes) ≡ fileOf (ledgerIn b memory)
 
@@ -64,7 +64,7 @@ writable b memory bytes e = go (lowest met) refl e
     go none q h =
         let c : Clear met = clear met q in
         record {
-          left = of-T (sound b) (off-not (sound b) (c .0));
+          sound = of-T (sound b) (off-not (sound b) (c .0));
           cells = ltb-false (roomIn memory) (cellsIn g) (c .1 .0);
           file = ap (λ o. bytesIn (writtenBy o g bytes)) q ∙ take-append-seam (fileOf g) (drop (length (fileOf g)) bytes);
         }
@@ -137,4 +137,4 @@ unfolding RoundTrip·theorem
 round-trip b memory fresh bytes s n e =
     let w : Writable b memory bytes = writable b memory bytes e in
     subst⁻¹ (λ file. SameAgain b memory file (load file emptyBook fresh)) (w .file)
-    (again b memory fresh s (w .left) (omega (arith, n, w .cells, cells-sound b memory (w .left))) n)
+    (again b memory fresh s (w .sound) (omega (arith, n, w .cells, cells-sound b memory (w .sound))) n)

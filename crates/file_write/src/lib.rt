@@ -23,8 +23,8 @@ pub fn write_book(b: Book, meter: &[i32], out: &mut [u8]) -> Written
     ensures { λ r. ⌜ (r ≡ writeBook b (lent (now (meter .entry))) (now (out .entry)) .written)
         × (now (out .exit) ≡ writeBook b (lent (now (meter .entry))) (now (out .entry)) .memory) ⌝ }
 {
-    let left = b.sound();
-    if !left {
+    let sound = b.sound();
+    if !sound {
         return refused(11);
     }
     if meter.len() < b.cells() {

@@ -15,14 +15,14 @@ use Rattle.file_write.proofs.write_book.Statement.{statement}
 use Rattle.file_write.proofs.write_book.Tie as tie
 
 -- past 11, past 15 and past 26
-left : (c : tie.Else1) → sound (c .before .before .before .args .b) ≡ true
-left c = sym (c .before .sound .ensures) ∙ not-false _ (c .if1 .left)
+is-sound : (c : tie.Else1) → sound (c .before .before .before .args .b) ≡ true
+is-sound c = sym (c .before .sound .ensures) ∙ not-false _ (c .if1 .left)
 
 within : (c : tie.Else2) → let a = c .before .before .before .before .before .args in bookCells (a .b) ≤ roomIn (lent (a .meter .now))
 within c = rw (c .before .cells .ensures) at (c .if2 .left)
 
 keeps : (c : tie.Else2) → let a = c .before .before .before .before .before .args in Kept (a .b) (roomIn (lent (a .meter .now)))
-keeps c = kept _ (lent (c .before .before .before .before .before .args .meter .now)) (left (c .before .before)) (within c)
+keeps c = kept _ (lent (c .before .before .before .before .before .args .meter .now)) (is-sound (c .before .before)) (within c)
 
 long : (c : tie.Else3)
     → let a = c .before .before .before .before .before .before .before .args in
@@ -32,19 +32,19 @@ long c = rw (c .before .file-length .ensures) at (c .if3 .left)
 returns-2 : tie.Need-returns-2
 returns-2 c =
     let p = c .before .before in
-    rw (c .refused2 .ensures) (refused-15 _ _ _ (left (p .before)) (rw (p .cells .ensures) at (c .before .if2 .taken)))
+    rw (c .refused2 .ensures) (refused-15 _ _ _ (is-sound (p .before)) (rw (p .cells .ensures) at (c .before .if2 .taken)))
 
 returns-3 : tie.Need-returns-3
 returns-3 c =
     let f = c .before .before in
     rw (c .refused3 .ensures)
-    (refused-26 _ _ _ (left (f .before .before .before)) (within (f .before)) (rw (f .file-length .ensures) at (c .before .if3 .taken)))
+    (refused-26 _ _ _ (is-sound (f .before .before .before)) (within (f .before)) (rw (f .file-length .ensures) at (c .before .if3 .taken)))
 
 returns-4 : tie.Need-returns-4
 returns-4 c =
     let l = c .before .before .before .before in
     let w = l .before .before in
-    written-whole _ _ _ (left (w .before .before)) (within w) (long l) (c .before .before .put-book .ensures)
+    written-whole _ _ _ (is-sound (w .before .before)) (within w) (long l) (c .before .before .put-book .ensures)
 
 pub write-book-spec : {M : Type 1} → statement M
 write-book-spec =
