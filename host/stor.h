@@ -10,7 +10,7 @@
  * - Memory that a call may write does not overlap any other memory lent to that call.
  * - Nothing else writes lent memory, and nothing reads what a call may write, until the call returns. Calls on different memory may run at once.
  * - All memory stays the caller's. A call holds it only until it returns.
- * - Input elements hold values: meter, line, sum and file memory have been written once, if only with zeros.
+ * - Input elements hold values: meter, revision, line, sum and file memory have been written once, if only with zeros.
  * - A call has STOR_STACK bytes of stack left.
  */
 #ifndef STOR_H
@@ -36,8 +36,15 @@ extern "C" {
 #define STOR_MINUTES_MOST 44640
 #define STOR_NO_READING INT32_MIN
 
-/* The longest unit file of which every command is taken, in bytes: contract, full tables, a reading in each minute, close. */
-#define STOR_FILE_MOST 314241
+/* Revision memory: beside each cell of meter memory the number of the revision that put its reading there, 0 of a plain reading. Of a minute
+ * without a reading the byte means nothing. It goes with meter memory in every call and has a length of its own: where either is shorter than the
+ * contract's days, that is 15. A contract taken clears the bytes of its span; a plain reading or a revision taken sets its minute's; no other byte
+ * is ever written. */
+
+/* The longest unit file of which every command is taken, in bytes: contract, full tables, in each minute a plain reading and 255 revisions, close. */
+#define STOR_FILE_MOST 91379841
+/* The longest unit file that a call writes, in bytes: of each minute one reading with its revision. Memory for a written file needs no more. */
+#define STOR_WRITTEN_MOST 358881
 
 /* Line memory: a statement's lines one after the other, each as eight numbers. A statement has at most STOR_LINES_MOST lines. */
 #define STOR_LINES_MOST 1680
@@ -67,15 +74,15 @@ enum {
 #define STOR_SUM_PERIODS(w) (6 + 2 * (w))
 #define STOR_SUM_PENCE(w) (7 + 2 * (w))
 
-/* Reads and enters a whole unit file, from the empty book. Meter memory after it holds what the commands taken left; a contract longer than meter
- * memory is refused (15). */
-uint64_t stor_enter_file(const uint8_t *file, size_t file_length, int32_t *meter, size_t meter_length);
+/* Reads and enters a whole unit file, from the empty book. Meter and revision memory after it hold what the commands taken left; a contract longer
+ * than either is refused (15). */
+uint64_t stor_enter_file(const uint8_t *file, size_t file_length, int32_t *meter, size_t meter_length, uint8_t *revisions, size_t revisions_length);
 
 /* The same, and settles the book. Taken, line memory holds the statement's lines and sum memory its sums, and what stands after them is as it was.
- * On a refusal both are exactly as they were, and meter memory holds what the commands taken before it left. Line memory shorter than the statement
- * and sum memory of fewer than STOR_SUM_NUMBERS are refused last (26), after everything that is wrong with the file or its book. */
-uint64_t stor_settle_file(const uint8_t *file, size_t file_length, int32_t *meter, size_t meter_length, int64_t *lines, size_t lines_length,
-                          int64_t *sums, size_t sums_length);
+ * On a refusal both are exactly as they were, and meter and revision memory hold what the commands taken before it left. Line memory shorter than
+ * the statement and sum memory of fewer than STOR_SUM_NUMBERS are refused last (26), after everything that is wrong with the file or its book. */
+uint64_t stor_settle_file(const uint8_t *file, size_t file_length, int32_t *meter, size_t meter_length, uint8_t *revisions, size_t revisions_length,
+                          int64_t *lines, size_t lines_length, int64_t *sums, size_t sums_length);
 
 /* How many numbers a row of each table has. */
 enum {
@@ -85,8 +92,8 @@ enum {
     STOR_DEFAULT_NUMBERS = 3
 };
 
-/* Settles the closed book that tables say, over readings in meter memory. The answer is the refusal's number, or 0. Every table is rows of numbers of
- * 32 bits, one row after the other:
+/* Settles the closed book that tables say, over readings in meter memory; of revision memory it asks the length alone. The answer is the refusal's
+ * number, or 0. Every table is rows of numbers of 32 bits, one row after the other:
  *   contract      one row: days, kind, service, contracted kW, ramp up, ramp down, response, recovery, availability, utilisation, optional rate
  *   windows       start, end, verdict for each
  *   instructions  issue, cease for each
@@ -95,20 +102,24 @@ enum {
  * of commands leaves. Line and sum memory too short are refused last (26). */
 uint8_t stor_settle_tables(const uint32_t *contract, size_t contract_length, const uint32_t *windows, size_t windows_length,
                            const uint32_t *instructions, size_t instructions_length, const uint32_t *defaults, size_t defaults_length,
-                           const int32_t *meter, size_t meter_length, int64_t *lines, size_t lines_length, int64_t *sums, size_t sums_length);
+                           const int32_t *meter, size_t meter_length, const uint8_t *revisions, size_t revisions_length, int64_t *lines,
+                           size_t lines_length, int64_t *sums, size_t sums_length);
 
-/* Writes the same book, with the readings in meter memory, as a unit file into the first bytes of file memory; those after it are as they were. The
- * answer's offset is the file's length. On a refusal it is 0, and file memory is exactly as it was: tables as above that say no book (11), meter
- * memory shorter than the contract's days (15), file memory shorter than the file (26; STOR_FILE_MOST bytes are room for every month). */
+/* Writes the same book, with the readings in meter memory and their revisions, as a unit file into the first bytes of file memory; those after it are
+ * as they were. The answer's offset is the file's length. On a refusal it is 0, and file memory is exactly as it was: tables as above that say no book
+ * (11), meter or revision memory shorter than the contract's days (15), file memory shorter than the file (26; STOR_WRITTEN_MOST bytes are room for
+ * every month). */
 uint64_t stor_write_tables(const uint32_t *contract, size_t contract_length, const uint32_t *windows, size_t windows_length,
                            const uint32_t *instructions, size_t instructions_length, const uint32_t *defaults, size_t defaults_length,
-                           const int32_t *meter, size_t meter_length, uint8_t *file, size_t file_length);
+                           const int32_t *meter, size_t meter_length, const uint8_t *revisions, size_t revisions_length, uint8_t *file,
+                           size_t file_length);
 
 /* Reads and enters a whole unit file, from the empty book, and writes its book, open, empty or closed, as a unit file into the first bytes of other
  * memory; those after it are as they were. The answer's offset is the length of what was written. On a refusal all of that memory is exactly as it
- * was, and the offset is that of the refused command, or 0 where the memory is shorter than the file to be written (26; STOR_FILE_MOST bytes are room
- * for every month). Meter memory holds what the commands taken left. */
-uint64_t stor_write_file(const uint8_t *file, size_t file_length, int32_t *meter, size_t meter_length, uint8_t *written, size_t written_length);
+ * was, and the offset is that of the refused command, or 0 where the memory is shorter than the file to be written (26; STOR_WRITTEN_MOST bytes are
+ * room for every month). Meter and revision memory hold what the commands taken left. */
+uint64_t stor_write_file(const uint8_t *file, size_t file_length, int32_t *meter, size_t meter_length, uint8_t *revisions, size_t revisions_length,
+                         uint8_t *written, size_t written_length);
 
 #ifdef __cplusplus
 }

@@ -14,6 +14,7 @@ static unsigned char stack[SIZE] __attribute__((aligned(4096)));
 static uint8_t file[1 << 20], written[1 << 20];
 static size_t length;
 static int32_t meter[STOR_MINUTES_MOST];
+static uint8_t revisions[STOR_MINUTES_MOST];
 static int64_t lines[LINES_LENGTH];
 static int64_t sums[STOR_SUM_NUMBERS];
 static uint64_t answer;
@@ -22,13 +23,13 @@ static void *nothing(void *p) { return p; }
 
 static void *enters(void *p)
 {
-    answer = stor_enter_file(file, length, meter, STOR_MINUTES_MOST);
+    answer = stor_enter_file(file, length, meter, STOR_MINUTES_MOST, revisions, STOR_MINUTES_MOST);
     return p;
 }
 
 static void *settles(void *p)
 {
-    answer = stor_settle_file(file, length, meter, STOR_MINUTES_MOST, lines, LINES_LENGTH, sums, STOR_SUM_NUMBERS);
+    answer = stor_settle_file(file, length, meter, STOR_MINUTES_MOST, revisions, STOR_MINUTES_MOST, lines, LINES_LENGTH, sums, STOR_SUM_NUMBERS);
     return p;
 }
 
@@ -40,20 +41,21 @@ static const uint32_t defaults[STOR_DEFAULT_NUMBERS] = {5, 1, 1};
 static void *settles_tables(void *p)
 {
     answer = stor_settle_tables(contract, STOR_CONTRACT_NUMBERS, windows, STOR_WINDOW_NUMBERS, instructions, STOR_INSTRUCTION_NUMBERS, defaults,
-                                STOR_DEFAULT_NUMBERS, meter, STOR_MINUTES_MOST, lines, LINES_LENGTH, sums, STOR_SUM_NUMBERS);
+                                STOR_DEFAULT_NUMBERS, meter, STOR_MINUTES_MOST, revisions, STOR_MINUTES_MOST, lines, LINES_LENGTH, sums,
+                                STOR_SUM_NUMBERS);
     return p;
 }
 
 static void *writes_tables(void *p)
 {
     answer = stor_write_tables(contract, STOR_CONTRACT_NUMBERS, windows, STOR_WINDOW_NUMBERS, instructions, STOR_INSTRUCTION_NUMBERS, defaults,
-                               STOR_DEFAULT_NUMBERS, meter, STOR_MINUTES_MOST, file, sizeof file);
+                               STOR_DEFAULT_NUMBERS, meter, STOR_MINUTES_MOST, revisions, STOR_MINUTES_MOST, file, sizeof file);
     return p;
 }
 
 static void *writes(void *p)
 {
-    answer = stor_write_file(file, length, meter, STOR_MINUTES_MOST, written, sizeof written);
+    answer = stor_write_file(file, length, meter, STOR_MINUTES_MOST, revisions, STOR_MINUTES_MOST, written, sizeof written);
     return p;
 }
 

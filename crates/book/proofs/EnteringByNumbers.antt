@@ -7,7 +7,7 @@ use mathlib.Core.Option.{none, some}
 use Prim.Native.Nat.{ℕ, zero, suc, _-_, _<_}
 use native.Mathlib.Omega.{arith}
 use lib.Dec.{ltb}
-use lib.ListN.{length, take, getD, replicate, length-replicate}
+use lib.ListN.{length, take, getD}
 use borrow.Author.Tests.{ne-eqb}
 use Rattle.commands.specs.Command.{onContract, always}
 use Rattle.commands.specs.Input.{inputRefusal}
@@ -19,8 +19,9 @@ use Rattle.commands.specs.declared.entries.Command.the-variants.{Window as wind
 use Rattle.commands.proofs.Input.{numbered, numbered-some}
 use Rattle.rules.specs.Ledger.{isContract, spanOf, noWindow, noInstruction}
 use Rattle.rules.proofs.Taken.{Allowed, allowed}
-use Rattle.book_memory.specs.Meter.{putMeter, missing, Memory, roomIn, lent}
+use Rattle.book_memory.specs.Meter.{putMeter, Memory, roomIn}
 use Rattle.book_refusal.specs.Refusals.{anyRefusal, windowsEnd, windowRefusal, readyAfter, instructionRefusal, defaultRefusal}
+use Rattle.book_memory.proofs.Lengths.{unmarked, unmarked-room}
 use Rattle.book_sound.proofs.Tables.{has-room}
 use Rattle.book.specs.Book.{bookSpan, bookCells, ledgerIn, putBook}
 use Rattle.book.specs.Enter.{Enters, EntersAt, enterBook, takenAs, refusedAs}
@@ -115,8 +116,8 @@ module _ {b : Book} {room n : ℕ} where
         refuses = λ h meter q. own-refuses p meter q (e meter) h;
         takes = λ z meter q. let t = own-takes p meter q (sym (e meter) ∙ z) in record { entry = t .entry; meter = sym (same meter) ∙ t .meter };
         place = λ z.
-            let some : Memory = lent (replicate room missing) in
-            room-for some (own-allowed p some (length-replicate room missing) (sym (e some) ∙ z));
+            let some : Memory = unmarked room in
+            room-for some (own-allowed p some (unmarked-room room) (sym (e some) ∙ z));
       }
 
   pub window-own : {w : Window} {span last : ℕ} → Past b room (windowᶜ w) → length (b .windows) ≡ 128 → span ≡ bookSpan b → last ≡ b .nwindows - 1

@@ -1,4 +1,4 @@
--- The book follows the commands taken: what it and meter memory hold is the ledger of those commands. Once for every command: one that is taken keeps the
+-- The book follows the commands taken: what it and lent memory hold is the ledger of those commands. Once for every command: one that is taken keeps the
 -- book sound and adds exactly its entry; one that is refused changes nothing.
 use mathlib.Core.Path.{_≡_, refl, sym, ap, _∙_, subst⁻¹}
 use mathlib.Core.Bool.{Bool, true, false, cond, not}
@@ -8,7 +8,6 @@ use Prim.Native.Nat.{ℕ, _≤_}
 use native.Mathlib.Omega.{arith}
 use borrow.Author.Tests.{ltb-false}
 use lib.Dec.{leb·suc-zero}
-use lib.ListN.{length-set, length-append, length-drop, length-replicate}
 use Rattle.energy.specs.Lists.{all, any, pass, concatMap}
 use Rattle.commands.specs.Command.{always}
 use Rattle.commands.proofs.ByKind.{contract-or-not}
@@ -18,11 +17,13 @@ use Rattle.rules.specs.Reached.{Reached, untouched, agreed}
 use Rattle.commands.specs.declared.contract.Contract.{Contract}
 use Rattle.commands.specs.declared.entries.Command.{Command}
 use Rattle.commands.specs.declared.entries.Command.the-variants.{Contract as contractᶜ, Window as windowᶜ, Instruction as instructionᶜ}
-use Rattle.commands.specs.declared.entries.Command.the-variants.{Default as defaultᶜ, Reading as readingᶜ, Close as closeᶜ}
+use Rattle.commands.specs.declared.entries.Command.the-variants.{Default as defaultᶜ, Reading as readingᶜ, Revision as revisionᶜ}
+use Rattle.commands.specs.declared.entries.Command.the-variants.{Close as closeᶜ}
 use Rattle.rules.proofs.Reached.{step, start}
 use Rattle.rules.proofs.Taken.{grown, ledgerOf-snoc, Allowed, allowed}
 use Rattle.rules.proofs.FileLength.{cells-fit}
-use Rattle.book_memory.specs.Meter.{putMeter, cellReading, Memory, roomIn, kwAt}
+use Rattle.book_memory.specs.Meter.{putMeter, meteredAt, Memory, roomIn}
+use Rattle.book_memory.proofs.Lengths.{marked-room, written-room}
 use Rattle.book.specs.Book.{emptyBook, bookSpan, bookCells, ledgerIn, putBook}
 use Rattle.book_sound.specs.Unused.{noContractTests}
 use Rattle.book.specs.Sound.{sound, Shaped, tableTests, emptyTests}
@@ -45,20 +46,25 @@ reached-sound b meter s t (agreed a) = is-sound b (record { tables = t; contents
 
 -- ---- the book and the commands taken
 
-pub record Follows (size : ℕ) (t : List Command) (b : Book) (meter : Memory) : Type 0 where
-  pub ledger : ledgerIn b meter ≡ ledgerOf t
-  pub reached : Reached size (ledgerOf t)
+-- a sound book and lent memory, whose ledger is one that commands can leave
+pub record Stands (size : ℕ) (b : Book) (meter : Memory) : Type 0 where
+  pub reached : Reached size (ledgerIn b meter)
   pub sound : sound b ≡ true
   pub shaped : Shaped b
   pub memory : roomIn meter ≡ size
 
-module _ {size : ℕ} {t : List Command} {b : Book} {meter : Memory} (f : Follows size t b meter) where
+-- the ledger is that of the commands t
+pub record Follows (size : ℕ) (t : List Command) (b : Book) (meter : Memory) : Type 0 where
+  pub ledger : ledgerIn b meter ≡ ledgerOf t
+  pub stands : Stands size b meter
+
+module _ {size : ℕ} {b : Book} {meter : Memory} (f : Stands size b meter) where
   abbrev g : Ledger
   g = ledgerIn b meter
 
-  -- meter memory has the cells for the span
+  -- lent memory has room for the span
   fits : b .agreed ≡ true → bookCells b ≤ roomIn meter
-  fits s = rw (← cells-is b meter s, f .memory) (cells-fit (rw (f .ledger) (f .reached)))
+  fits s = rw (← cells-is b meter s, f .memory) (cells-fit (f .reached))
 
   agreed-after : (c : Command) → Allowed size g c → putBook b c .agreed ≡ true
   agreed-after =
@@ -66,19 +72,22 @@ module _ {size : ℕ} {t : List Command} {b : Book} {meter : Memory} (f : Follow
       (λ c o a. o _ (λ k. true) (always (b .agreed)) ∙ agreed-before b meter c a ∙ ap not (o _ (λ k. true) (always false)))
 
   memory-after : (c : Command) → Allowed size g c → roomIn (putMeter meter c) ≡ roomIn meter
-  memory-after (contractᶜ k) a =
-      let span : spanOf k ≤ roomIn meter = omega (arith, ltb-false size (spanOf k) (a .book .memory), f .memory) in
-      simp (length-append, length-replicate, length-drop) (omega arith)
+  memory-after (contractᶜ k) a = marked-room meter (spanOf k) (omega (arith, ltb-false size (spanOf k) (a .book .memory), f .memory))
   memory-after (windowᶜ w) a = refl
   memory-after (instructionᶜ i) a = refl
   memory-after (defaultᶜ d) a = refl
-  memory-after (readingᶜ r) a = length-set (meter .cells) (r .minute .0) (r .kw .0)
+  memory-after (readingᶜ r) a = written-room meter (r .minute .0) (r .kw .0) 0
+  memory-after (revisionᶜ v) a = written-room meter (v .reading .minute .0) (v .reading .kw .0) (v .number)
   memory-after closeᶜ a = refl
 
-  -- the book keeps following
-  pub put-follows : (c : Command) → refusal false size (ledgerOf t) c ≡ none → Follows size (t ++ (c ∷ [])) (putBook b c) (putMeter meter c)
-  put-follows c e =
-      let a : Allowed size g c = rw (f .ledger) (allowed size (ledgerOf t) c e) in
+  -- what a taken command leaves: its entry in the ledger
+  pub put-grows : (c : Command) → refusal false size g c ≡ none → ledgerIn (putBook b c) (putMeter meter c) ≡ grown g c
+  put-grows c e = holds size b meter (f .sound) (f .shaped) fits c (allowed size g c e)
+
+  -- and a sound book
+  pub put-stands : (c : Command) → refusal false size g c ≡ none → Stands size (putBook b c) (putMeter meter c)
+  put-stands c e =
+      let a : Allowed size g c = allowed size g c e in
       let w = windows-grow size b meter (f .sound) (f .shaped) fits c a .table in
       let i = instructions-grow size b meter (f .sound) (f .shaped) fits c a .table in
       let d = defaults-grow size b meter (f .sound) (f .shaped) fits c a .table in
@@ -91,23 +100,30 @@ module _ {size : ℕ} {t : List Command} {b : Book} {meter : Memory} (f : Follow
         noInstructions = i .rest;
         noDefaults = d .rest;
       } in
-      let l : ledgerIn (putBook b c) (putMeter meter c) ≡ ledgerOf (t ++ (c ∷ [])) =
-      holds size b meter (f .sound) (f .shaped) fits c a ∙ ap (λ l. grown l c) (f .ledger) ∙ sym (ledgerOf-snoc t c) in
-      let r : Reached size (ledgerOf (t ++ (c ∷ []))) = rw (ledgerOf-snoc t c) (step size (ledgerOf t) c (f .reached) e) in
+      let r : Reached size (ledgerIn (putBook b c) (putMeter meter c)) = subst⁻¹ (Reached size) (put-grows c e) (step size g c (f .reached) e) in
       record {
-        ledger = l;
         reached = r;
-        sound = reached-sound (putBook b c) (putMeter meter c) (agreed-after c a) tables (subst⁻¹ (Reached size) l r);
+        sound = reached-sound (putBook b c) (putMeter meter c) (agreed-after c a) tables r;
         shaped = record { windows = w .size; instructions = i .size; defaults = d .size };
         memory = memory-after c a ∙ f .memory;
       }
+
+-- the book keeps following
+pub put-follows : {size : ℕ} {t : List Command} {b : Book} {meter : Memory} → Follows size t b meter → (c : Command)
+    → refusal false size (ledgerOf t) c ≡ none → Follows size (t ++ (c ∷ [])) (putBook b c) (putMeter meter c)
+put-follows {size} {t} {b} {meter} f c e =
+    let taken : refusal false size (ledgerIn b meter) c ≡ none = rw (f .ledger) e in
+    record {
+      ledger = put-grows (f .stands) c taken ∙ ap (λ l. grown l c) (f .ledger) ∙ sym (ledgerOf-snoc t c);
+      stands = put-stands (f .stands) c taken;
+    }
 
 -- ---- entering
 
 -- for a book that follows the commands taken, the book's refusal is theirs
 same-refusal : {size : ℕ} {t : List Command} {b : Book} {meter : Memory} (c : Command) → Follows size t b meter
     → refusal (not (sound b)) (roomIn meter) (ledgerIn b meter) c ≡ refusal false size (ledgerOf t) c
-same-refusal c f = rw (f .sound, f .memory, f .ledger)
+same-refusal c f = rw (f .stands .sound, f .stands .memory, f .ledger)
 
 -- entering keeps book and commands together, taken or refused
 pub follow : {size : ℕ} {t : List Command} {b : Book} {meter : Memory} (c : Command) → Follows size t b meter
@@ -135,21 +151,28 @@ answers {size} {t} {b} {meter} c f = ap (λ o. enteredBy o b meter c .entry .ans
 
 -- ---- the empty book
 
+nothing-held : (meter : Memory) → ledgerIn emptyBook meter ≡ ledgerOf []
+unfolding ledgerIn bookSpan ledgerOf emptyBook any concatMap readingOf
+nothing-held meter i =
+    record {
+      contracts = [];
+      windows = [];
+      instructions = [];
+      defaults = [];
+      closed = false;
+      reading = λ m. ap (λ (x : Bool). cond x (meteredAt meter m) none) (leb·suc-zero m) i;
+    }
+
 pub starts : (meter : Memory) → Follows (roomIn meter) [] emptyBook meter
-unfolding ledgerIn bookSpan ledgerOf emptyBook sound pass emptyTests tableTests noContractTests all any concatMap readingOf
+unfolding bookSpan emptyBook sound pass emptyTests tableTests noContractTests all
 starts meter =
     record {
-      ledger = λ i.
+      ledger = nothing-held meter;
+      stands =
           record {
-            contracts = [];
-            windows = [];
-            instructions = [];
-            defaults = [];
-            closed = false;
-            reading = λ m. ap (λ (x : Bool). cond x (cellReading (kwAt meter m)) none) (leb·suc-zero m) i;
+            reached = rw (nothing-held meter) (start (roomIn meter));
+            sound = refl;
+            shaped = record { windows = refl; instructions = refl; defaults = refl };
+            memory = refl;
           };
-      reached = start (roomIn meter);
-      sound = refl;
-      shaped = record { windows = refl; instructions = refl; defaults = refl };
-      memory = refl;
     }

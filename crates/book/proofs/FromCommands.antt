@@ -2,18 +2,17 @@
 use mathlib.Core.Path.{_≡_, refl, sym, ap, _∙_, subst, subst⁻¹}
 use mathlib.Core.Bool.{true, false, cond}
 use mathlib.Core.List.{List, [], _∷_, _++_}
-use mathlib.Core.Option.{some, Option·none-ne-some}
+use mathlib.Core.Option.{some, Option·none-ne-some, Option·some-injective}
 use Prim.Native.Nat.{ℕ, _≤_, _<_}
 use native.Mathlib.Nat.{le-refl}
 use native.Mathlib.Omega.{arith}
-use lib.IntN.{ℤ}
 use lib.Dec.{T, ltb}
 use borrow.Author.Tests.{ltb-true}
-use lib.ListN.{length, take, replicate, length-replicate, length-take}
+use lib.ListN.{length, take, length-take}
 use Rattle.energy.proofs.Tests.{to-T, of-T}
 use Rattle.commands.specs.Input.{isReading}
 use Rattle.commands.proofs.Chain.{true-or-false}
-use Rattle.rules.specs.Ledger.{Ledger, ledgerOf}
+use Rattle.rules.specs.Ledger.{Ledger, Metered, ledgerOf}
 use Rattle.rules.specs.Refusal.{taken}
 use Rattle.rules.specs.Reached.{Reached, untouched, agreed, Untouched, Agreed}
 use Rattle.rules.specs.File.{written}
@@ -21,7 +20,8 @@ use Rattle.rules.specs.Rewritten.{Rewritten}
 use Rattle.commands.specs.declared.entries.Command.{Command}
 use Rattle.rules.proofs.Rewritten.{rewritten}
 use Rattle.rules.proofs.Taken.{taken-ind}
-use Rattle.book_memory.specs.Meter.{putMeter, cellReading, missing, Memory, kwAt, lent}
+use Rattle.book_memory.specs.Meter.{putMeter, meteredAt, Memory, kwAt, revisionAt, lent}
+use Rattle.book_memory.proofs.Lengths.{unmarked, unmarked-room}
 use Rattle.book.specs.Book.{emptyBook, bookSpan, bookCells, ledgerIn, putBook, putAll}
 use Rattle.book.specs.Sound.{sound, Shaped, FromCommands, Sound·theorem}
 use Rattle.book.specs.declared.Book.{Book}
@@ -38,7 +38,7 @@ unfolding putAll
 putAll-snoc b [] c = refl
 putAll-snoc b (x ∷ t) c = putAll-snoc (putBook b x) t c
 
--- commands taken, put into the empty book, with some meter memory that follows them
+-- commands taken, put into the empty book, with some lent memory that follows them
 pub record Leads (size : ℕ) (t : List Command) : Type 0 where
   pub meter : Memory
   pub follows : Follows size t (putAll emptyBook t) meter
@@ -53,12 +53,12 @@ leads size cs =
     })
     [] cs
     (record {
-      meter = lent (replicate size missing);
-      follows = subst (λ n. Follows n [] emptyBook (lent (replicate size missing))) (length-replicate size missing) (starts (lent (replicate size missing)));
+      meter = unmarked size;
+      follows = subst (λ n. Follows n [] emptyBook (unmarked size)) (unmarked-room size) (starts (unmarked size));
     })
 
 from-sound : (b : Book) → FromCommands b → T (sound b)
-from-sound b l = subst⁻¹ (λ x. T (sound x)) (l .leaves) (to-T (leads (l .size) (l .commands) .follows .sound))
+from-sound b l = subst⁻¹ (λ x. T (sound x)) (l .leaves) (to-T (leads (l .size) (l .commands) .follows .stands .sound))
 
 -- ---- the ledger of a sound book is reached
 
@@ -66,17 +66,25 @@ short : {A : Type 0} (n : ℕ) (l : List A) {most : ℕ} → n ≤ most → leng
 short n l {most} h = subst⁻¹ (λ x. x ≤ most) (length-take n l) (omega arith)
 
 -- a reading is in the span and in range
-given : (b : Book) (meter : Memory) (m : ℕ) (kw : ℤ) → ledgerIn b meter .reading m ≡ some kw → (m < bookSpan b) × T (isReading kw)
+pub record Given (b : Book) (meter : Memory) (m : ℕ) (x : Metered) : Type 0 where
+  pub inside : m < bookSpan b
+  pub range : T (isReading (x .kw))
+  pub byte : x .revision ≡ revisionAt meter m
+
+pub given : (b : Book) (meter : Memory) (m : ℕ) (x : Metered) → ledgerIn b meter .reading m ≡ some x → Given b meter m x
 unfolding ledgerIn
-given b meter m kw e =
+given b meter m x e =
     let z = kwAt meter m in
+    let held : Metered = record { kw = z; revision = revisionAt meter m } in
     true-or-false (ltb m (bookSpan b))
     (λ l.
-    let h : cellReading z ≡ some kw = rw l at e in
+    let h : meteredAt meter m ≡ some x = rw l at e in
     true-or-false (isReading z)
-    (λ i. let q : some z ≡ some kw = rw i at h in let same : z ≡ kw = cc in (ltb-true m (bookSpan b) l, rw same at (to-T i)))
-    (λ i. absurd (Option·none-ne-some kw (rw i at h))))
-    (λ l. absurd (Option·none-ne-some kw (rw l at e)))
+    (λ i.
+    let same : held ≡ x = Option·some-injective held x (rw i at h) in
+    record { inside = ltb-true m (bookSpan b) l; range = subst (λ y. T (isReading (y .kw))) same (to-T i); byte = ap (λ y. y .revision) (sym same) })
+    (λ i. absurd (Option·none-ne-some x (rw i at h))))
+    (λ l. absurd (Option·none-ne-some x (rw l at e)))
 
 with-contract : (b : Book) (meter : Memory) (size : ℕ) → sound b ≡ true → b .agreed ≡ true → bookCells b ≤ size → Agreed size (ledgerIn b meter)
 unfolding ledgerIn
@@ -89,7 +97,7 @@ with-contract b meter size e s h =
       instructions = short (b .ninstructions) (b .instructions) (t .instructions);
       defaults = short (b .ndefaults) (b .defaults) (t .defaults);
       cells = rw (cells-is b meter s) h;
-      readings = λ m kw r. rw (span-is b meter s) (given b meter m kw r);
+      readings = λ m x r. let h = given b meter m x r in (rw (span-is b meter s) (h .inside), h .range);
     }
 
 without : (b : Book) (meter : Memory) → sound b ≡ true → b .agreed ≡ false → Untouched (ledgerIn b meter)
@@ -115,15 +123,16 @@ sound-from : (b : Book) → Shaped b → T (sound b) → FromCommands b
 sound-from b s t =
     let size : ℕ = bookCells b in
     let e : sound b ≡ true = of-T (sound b) t in
-    let g : Ledger = ledgerIn b (lent []) in
-    let w : Rewritten size g = rewritten size g (book-reached b (lent []) size e (le-refl size)) in
+    let none : Memory = lent [] [] in
+    let g : Ledger = ledgerIn b none in
+    let w : Rewritten size g = rewritten size g (book-reached b none size e (le-refl size)) (λ m x h. omega (arith, given b none m x h .byte)) in
     let l : Leads size (taken size (written g)) = leads size (written g) in
     let after : Book = putAll emptyBook (taken size (written g)) in
     let same : ledgerIn after (l .meter) ≡ g = l .follows .ledger ∙ ap ledgerOf (w .allTaken) ∙ w .same in
     record {
       size = size;
       commands = written g;
-      leaves = same-book b after (lent []) (l .meter) s (l .follows .shaped) e (l .follows .sound) (sym same);
+      leaves = same-book b after none (l .meter) s (l .follows .stands .shaped) e (l .follows .stands .sound) (sym same);
     }
 
 pub commands-leave : Sound·theorem

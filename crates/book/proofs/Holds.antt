@@ -1,8 +1,8 @@
--- What book and meter memory hold after a taken command is put into them, a law a field: the ledger grown by that command.
+-- What book and lent memory hold after a taken command is put into them, a law a field: the ledger grown by that command.
 use mathlib.Core.Path.{_≡_, refl, sym, _∙_}
 use mathlib.Core.Bool.{Bool, true, false, cond, not, _&&_, _||_, or-false, or-true, true≢false}
 use mathlib.Core.List.{List, [], _∷_, _++_, append-nil}
-use mathlib.Core.Option.{none}
+use mathlib.Core.Option.{none, some}
 use Prim.Native.Nat.{ℕ, suc, _+_, _≤_, _<_}
 use native.Mathlib.Omega.{arith}
 use native.Mathlib.Numerals.{add-one}
@@ -13,17 +13,19 @@ use lib.Seq.{drop-cons, drop-set-lt, take-suc-set, getD-set-same, getD-set-other
 use Rattle.energy.specs.Lists.{all, isEmpty, later}
 use Rattle.energy.proofs.Tests.{of-T, T-and}
 use Rattle.commands.specs.Command.{always}
-use Rattle.commands.specs.Input.{isReading}
+use Rattle.commands.specs.Input.{isReading, from-to, meterable}
 use Rattle.commands.specs.declared.contract.Contract.{Contract}
 use Rattle.commands.specs.declared.entries.Reading.{Reading}
 use Rattle.commands.specs.declared.entries.Command.{Command}
 use Rattle.commands.specs.declared.entries.Command.the-variants.{Contract as contractᶜ, Window as windowᶜ, Instruction as instructionᶜ}
-use Rattle.commands.specs.declared.entries.Command.the-variants.{Default as defaultᶜ, Reading as readingᶜ, Close as closeᶜ}
+use Rattle.commands.specs.declared.entries.Command.the-variants.{Default as defaultᶜ, Reading as readingᶜ, Revision as revisionᶜ}
+use Rattle.commands.specs.declared.entries.Command.the-variants.{Close as closeᶜ}
 use Rattle.commands.proofs.Chain.{true-or-false}
 use Rattle.commands.proofs.ByKind.{contract-or-not, window-or-not, instruction-or-not, default-or-not, close-or-not}
 use Rattle.rules.specs.Ledger.{Ledger, isContract, contractIn, windowIn, instructionIn, defaultIn, isClose, readingIn, spanOf}
 use Rattle.rules.proofs.Taken.{grown, Allowed}
-use Rattle.book_memory.specs.Meter.{putMeter, cellReading, missing, Memory, roomIn}
+use Rattle.book_memory.specs.Meter.{putMeter, missing, meteredAt, markedTo, writtenAt, Memory, roomIn}
+use Rattle.book_memory.proofs.Lengths.{room-holds}
 use Rattle.book_sound.specs.Unused.{isNoWindow, isNoInstruction, isNoDefault}
 use Rattle.book_sound.proofs.Tables.{has-room}
 use Rattle.book.specs.Book.{bookSpan, bookCells, ledgerIn, putBook}
@@ -81,7 +83,7 @@ module _ (b : Book) (meter : Memory) where
   none-below m e = rw (e, leb·suc-zero m)
 
   -- marked cells give no reading
-  marked : (n m : ℕ) → cond (ltb m n) (cellReading (getD (replicate n missing ++ drop n (meter .cells)) m missing)) none ≡ none
+  marked : (n m : ℕ) → cond (ltb m n) (meteredAt (markedTo n meter) m) none ≡ none
   marked n m =
       true-or-false (ltb m n)
       (λ e.
@@ -90,17 +92,22 @@ module _ (b : Book) (meter : Memory) where
       rw (e, List·getD-append (replicate n missing) (drop n (meter .cells)) missing m h′, getD-replicate n m missing missing h))
       (λ e. rw e)
 
-  -- a reading in a minute of the span gives that minute its kW, and leaves every other minute
-  reading-at : (r : Reading) → r .minute .0 < bookSpan b → bookSpan b ≤ roomIn meter → T (isReading (r .kw .0)) → (m : ℕ)
-      → ledgerIn b (putMeter meter (readingᶜ r)) .reading m ≡ later (ledgerIn b meter .reading m) (readingIn (readingᶜ r) m)
+  -- a reading in a minute of the span gives that minute its kW and its revision, and leaves every other minute
+  reading-at : (n : ℕ) (r : Reading) → r .minute .0 < bookSpan b → bookSpan b ≤ roomIn meter → T (isReading (r .kw .0)) → (m : ℕ)
+      → ledgerIn b (writtenAt (r .minute .0) (r .kw .0) n meter) .reading m
+      ≡ later (ledgerIn b meter .reading m) (cond (eqb (r .minute .0) m) (some (record { kw = r .kw .0; revision = n })) none)
   unfolding ledgerIn bookSpan later
-  reading-at r h k ok m =
+  reading-at n r h k ok m =
       true-or-false (eqb (r .minute .0) m)
       (λ e.
       let q : r .minute .0 ≡ m = eqb-true (r .minute .0) m e in
-      let cell = getD-set-same (meter .cells) (r .minute .0) (r .kw .0) missing (omega arith) in
-      rw (e, ← q, lt-ltb (r .minute .0) (bookSpan b) h, cell, of-T (isReading (r .kw .0)) ok))
-      (λ e. rw (e, getD-set-other (meter .cells) (r .minute .0) m (r .kw .0) missing (λ q. eqb-false (r .minute .0) m e (sym q))))
+      let held = room-holds meter (r .minute .0) (omega arith) in
+      let cell = getD-set-same (meter .cells) (r .minute .0) (r .kw .0) missing (held .0) in
+      let byte = getD-set-same (meter .revisions) (r .minute .0) n 0 (held .1) in
+      rw (e, ← q, lt-ltb (r .minute .0) (bookSpan b) h, cell, byte, of-T (isReading (r .kw .0)) ok))
+      (λ e.
+      let other : m ≡ r .minute .0 → ⊥ = λ q. eqb-false (r .minute .0) m e (sym q) in
+      rw (e, getD-set-other (meter .cells) (r .minute .0) m (r .kw .0) missing other, getD-set-other (meter .revisions) (r .minute .0) m n 0 other))
 
 -- ---- a taken command, put into a sound book that memory has the cells for
 
@@ -153,8 +160,12 @@ module _ (size : ℕ) (b : Book) (meter : Memory) (e : sound b ≡ true) (shaped
   readings-held (defaultᶜ d) a m = refl
   readings-held (readingᶜ r) a m =
       let s : b .agreed ≡ true = agreed-before b meter (readingᶜ r) a in
-      let f = reading-fits b meter r s a in
-      reading-at b meter r (f .0) (omega (arith, fits s, span-cells b)) (f .1) m
+      let f = reading-fits b meter r s (a .input .operands) (a .kind .inside) in
+      reading-at b meter 0 r (f .0) (omega (arith, fits s, span-cells b)) (f .1) m
+  readings-held (revisionᶜ v) a m =
+      let s : b .agreed ≡ true = agreed-before b meter (revisionᶜ v) a in
+      let f = reading-fits b meter (v .reading) s (T-and (from-to 1 255 (v .number)) (meterable (v .reading)) (a .input .operands) .1) (a .kind .inside) in
+      reading-at b meter (v .number) (v .reading) (f .0) (omega (arith, fits s, span-cells b)) (f .1) m
   readings-held closeᶜ a m = refl
 
   pub holds : (c : Command) → Allowed size g c → ledgerIn (putBook b c) (putMeter meter c) ≡ grown g c

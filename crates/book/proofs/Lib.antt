@@ -2,6 +2,7 @@ pub mod SoundTests
 pub mod Month
 pub mod Refusals
 pub mod EnteringByNumbers
+pub mod MeteredEntry
 pub mod Holds
 pub mod Follow
 pub mod SameBook

@@ -1,19 +1,17 @@
--- The span of a book, and the cells that meter memory must have for it: those of its ledger.
+-- The span of a book, and the minutes that lent memory must have room for: those of its ledger.
 use mathlib.Core.Path.{_≡_, sym, ap, _∙_}
 use mathlib.Core.Bool.{true, false, cond}
 use mathlib.Core.List.{[], _∷_}
 use Prim.Native.Nat.{ℕ, _≤_, _<_}
 use native.Mathlib.Omega.{arith}
-use lib.Dec.{T}
+use lib.Dec.{T, leb}
 use borrow.Author.Tests.{leb-false}
 use Rattle.book_memory.specs.Meter.{Memory}
 use Rattle.energy.proofs.Tests.{T-and}
-use Rattle.commands.specs.Input.{from-to, isReading, mostMinute}
+use Rattle.commands.specs.Input.{from-to, isReading, meterable, mostMinute}
 use Rattle.commands.specs.declared.entries.Reading.{Reading}
-use Rattle.commands.specs.declared.entries.Command.the-variants.{Reading as readingᶜ}
 use Rattle.rules.specs.Ledger.{spanOf, contractOf, spanIn, cellsIn}
 use Rattle.rules.proofs.Span.{cells-none, span-cells as span-below}
-use Rattle.rules.proofs.Taken.{Allowed}
 use Rattle.rules.specs.Reached.{agreedTests}
 use Rattle.commands.proofs.Chain.{true-or-false}
 use Rattle.commands.proofs.Terms.{ranges}
@@ -43,12 +41,12 @@ pub contents-are : (b : Book) (meter : Memory) → b .agreed ≡ true → let g 
 unfolding ledgerIn
 contents-are b meter s = rw (span-is b meter s, contract-is b meter s, s)
 
--- a reading that is allowed is in the span, and a number of its range
-pub reading-fits : (b : Book) (meter : Memory) (r : Reading) {size : ℕ} → b .agreed ≡ true → Allowed size (ledgerIn b meter) (readingᶜ r)
+-- a reading of either kind that is allowed is in the span, and a number of its range
+pub reading-fits : (b : Book) (meter : Memory) (r : Reading) → b .agreed ≡ true → T (meterable r) → leb (spanIn (ledgerIn b meter)) (r .minute .0) ≡ false
     → (r .minute .0 < bookSpan b) × T (isReading (r .kw .0))
-reading-fits b meter r s a = (
-  leb-false (bookSpan b) (r .minute .0) (rw (span-is b meter s) at (a .kind .inside)),
-  T-and (from-to 0 mostMinute (r .minute .0)) (isReading (r .kw .0)) (a .input .operands) .1,
+reading-fits b meter r s t e = (
+  leb-false (bookSpan b) (r .minute .0) (rw (span-is b meter s) at e),
+  T-and (from-to 0 mostMinute (r .minute .0)) (isReading (r .kw .0)) t .1,
 )
 
 -- ---- without one

@@ -1,28 +1,28 @@
 -- A reading that is taken by its book's open span: what is known of it, and that entering it does the same.
-use mathlib.Core.Path.{_≡_, refl, sym, _∙_}
+use mathlib.Core.Path.{_≡_, refl, sym, _∙_, subst}
 use mathlib.Core.Bool.{Bool, true, false, not, _&&_, false≢true}
 use Prim.Native.Nat.{ℕ, _≤_, _<_}
 use native.Mathlib.Omega.{arith}
 use lib.Dec.{eqb, leb, ltb}
 use borrow.Author.Tests.{not-true, leb-true, lt-ltb, le-ltb, lt-leb}
 use Rattle.book.specs.Book.{bookSpan, bookCells}
-use Rattle.commands.specs.Command.{always}
+use Rattle.commands.specs.Command.{revisedAs, always}
 use Rattle.commands.specs.Input.{inputRefusal}
 use Rattle.energy.proofs.Tests.{on-and}
 use Rattle.commands.proofs.Chain.{true-or-false}
-use Rattle.commands.proofs.ByKind.{reading-or-not}
+use Rattle.commands.proofs.ByKind.{metered-or-not}
 use Rattle.commands.specs.declared.entries.Reading.{Reading}
 use Rattle.commands.specs.declared.entries.Command.{Command}
-use Rattle.commands.specs.declared.entries.Command.the-variants.{Reading as readingᶜ}
-use Rattle.book_memory.specs.Meter.{putMeter, takesReading, Memory, roomIn}
+use Rattle.book_memory.specs.Meter.{putMeter, writtenAt, takesReading, Memory, roomIn}
 use Rattle.book.specs.Enter.{Enters, enterBook, takenAs}
 use Rattle.book_refusal.specs.Refusals.{anyRefusal, readingRefusal}
 use Rattle.book.specs.Readings.{openSpan}
 use Rattle.book.specs.Sound.{sound}
 use Rattle.book.specs.declared.Book.{Book}
-use Rattle.book.proofs.Refusals.{anyOf, reading-number}
-use Rattle.book.proofs.EnteringByNumbers.{past-any, own-takes}
-use Rattle.book_memory.proofs.TakenReading.{tests}
+use Rattle.book.proofs.Refusals.{anyOf}
+use Rattle.book.proofs.MeteredEntry.{any-revised, takes}
+use Rattle.book.proofs.EnteringByNumbers.{past-any}
+use Rattle.book_memory.proofs.TakenReading.{takes-revised, tests, revision-is, taken-input, put-revised}
 
 -- ---- the open span
 
@@ -50,23 +50,35 @@ none-met : (input : ℕ) (sound closed agreed short : Bool) → eqb input 0 ≡ 
 unfolding anyRefusal
 none-met input sound closed agreed short p q r s t = rw (p, q, r, s, t)
 
-module _ (b : Book) (meter : Memory) (s : sound b ≡ true) (r : Reading) (t : takesReading (openSpan b (roomIn meter)) meter (readingᶜ r) ≡ true) where
+module _ (b : Book) (meter : Memory) (s : sound b ≡ true) (n : ℕ) (r : Reading)
+    (t : takesReading (openSpan b (roomIn meter)) meter (revisedAs n r) ≡ true) where
   -- it is taken: no condition holds of it
-  takes : Enters b meter (readingᶜ r) (takenAs b) (putMeter meter (readingᶜ r))
+  taken : Enters b meter (revisedAs n r) (takenAs b) (writtenAt (r .minute .0) (r .kw .0) n meter)
   unfolding readingRefusal
-  takes =
-      let p = tests (openSpan b (roomIn meter)) meter r t in
+  taken =
+      let fits : Bool = eqb (inputRefusal (revisedAs n r)) 0 in
+      let p = tests (openSpan b (roomIn meter)) meter fits n r (sym (takes-revised (openSpan b (roomIn meter)) meter n r) ∙ t) in
       let o = opened b (roomIn meter) (r .minute .0) (p .inside) in
-      let any : anyOf b (roomIn meter) (readingᶜ r) ≡ 0 =
-      none-met (inputRefusal (readingᶜ r)) (sound b) (b .closed) (b .agreed) (ltb (roomIn meter) (bookCells b)) (p .input) s (o .unclosed) (o .agreed)
+      let any : anyOf b (roomIn meter) (revisedAs n r) ≡ 0 =
+      any-revised b (roomIn meter) n r
+      ∙ none-met (inputRefusal (revisedAs n r)) (sound b) (b .closed) (b .agreed) (ltb (roomIn meter) (bookCells b)) (p .input) s (o .unclosed) (o .agreed)
       (le-ltb (roomIn meter) (bookCells b) (o .fits)) in
       let below : r .minute .0 < bookSpan b = omega (arith, p .inside, o .whole) in
-      own-takes (past-any b (roomIn meter) (readingᶜ r) 0 (sym any) refl) meter refl
-      (reading-number b meter (o .agreed) r ∙ rw (lt-leb (bookSpan b) (r .minute .0) below, lt-ltb (r .minute .0) (bookSpan b) below, p .unread))
+      takes b meter n r (past-any b (roomIn meter) (revisedAs n r) 0 (sym any) refl) (readingRefusal (bookSpan b) meter n r) (bookSpan b) refl refl
+      (rw (lt-leb (bookSpan b) (r .minute .0) below, lt-ltb (r .minute .0) (bookSpan b) below, p .above))
+
+  enters : enterBook b meter (revisedAs n r) ≡ record { entry = takenAs b; meter = putMeter meter (revisedAs n r) }
+  enters i = record { entry = sym (taken .entry) i; meter = sym (put-revised meter n r ∙ taken .meter) i }
 
 -- a sound book takes it, and is as it was
+Entering : Book → Memory → Command → Type 0
+Entering b meter c =
+    sound b ≡ true → takesReading (openSpan b (roomIn meter)) meter c ≡ true → enterBook b meter c ≡ record { entry = takenAs b; meter = putMeter meter c }
+
 pub reading-enters : (b : Book) (meter : Memory) (c : Command) → sound b ≡ true → takesReading (openSpan b (roomIn meter)) meter c ≡ true
     → enterBook b meter c ≡ record { entry = takenAs b; meter = putMeter meter c }
+unfolding Entering
 reading-enters b meter =
-    reading-or-not _ (λ r s t. let e = takes b meter s r t in λ i. record { entry = sym (e .entry) i; meter = sym (e .meter) i })
-    (λ c o s t. absurd (false≢true (unfold takesReading in sym (o _ _ (always false)) ∙ t)))
+    metered-or-not (Entering b meter) (λ r s t. enters b meter s 0 r t)
+    (λ v s t. subst (Entering b meter) (revision-is v (taken-input (openSpan b (roomIn meter)) meter v t)) (λ s t. enters b meter s (v .number) (v .reading) t) s t)
+    (λ c o q s t. absurd (false≢true (unfold takesReading in sym (o _ _ _ ∙ q _ _ (always false)) ∙ t)))

@@ -4,16 +4,15 @@ use mathlib.Core.Path.{_≡_, refl, sym, ap, _∙_}
 use mathlib.Core.Bool.{Bool, true, false, not, _&&_, cond, false≢true}
 use mathlib.Core.List.{List, [], _∷_, _++_}
 use mathlib.Core.Option.{Option, none, some}
-use Prim.Native.Nat.{ℕ, zero, suc, _-_, _≤_}
+use Prim.Native.Nat.{ℕ, zero, suc, _-_, _≤_, zero-le}
 use native.Mathlib.Omega.{arith}
-use lib.IntN.{ℤ}
 use lib.Dec.{eqb, ltb}
 use lib.ListN.{length, take, getD}
 use lib.Seq.{length-take-le}
-use borrow.Author.Tests.{ne-eqb}
+use borrow.Author.Tests.{ne-eqb, le-leb}
 use Rattle.energy.specs.Lists.{last, isEmpty, isSome}
-use Rattle.commands.specs.Command.{onContract, always}
-use Rattle.commands.specs.Input.{isReading, Condition, inputConditions, inputRefusal}
+use Rattle.commands.specs.Command.{onContract, revisedAs, always}
+use Rattle.commands.specs.Input.{Condition, inputConditions, inputRefusal}
 use Rattle.commands.specs.declared.contract.Contract.{Contract}
 use Rattle.commands.specs.declared.entries.Window.{Window}
 use Rattle.commands.specs.declared.entries.Instruction.{Instruction}
@@ -21,13 +20,14 @@ use Rattle.commands.specs.declared.entries.Default.{Default}
 use Rattle.commands.specs.declared.entries.Reading.{Reading}
 use Rattle.commands.specs.declared.entries.Command.{Command}
 use Rattle.commands.specs.declared.entries.Command.the-variants.{Contract as contractᶜ, Window as windowᶜ, Instruction as instructionᶜ}
-use Rattle.commands.specs.declared.entries.Command.the-variants.{Default as defaultᶜ, Reading as readingᶜ, Close as closeᶜ}
-use Rattle.commands.proofs.Input.{numbers, numbered, lowest-number, lowest-numbered, numbers-append}
+use Rattle.commands.specs.declared.entries.Command.the-variants.{Default as defaultᶜ, Close as closeᶜ}
+use Rattle.commands.proofs.Input.{numbers, numbered, first-number, first-numbered, numbers-append}
 use Rattle.commands.proofs.ByKind.{contract-or-not}
-use Rattle.rules.specs.Ledger.{isContract, spanOf, noWindow, noInstruction}
-use Rattle.rules.specs.Refusal.{cellsFor, bookConditions, kindConditions, conditions, refusal, recovered}
-use Rattle.book_memory.specs.Meter.{Memory, roomIn, kwAt}
-use Rattle.book_refusal.specs.Refusals.{anyRefusal, windowsEnd, windowRefusal, readyAfter, instructionRefusal, defaultRefusal, readingRefusal}
+use Rattle.rules.specs.Ledger.{Metered, isContract, spanOf, noWindow, noInstruction}
+use Rattle.rules.specs.Refusal.{cellsFor, notAbove, bookConditions, kindConditions, conditions, refusal, recovered}
+use Rattle.book_memory.specs.Meter.{Memory, roomIn, meteredAt}
+use Rattle.book_refusal.specs.Refusals.{anyRefusal, windowsEnd, windowRefusal, readyAfter, instructionRefusal, defaultRefusal, heldRefusal}
+use Rattle.book_refusal.specs.Refusals.{readingRefusal}
 use Rattle.book_sound.proofs.Tables.{last-used}
 use Rattle.book_sound.proofs.Walks.{recovered-last}
 use Rattle.book.specs.Book.{bookSpan, bookCells, ledgerIn}
@@ -86,10 +86,10 @@ module _ (b : Book) (meter : Memory) (c : Command) where
       let short : Bool = ltb (roomIn meter) (onContract spanOf (always (bookCells b)) c) in
       let book : List Condition = bookConditions (not (sound b)) (roomIn meter) (ledgerIn b meter) c in
       let own : List Condition = kindConditions (ledgerIn b meter) c in
-      lowest-numbered (conditions (not (sound b)) (roomIn meter) (ledgerIn b meter) c) tt
+      first-numbered (conditions (not (sound b)) (roomIn meter) (ledgerIn b meter) c) tt
       ∙ ap numbered
       (numbers-append (inputConditions c) (book ++ own) tt
-      ∙ ap (λ n. cond (eqb n 0) (numbers (book ++ own)) n) (sym (lowest-number (inputConditions c) tt))
+      ∙ ap (λ n. cond (eqb n 0) (numbers (book ++ own)) n) (sym (first-number (inputConditions c) tt))
       ∙ ap (λ m. cond (eqb (inputRefusal c) 0) m (inputRefusal c))
       (from-book (b .contract) (sound b) (b .closed) (b .agreed) (isContract c) short (ltb (roomIn meter) (cellsFor (ledgerIn b meter) c)) (ownOf b meter c)
       (λ e. ap (λ n. ltb (roomIn meter) (onContract spanOf (always n) c)) (cells-is b meter e))
@@ -98,11 +98,16 @@ module _ (b : Book) (meter : Memory) (c : Command) where
 
 -- ---- the conditions of a command's own kind, in a book with a contract
 
-read : (a b : Bool) (z : ℤ) → isSome (cond a (cond b (some z) none) none) ≡ (a && b)
+-- a minute of the span has what lent memory holds for it, and one past it nothing
+held-inside : (a : Bool) (n : ℕ) (o : Option Metered) → notAbove n (cond a o none) ≡ (a && notAbove n o)
+held-inside true n o = refl
+held-inside false n o = refl
+
+-- a minute has a reading where it holds one of revision 0 or above
+some-held : (o : Option Metered) → isSome o ≡ notAbove 0 o
 unfolding isSome
-read true true z = refl
-read true false z = refl
-read false b z = refl
+some-held none = refl
+some-held (some x) = sym (le-leb 0 (x .revision) zero-le)
 
 -- the end of the last window, from its entry
 windows-end : (ws : List Window) (n : ℕ) → n ≤ length ws → last noWindow (take n ws) .end .0 ≡ windowsEnd n (getD ws (n - 1) noWindow)
@@ -139,11 +144,16 @@ module _ (b : Book) (meter : Memory) (s : b .agreed ≡ true) where
   unfolding numbers ledgerIn defaultRefusal
   default-number d h = rw (span-is b meter s, length-take-le (b .ndefaults) (b .defaults) h)
 
-  pub reading-number : (r : Reading) → ownOf b meter (readingᶜ r) ≡ readingRefusal (bookSpan b) meter r
-  unfolding numbers ledgerIn readingRefusal
-  reading-number r =
-      let kw = kwAt meter (r .minute .0) in
-      rw (span-is b meter s, read (ltb (r .minute .0) (bookSpan b)) (isReading kw) kw)
+  pub reading-number : (n : ℕ) (r : Reading) → ownOf b meter (revisedAs n r) ≡ readingRefusal (bookSpan b) meter n r
+  unfolding numbers ledgerIn readingRefusal heldRefusal
+  reading-number zero r =
+      let o = meteredAt meter (r .minute .0) in
+      let inside = ltb (r .minute .0) (bookSpan b) in
+      rw (span-is b meter s, some-held (cond inside o none), held-inside inside 0 o)
+  reading-number (suc n) r =
+      let o = meteredAt meter (r .minute .0) in
+      let inside = ltb (r .minute .0) (bookSpan b) in
+      rw (span-is b meter s, held-inside inside (suc n) o, ne-eqb (suc n) 0 (λ q. omega arith))
 
 -- the others have none
 pub contract-own : (b : Book) (meter : Memory) (k : Contract) → ownOf b meter (contractᶜ k) ≡ 0

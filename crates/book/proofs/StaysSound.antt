@@ -1,41 +1,29 @@
--- Entering keeps a sound book sound, whatever the meter memory: so a list of commands needs the test for 11 only once.
-use mathlib.Core.Path.{_≡_, refl, sym, _∙_, subst, subst⁻¹}
-use mathlib.Core.Bool.{true, not, true≢false}
+-- Entering keeps a sound book sound, whatever lent memory holds: so a list of commands needs the test for 11 only once.
+use mathlib.Core.Path.{_≡_, refl, sym, _∙_, subst⁻¹}
+use mathlib.Core.Bool.{true, false, not, true≢false}
 use mathlib.Core.Option.{Option, none, some}
 use Prim.Native.Nat.{ℕ, _≤_}
 use native.Mathlib.Omega.{arith}
 use borrow.Author.Tests.{ltb-false}
 use Rattle.book_memory.specs.Meter.{Memory, roomIn}
 use Rattle.commands.specs.Command.{always}
-use Rattle.rules.specs.Ledger.{Ledger, ledgerOf, cellsIn, spanOf}
+use Rattle.rules.specs.Ledger.{cellsIn, spanOf}
 use Rattle.rules.specs.Refusal.{refusal}
-use Rattle.rules.specs.Reached.{Reached}
-use Rattle.rules.specs.File.{written}
 use Rattle.commands.specs.declared.entries.Command.{Command}
 use Rattle.commands.specs.declared.entries.Command.the-variants.{Contract as contractᶜ}
 use Rattle.commands.proofs.Chain.{true-or-false}
 use Rattle.commands.proofs.ByKind.{contract-or-not}
 use Rattle.rules.proofs.Taken.{Allowed, allowed}
-use Rattle.rules.proofs.Rewritten.{rewritten}
 use Rattle.book.specs.Book.{bookCells, ledgerIn}
 use Rattle.book.specs.Sound.{sound, Shaped}
 use Rattle.book.specs.Enter.{enterBook, enteredBy}
 use Rattle.book.specs.declared.Book.{Book}
-use Rattle.book.proofs.Follow.{Follows, follow}
+use Rattle.book.proofs.Follow.{Stands, put-stands}
 use Rattle.book.proofs.Holds.{agreed-before}
 use Rattle.book.proofs.Month.{cells-is, cells-empty}
 use Rattle.book.proofs.FromCommands.{book-reached}
 
--- a sound book follows the commands that it is written as
-pub follows-itself : (b : Book) (meter : Memory) → Shaped b → sound b ≡ true → bookCells b ≤ roomIn meter
-    → Follows (roomIn meter) (written (ledgerIn b meter)) b meter
-follows-itself b meter s e h =
-    let g : Ledger = ledgerIn b meter in
-    let r : Reached (roomIn meter) g = book-reached b meter (roomIn meter) e h in
-    let same : g ≡ ledgerOf (written g) = sym (rewritten (roomIn meter) g r .same) in
-    record { ledger = same; reached = subst (Reached (roomIn meter)) same r; sound = e; shaped = s; memory = refl }
-
--- meter memory has the cells where a command is taken
+-- lent memory has room where a command is taken
 cells-held : (b : Book) (meter : Memory) (c : Command) → sound b ≡ true → Allowed (roomIn meter) (ledgerIn b meter) c → bookCells b ≤ roomIn meter
 cells-held b meter c e a =
     true-or-false (b .agreed) (λ s. rw (cells-is b meter s) at (under c s a)) (λ s. omega (arith, cells-empty b e s))
@@ -58,7 +46,15 @@ kept b meter c k = go (refusal (not (sound b)) (roomIn meter) (ledgerIn b meter)
   where
     go : (o : Option ℕ) → refusal (not (sound b)) (roomIn meter) (ledgerIn b meter) c ≡ o → Kept (enterBook b meter c .entry .book)
     go none q =
-        let a = allowed (roomIn meter) (ledgerIn b meter) c (rw (k .sound) at q) in
-        let f = follow c (follows-itself b meter (k .shaped) (k .sound) (cells-held b meter c (k .sound) a)) in
-        record { sound = f .sound; shaped = f .shaped }
+        let taken : refusal false (roomIn meter) (ledgerIn b meter) c ≡ none = rw (k .sound) at q in
+        let a = allowed (roomIn meter) (ledgerIn b meter) c taken in
+        let stands : Stands (roomIn meter) b meter =
+        record {
+          reached = book-reached b meter (roomIn meter) (k .sound) (cells-held b meter c (k .sound) a);
+          sound = k .sound;
+          shaped = k .shaped;
+          memory = refl;
+        } in
+        let after = put-stands stands c taken in
+        subst⁻¹ (λ o. Kept (enteredBy o b meter c .entry .book)) q (record { sound = after .sound; shaped = after .shaped })
     go (some n) q = subst⁻¹ (λ o. Kept (enteredBy o b meter c .entry .book)) q k

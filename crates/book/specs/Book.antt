@@ -1,4 +1,4 @@
--- "The book": its tables, what it holds with meter memory in the rules' terms, and what a taken command puts into it.
+-- "The book": its tables, what it holds with lent memory in the rules' terms, and what a taken command puts into it.
 use mathlib.Core.Bool.{true, false, cond}
 use mathlib.Core.List.{List, [], _∷_}
 use mathlib.Core.Option.{none}
@@ -9,7 +9,7 @@ use Rattle.rules.specs.Ledger.{Ledger, noContract, spanOf}
 use Rattle.commands.specs.Command.{onContract, onWindow, onInstruction, onDefault, onClose, always}
 use Rattle.commands.specs.declared.entries.Command.{Command}
 pub use Rattle.rules.specs.Ledger.{noWindow, noInstruction, noDefault}
-use Rattle.book_memory.specs.Meter.{cellReading, Memory, kwAt}
+use Rattle.book_memory.specs.Meter.{meteredAt, Memory}
 use Rattle.book.specs.declared.Book.{Book}
 
 -- the empty book: no contract, and zeros
@@ -27,17 +27,17 @@ emptyBook =
       ndefaults = 0;
     }
 
--- ---- what a book and meter memory hold
+-- ---- what a book and lent memory hold
 
 -- the span of a book: the minutes of its month
 unfoldable pub bookSpan : Book → ℕ
 bookSpan b = spanOf (b .contract)
 
--- 15: the cells that meter memory must have for it
+-- 15: the minutes that lent memory must have room for
 unfoldable pub bookCells : Book → ℕ
 bookCells b = spanOf (b .contract)
 
--- the ledger of a book and meter memory. Cells past the span are no readings
+-- the ledger of a book and lent memory. Cells past the span are no readings
 unfoldable pub ledgerIn : Book → Memory → Ledger
 ledgerIn b meter =
     record {
@@ -46,7 +46,7 @@ ledgerIn b meter =
       instructions = take (b .ninstructions) (b .instructions);
       defaults = take (b .ndefaults) (b .defaults);
       closed = b .closed;
-      reading = λ m. cond (ltb m (bookSpan b)) (cellReading (kwAt meter m)) none;
+      reading = λ m. cond (ltb m (bookSpan b)) (meteredAt meter m) none;
     }
 
 -- ---- a taken command put into the book

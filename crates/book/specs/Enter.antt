@@ -1,4 +1,4 @@
--- "A book takes a command and hands back the book after it": answer, book and meter memory after, by one equation over the rules.
+-- "A book takes a command and hands back the book after it": answer, book and lent memory after, by one equation over the rules.
 use mathlib.Core.Path.{_≡_}
 use mathlib.Core.Bool.{not}
 use mathlib.Core.Option.{Option, none, some}
@@ -11,7 +11,7 @@ use Rattle.book.specs.Sound.{sound}
 use Rattle.book.specs.declared.Book.{Book}
 use Rattle.book.specs.declared.Entry.{Entry}
 
--- the answer with the book after it, and meter memory after it
+-- the answer with the book after it, and lent memory after it
 pub record Entered : Type 0 where
   pub entry : Entry
   pub meter : Memory
@@ -33,7 +33,7 @@ enteredBy (some n) b meter c = record { entry = refusedAs n b; meter = meter }
 unfoldable pub enterBook : Book → Memory → Command → Entered
 enterBook b meter c = enteredBy (refusal (not (sound b)) (roomIn meter) (ledgerIn b meter) c) b meter c
 
--- what a method promises: its entry, and meter memory after it
+-- what a method promises: its entry, and lent memory after it
 pub record Enters (b : Book) (before : Memory) (c : Command) (e : Entry) (after : Memory) : Type 0 where
   pub entry : e ≡ enterBook b before c .entry
   pub meter : after ≡ enterBook b before c .meter

@@ -5,6 +5,6 @@ use lib.Dec.{leb}
 use Rattle.book.specs.Book.{bookSpan, bookCells}
 use Rattle.book.specs.declared.Book.{Book}
 
--- the span in which a book takes readings into meter memory of so many cells: 0 where 12, 13 or 15 holds
+-- the span in which a book takes readings into lent memory with so much room: 0 where 12, 13 or 15 holds
 unfoldable pub openSpan : Book → ℕ → ℕ
 openSpan b room = cond (b .agreed && not (b .closed) && leb (bookCells b) room) (bookSpan b) 0

@@ -15,7 +15,7 @@ use Rattle.book.specs.Book.{emptyBook, bookSpan, putAll}
 use Rattle.commands.specs.declared.entries.Command.{Command}
 use Rattle.book.specs.declared.Book.{Book}
 
--- some list of commands, with meter memory of some length, leaves the book
+-- some list of commands, with lent memory of some room, leaves the book
 pub record FromCommands (b : Book) : Type 0 where
   pub size : ℕ
   pub commands : List Command

@@ -1,4 +1,4 @@
-// The minutes of a book's month, the cells of meter memory that it needs, and the span in which it takes readings.
+// The minutes of a book's month, those that lent memory must have room for, and the span in which it takes readings.
 ghost use mathlib.Core.Path.{_≡_};
 ghost use Rattle.book.specs.Book.{bookSpan, bookCells};
 ghost use Rattle.book.specs.Readings.{openSpan};
@@ -14,7 +14,7 @@ impl Book {
         span_of(k)
     }
 
-    // The cells that meter memory must have, as 15 asks.
+    // The minutes that lent memory must have room for, as 15 asks.
     pub fn cells(self) -> usize
         ensures { λ r. ⌜ r ≡ bookCells self ⌝ }
     {
@@ -22,7 +22,7 @@ impl Book {
         span_of(k)
     }
 
-    // The span in which readings are taken into meter memory of `room` cells, 0 where none is. Only a contract and a close change it.
+    // The span in which readings are taken into lent memory with so much room, 0 where none is. Only a contract and a close change it.
     pub fn open_span(self, room: usize) -> usize
         ensures { λ r. ⌜ r ≡ openSpan self room ⌝ }
     {

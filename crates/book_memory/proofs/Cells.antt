@@ -1,13 +1,13 @@
 -- Laws of meter memory: the cells' numbers, and cells that are marked.
-use mathlib.Core.Path.{_≡_, refl, _∙_}
+use mathlib.Core.Path.{_≡_, refl, ap, _∙_}
 use mathlib.Core.List.{List, [], _∷_, _++_}
-use Prim.Native.Nat.{ℕ, zero, suc, _+_, _<_}
+use Prim.Native.Nat.{ℕ, zero, suc, _+_, _≤_, _<_}
 use native.Mathlib.Numerals.{add-one}
 use native.Mathlib.Omega.{arith}
 use lib.IntN.{ℤ, pos, negsuc}
 use lib.Signed.{leZ}
 use lib.Dec.{T, leb→le}
-use lib.ListN.{length, getD, drop, set, replicate}
+use lib.ListN.{length, getD, drop, set, replicate, length-set}
 use mir.Syntax.{w32}
 use mir.Val.{SFits, toZ, ofZ}
 use mir.Facts.{toZ-ofZ}
@@ -26,12 +26,24 @@ pub cell-is : (cells : List ℤ) (i : ℕ) → SFits w32 (getD cells i (pos 0)) 
     → toZ w32 (ofZ w32 (getD cells i (pos 0))) ≡ getD cells i missing
 cell-is cells i fits inside = toZ-ofZ fits ∙ getD-within cells i (pos 0) missing inside
 
+-- ---- a list that is filled from the front, one store a turn
+
 module _ {A : Type 0} where
-  -- a list that is filled from the front, one store a turn
   fill-suc : (n : ℕ) (v : A) (d : List A) → n < length d → set (replicate n v ++ drop n d) n v ≡ replicate (suc n) v ++ drop (suc n) d
   fill-suc n v [] l = absurd (omega arith)
   fill-suc zero v (x ∷ d) l = refl
   fill-suc (suc n) v (x ∷ d) l = rw (fill-suc n v d (omega arith))
 
-  pub fill-turn : (n : ℕ) (v : A) (d : List A) → n < length d → set (replicate n v ++ drop n d) n v ≡ replicate (n + 1) v ++ drop (n + 1) d
-  fill-turn n v d l = rw add-one (fill-suc n v d l)
+  -- the first i of n are filled with v, and the others are those of d
+  abbrev pub Filling : A → ℕ → List A → List A → ℕ → Type 0
+  Filling v n d l i = (i ≤ n) × (l ≡ replicate i v ++ drop i d) × (length l ≡ length d)
+
+  pub fill-turn : (v : A) (n : ℕ) (d l : List A) (i : ℕ) → Filling v n d l i → i < n → n ≤ length d → Filling v n d (set l i v) (i + 1)
+  fill-turn v n d l i f h k = (
+    omega arith,
+    ap (λ (x : List A). set x i v) (f .1) ∙ rw add-one (fill-suc i v d (omega arith)),
+    simp length-set (f .2),
+  )
+
+  pub filled : (v : A) (n : ℕ) (d l : List A) (i : ℕ) → Filling v n d l i → n ≤ i → l ≡ replicate n v ++ drop n d
+  filled v n d l i f h = let end : i ≡ n = omega arith in rw end at (f .1)

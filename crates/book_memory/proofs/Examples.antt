@@ -1,6 +1,9 @@
--- The examples of cells, computed.
+-- The examples of cells and bytes, computed.
 use mathlib.Core.Path.{refl}
+use Rattle.book_memory.specs.Meter.{roomIn}
 use Rattle.book_memory.specs.Examples.{CellExamples}
 
 pub cell-examples : CellExamples
-cell-examples = record { mark = refl; above = refl; below = refl; most = refl; least = refl; pastEnd = refl }
+unfolding roomIn
+cell-examples =
+    record { mark = refl; above = refl; below = refl; most = refl; least = refl; pastEnd = refl; fewBytes = refl; fewCells = refl }

@@ -1,3 +1,4 @@
 pub mod Cells
+pub mod Lengths
 pub mod TakenReading
 pub mod Examples

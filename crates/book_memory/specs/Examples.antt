@@ -1,19 +1,22 @@
--- Proved of the rules: which cells hold a reading, by example.
+-- Proved of the rules: which cells hold a reading, and which revision counts, by example.
 use mathlib.Core.Path.{_≡_}
 use mathlib.Core.List.{[], _∷_}
 use mathlib.Core.Option.{none, some}
 use lib.IntN.{pos, negsuc}
-use Rattle.book_memory.specs.Meter.{missing, cellReading, lent, kwAt}
+use Rattle.book_memory.specs.Meter.{missing, cellReading, lent, roomIn, meteredAt}
 
--- a cell counts by its range, not by its mark
+-- a cell counts by its range, not by its mark, and a byte where its cell counts
 pub record CellExamples : Type 0 where
-  -- the mark is no reading
-  pub mark : cellReading missing ≡ none
+  -- the mark is no reading, whatever the byte
+  pub mark : cellReading missing 9 ≡ none
   -- nor is anything else outside the range, on either side
-  pub above : cellReading (pos 500001) ≡ none
-  pub below : cellReading (negsuc 500000) ≡ none
+  pub above : cellReading (pos 500001) 0 ≡ none
+  pub below : cellReading (negsuc 500000) 0 ≡ none
   -- the ends of the range are
-  pub most : cellReading (pos 500000) ≡ some (pos 500000)
-  pub least : cellReading (negsuc 499999) ≡ some (negsuc 499999)
+  pub most : cellReading (pos 500000) 0 ≡ some (record { kw = pos 500000; revision = 0 })
+  pub least : cellReading (negsuc 499999) 9 ≡ some (record { kw = negsuc 499999; revision = 9 })
   -- a minute past the end of memory has none
-  pub pastEnd : cellReading (kwAt (lent (pos 7 ∷ [])) 1) ≡ none
+  pub pastEnd : meteredAt (lent (pos 7 ∷ []) (1 ∷ 2 ∷ [])) 1 ≡ none
+  -- the shorter of the two decides how much room there is
+  pub fewBytes : roomIn (lent (pos 7 ∷ pos 8 ∷ []) (1 ∷ [])) ≡ 1
+  pub fewCells : roomIn (lent (pos 7 ∷ []) (1 ∷ 2 ∷ [])) ≡ 1

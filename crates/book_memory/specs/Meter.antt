@@ -1,61 +1,77 @@
--- Meter memory: a cell for each minute, what a taken command puts into the cells, and the readings that they take.
+-- Lent memory: a cell and a byte for each minute, what a taken command puts into them, and the readings that they take.
 use mathlib.Core.Bool.{Bool, false, not, _&&_, cond}
 use mathlib.Core.List.{List, _++_}
 use mathlib.Core.Option.{Option, none, some}
-use Prim.Native.Nat.{ℕ}
+use Prim.Native.Nat.{ℕ, min}
 use lib.IntN.{ℤ, negsuc}
 use lib.Dec.{eqb, ltb}
 use lib.ListN.{length, getD, drop, set, replicate}
 use Rattle.commands.specs.Input.{isReading, inputRefusal}
-use Rattle.commands.specs.Command.{onContract, onReading, always}
-use Rattle.rules.specs.Ledger.{spanOf}
+use Rattle.commands.specs.Command.{onContract, onMetered, always}
+use Rattle.rules.specs.Ledger.{Metered, spanOf}
+use Rattle.rules.specs.Refusal.{notAbove}
 use Rattle.commands.specs.declared.entries.Command.{Command}
-use Rattle.commands.specs.declared.entries.Command.the-variants.{Reading as readingᶜ}
 
 -- the mark of a minute without a reading
 abbrev pub missing : ℤ
 missing = negsuc 2147483647
 
--- a cell's reading: none where it is outside the range
-abbrev pub cellReading : ℤ → Option ℤ
-cellReading z = cond (isReading z) (some z) none
+-- what a cell and its byte hold: nothing where the cell is outside the range, whatever the byte
+abbrev pub cellReading : ℤ → ℕ → Option Metered
+cellReading z n = cond (isReading z) (some (record { kw = z; revision = n })) none
 
 -- ---- lent memory
 
--- what is lent for the readings of a book: a cell for each minute
+-- what is lent for the readings of a book: meter memory, a cell for each minute, and revision memory, a byte for each
 pub record Memory : Type 0 where
   pub cells : List ℤ
+  pub revisions : List ℕ
 
--- lent cells as such
-abbrev pub lent : List ℤ → Memory
-lent cells = record { cells = cells }
+-- lent cells and bytes as such
+abbrev pub lent : List ℤ → List ℕ → Memory
+lent cells revisions = record { cells = cells; revisions = revisions }
 
--- the minutes that it has room for
-abbrev pub roomIn : Memory → ℕ
-roomIn m = length (m .cells)
+-- the minutes that it has room for: the lesser of both lengths
+unfoldable pub roomIn : Memory → ℕ
+roomIn m = min (length (m .cells)) (length (m .revisions))
 
 -- the kW in a minute's cell, which past the end counts as marked
 abbrev pub kwAt : Memory → ℕ → ℤ
 kwAt m i = getD (m .cells) i missing
 
+-- the revision in a minute's byte, 0 past the end
+abbrev pub revisionAt : Memory → ℕ → ℕ
+revisionAt m i = getD (m .revisions) i 0
+
+-- what a minute holds
+abbrev pub meteredAt : Memory → ℕ → Option Metered
+meteredAt m i = cellReading (kwAt m i) (revisionAt m i)
+
 -- ---- what commands do to it
 
--- memory with a command's reading, or with a contract's span marked
-abbrev pub putMeter : Memory → Command → Memory
-putMeter meter c =
-    lent
-    (onContract (λ k. replicate (spanOf k) missing ++ drop (spanOf k) (meter .cells))
-    (onReading (λ r. set (meter .cells) (r .minute .0) (r .kw .0))
-    (always (meter .cells)))
-    c)
+-- the first cells marked and the first bytes cleared
+abbrev pub markedTo : ℕ → Memory → Memory
+markedTo span m = lent (replicate span missing ++ drop span (m .cells)) (replicate span 0 ++ drop span (m .revisions))
 
--- a reading with its operands in range, for a minute of the span that has a cell and no reading yet
+-- a minute's cell and byte written
+abbrev pub writtenAt : ℕ → ℤ → ℕ → Memory → Memory
+writtenAt i kw n m = lent (set (m .cells) i kw) (set (m .revisions) i n)
+
+-- memory with a command's reading and its revision, or with a contract's span marked
+abbrev pub putMeter : Memory → Command → Memory
+putMeter m c =
+    onContract (λ k. markedTo (spanOf k) m)
+    (onMetered (λ n r. writtenAt (r .minute .0) (r .kw .0) n m)
+    (always m))
+    c
+
+-- a reading of either kind with its operands in range, for a minute of the span that there is room for and that holds no reading of its revision or above
 unfoldable pub takesReading : ℕ → Memory → Command → Bool
-takesReading span meter c =
-    onReading
-    (λ r. eqb (inputRefusal (readingᶜ r)) 0
+takesReading span m c =
+    onMetered
+    (λ n r. eqb (inputRefusal c) 0
     && ltb (r .minute .0) span
-    && ltb (r .minute .0) (roomIn meter)
-    && not (isReading (kwAt meter (r .minute .0))))
+    && ltb (r .minute .0) (roomIn m)
+    && not (notAbove n (meteredAt m (r .minute .0))))
     (always false)
     c

@@ -4,17 +4,17 @@ use mathlib.Core.List.{List}
 use Prim.Native.Nat.{ℕ, _+_}
 use lib.Dec.{eqb, leb, ltb}
 use Rattle.energy.specs.Lists.{any}
-use Rattle.commands.specs.Input.{isReading}
 use Rattle.commands.specs.declared.contract.Contract.{Contract}
 use Rattle.commands.specs.declared.entries.Window.{Window}
 use Rattle.commands.specs.declared.entries.Instruction.{Instruction}
 use Rattle.commands.specs.declared.entries.Default.{Default}
 use Rattle.commands.specs.declared.entries.Reading.{Reading}
 use Rattle.rules.specs.Ledger.{expiry, endOf, within}
-use Rattle.book_memory.specs.Meter.{Memory, kwAt}
+use Rattle.rules.specs.Refusal.{notAbove}
+use Rattle.book_memory.specs.Meter.{Memory, meteredAt}
 
 -- what any command meets before the conditions of its own kind: the number from its input, then 11 to 15. sound: some list of commands
--- leaves the book; contract: the command is one; short: meter memory has too few cells
+-- leaves the book; contract: the command is one; short: lent memory has too little room
 unfoldable pub anyRefusal : ℕ → Bool → Bool → Bool → Bool → Bool → ℕ
 anyRefusal input sound closed agreed contract short =
     cond (not (eqb input 0)) input
@@ -55,8 +55,12 @@ defaultRefusal span ws n d =
     (cond (not (any (λ w. within w (d .minute .0)) ws)) 21
     (cond (leb 128 n) 23 0))
 
--- a reading beside those in meter memory
-unfoldable pub readingRefusal : ℕ → Memory → Reading → ℕ
-readingRefusal span meter r =
+-- the number for a minute that holds a reading: of a plain one, and of one sent again
+unfoldable pub heldRefusal : ℕ → ℕ
+heldRefusal n = cond (eqb n 0) 22 27
+
+-- a reading of revision n beside those in lent memory
+unfoldable pub readingRefusal : ℕ → Memory → ℕ → Reading → ℕ
+readingRefusal span m n r =
     cond (leb span (r .minute .0)) 16
-    (cond (ltb (r .minute .0) span && isReading (kwAt meter (r .minute .0))) 22 0)
+    (cond (ltb (r .minute .0) span && notAbove n (meteredAt m (r .minute .0))) (heldRefusal n) 0)

@@ -1,18 +1,27 @@
-// A reading beside those in meter memory.
+// A reading beside those in lent memory.
 ghost use mathlib.Core.Path.{_≡_};
 ghost use Rattle.book_memory.specs.Meter.{lent};
-ghost use Rattle.book_refusal.specs.Refusals.{readingRefusal};
-use book_memory::has_reading;
+ghost use Rattle.book_refusal.specs.Refusals.{readingRefusal, heldRefusal};
+use book_memory::revisions::not_above;
 use commands::checks::pick;
+use commands::contract::Contract;
 use commands::entries::Reading;
 
-// 16 and 22.
-pub fn reading_refusal(span: usize, r: Reading, meter: &[i32]) -> u8
-    ensures { λ n. ⌜ n ≡ readingRefusal span (lent (now (meter .entry))) r ⌝ }
+// 16, then 22 for a plain reading and 27 for one sent again.
+pub fn reading_refusal(span: usize, number: u8, r: Reading, meter: &[i32], revisions: &[u8]) -> u8
+    ensures { λ n. ⌜ n ≡ readingRefusal span (lent (now (meter .entry)) (now (revisions .entry))) number r ⌝ }
 {
     let minute = r.minute;
     let at = minute.0 as usize;
     let beyond = span <= at;
-    let r22 = pick((at < span) & has_reading(meter, minute), 22, 0);
-    pick(beyond, 16, r22)
+    let held = (at < span) & not_above(number, meter, revisions, minute);
+    let own = pick(held, held_refusal(number), 0);
+    pick(beyond, 16, own)
+}
+
+// The number for a minute that holds a reading of this revision or one above it.
+fn held_refusal(number: u8) -> u8
+    ensures { λ n. ⌜ n ≡ heldRefusal number ⌝ }
+{
+    if number == Contract::PLAIN { 22 } else { 27 }
 }

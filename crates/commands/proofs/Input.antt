@@ -9,7 +9,7 @@ use native.Mathlib.Omega.{arith}
 use lib.Dec.{T, eqb, leb, ltb}
 use borrow.Author.Tests.{ne-eqb, le-leb, lt-leb}
 use Rattle.energy.proofs.Tests.{T-and}
-use Rattle.commands.specs.Input.{from-to, inRange, rampTooLong, badWindow, Condition, inputConditions, lowest, inputRefusal, orZero}
+use Rattle.commands.specs.Input.{from-to, inRange, rampTooLong, badWindow, Condition, inputConditions, firstMet, inputRefusal, orZero}
 use Rattle.commands.specs.Input.{offerFor, offerOf}
 use Rattle.commands.specs.declared.contract.Contract.{Contract}
 use Rattle.commands.specs.declared.contract.Offer.the-variants.{Agreed, Refused}
@@ -37,22 +37,22 @@ pub numbered-some : (n : ℕ) → n ≢ 0 → numbered n ≡ some n
 numbered-some zero h = absurd (h refl)
 numbered-some (suc n) h = refl
 
--- it says which number is the lowest
-pub lowest-numbered : (cs : List Condition) → T (Numbered cs) → lowest cs ≡ numbered (numbers cs)
-unfolding lowest numbers
-lowest-numbered [] t = refl
-lowest-numbered (c ∷ cs) t =
+-- it says which number is the first
+pub first-numbered : (cs : List Condition) → T (Numbered cs) → firstMet cs ≡ numbered (numbers cs)
+unfolding firstMet numbers
+first-numbered [] t = refl
+first-numbered (c ∷ cs) t =
     let q = T-and (ltb 0 (c .number)) (Numbered cs) t in
-    go (c .holds) (c .number) (q .0) (lowest-numbered cs (q .1))
+    go (c .holds) (c .number) (q .0) (first-numbered cs (q .1))
   where
-    go : (b : Bool) (n : ℕ) → T (ltb 0 n) → lowest cs ≡ numbered (numbers cs)
-        → _≡_ {A = Option ℕ} (elim b as (λ x. Option ℕ) [ true ↦ some n | false ↦ lowest cs ]) (numbered (cond b n (numbers cs)))
+    go : (b : Bool) (n : ℕ) → T (ltb 0 n) → firstMet cs ≡ numbered (numbers cs)
+        → _≡_ {A = Option ℕ} (elim b as (λ x. Option ℕ) [ true ↦ some n | false ↦ firstMet cs ]) (numbered (cond b n (numbers cs)))
     go true zero h e = absurd h
     go true (suc n) h e = refl
     go false n h e = e
 
-pub lowest-number : (cs : List Condition) → T (Numbered cs) → orZero (lowest cs) ≡ numbers cs
-lowest-number cs t = rw (lowest-numbered cs t) (back (numbers cs))
+pub first-number : (cs : List Condition) → T (Numbered cs) → orZero (firstMet cs) ≡ numbers cs
+first-number cs t = rw (first-numbered cs t) (back (numbers cs))
   where
     back : (n : ℕ) → orZero (numbered n) ≡ n
     back zero = refl
@@ -74,13 +74,13 @@ numbers-append (c ∷ xs) ys t =
 
 -- ---- the number from the input, test by test
 
-pub input-number : (c : Command) → lowest (inputConditions c) ≡ numbered (inputRefusal c)
+pub input-number : (c : Command) → firstMet (inputConditions c) ≡ numbered (inputRefusal c)
 unfolding inputRefusal
-input-number c = lowest-numbered (inputConditions c) tt ∙ ap numbered (sym (lowest-number (inputConditions c) tt))
+input-number c = first-numbered (inputConditions c) tt ∙ ap numbered (sym (first-number (inputConditions c) tt))
 
 pub input-cond : (c : Command) → inputRefusal c ≡ cond (not (inRange c)) 3 (cond (rampTooLong c) 4 (cond (badWindow c) 5 0))
 unfolding inputRefusal numbers
-input-cond c = lowest-number (inputConditions c) tt
+input-cond c = first-number (inputConditions c) tt
 
 -- the number from the test of the range, and that of the conditions after it
 pub input-picked : (c : Command) {b : Bool} {r n : ℕ} → r ≡ cond (not b) 3 n → b ≡ inRange c → n ≡ cond (rampTooLong c) 4 (cond (badWindow c) 5 0)

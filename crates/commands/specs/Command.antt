@@ -1,12 +1,15 @@
 -- Definitions that go by the command: one says what holds for a kind of command and leaves the other kinds to the next.
+use Prim.Native.Nat.{ℕ, zero, suc}
 use Rattle.commands.specs.declared.contract.Contract.{Contract}
 use Rattle.commands.specs.declared.entries.Window.{Window}
 use Rattle.commands.specs.declared.entries.Instruction.{Instruction}
 use Rattle.commands.specs.declared.entries.Default.{Default}
 use Rattle.commands.specs.declared.entries.Reading.{Reading}
+use Rattle.commands.specs.declared.entries.Revision.{Revision}
 use Rattle.commands.specs.declared.entries.Command.{Command}
 use Rattle.commands.specs.declared.entries.Command.the-variants.{Contract as contractᶜ, Window as windowᶜ, Instruction as instructionᶜ}
-use Rattle.commands.specs.declared.entries.Command.the-variants.{Default as defaultᶜ, Reading as readingᶜ, Close as closeᶜ}
+use Rattle.commands.specs.declared.entries.Command.the-variants.{Default as defaultᶜ, Reading as readingᶜ, Revision as revisionᶜ}
+use Rattle.commands.specs.declared.entries.Command.the-variants.{Close as closeᶜ}
 
 module _ {A : Type 0} where
   -- f of a contract; any other command is g's
@@ -16,6 +19,7 @@ module _ {A : Type 0} where
   onContract f g (instructionᶜ i) = g (instructionᶜ i)
   onContract f g (defaultᶜ d) = g (defaultᶜ d)
   onContract f g (readingᶜ r) = g (readingᶜ r)
+  onContract f g (revisionᶜ v) = g (revisionᶜ v)
   onContract f g closeᶜ = g closeᶜ
 
   -- f of a window; any other command is g's
@@ -25,6 +29,7 @@ module _ {A : Type 0} where
   onWindow f g (instructionᶜ i) = g (instructionᶜ i)
   onWindow f g (defaultᶜ d) = g (defaultᶜ d)
   onWindow f g (readingᶜ r) = g (readingᶜ r)
+  onWindow f g (revisionᶜ v) = g (revisionᶜ v)
   onWindow f g closeᶜ = g closeᶜ
 
   -- f of an instruction; any other command is g's
@@ -34,6 +39,7 @@ module _ {A : Type 0} where
   onInstruction f g (instructionᶜ i) = f i
   onInstruction f g (defaultᶜ d) = g (defaultᶜ d)
   onInstruction f g (readingᶜ r) = g (readingᶜ r)
+  onInstruction f g (revisionᶜ v) = g (revisionᶜ v)
   onInstruction f g closeᶜ = g closeᶜ
 
   -- f of a default; any other command is g's
@@ -43,6 +49,7 @@ module _ {A : Type 0} where
   onDefault f g (instructionᶜ i) = g (instructionᶜ i)
   onDefault f g (defaultᶜ d) = f d
   onDefault f g (readingᶜ r) = g (readingᶜ r)
+  onDefault f g (revisionᶜ v) = g (revisionᶜ v)
   onDefault f g closeᶜ = g closeᶜ
 
   -- f of a reading; any other command is g's
@@ -52,7 +59,18 @@ module _ {A : Type 0} where
   onReading f g (instructionᶜ i) = g (instructionᶜ i)
   onReading f g (defaultᶜ d) = g (defaultᶜ d)
   onReading f g (readingᶜ r) = f r
+  onReading f g (revisionᶜ v) = g (revisionᶜ v)
   onReading f g closeᶜ = g closeᶜ
+
+  -- f of a revision; any other command is g's
+  abbrev pub onRevision : (Revision → A) → (Command → A) → Command → A
+  onRevision f g (contractᶜ k) = g (contractᶜ k)
+  onRevision f g (windowᶜ w) = g (windowᶜ w)
+  onRevision f g (instructionᶜ i) = g (instructionᶜ i)
+  onRevision f g (defaultᶜ d) = g (defaultᶜ d)
+  onRevision f g (readingᶜ r) = g (readingᶜ r)
+  onRevision f g (revisionᶜ v) = f v
+  onRevision f g closeᶜ = g closeᶜ
 
   -- a of a close; any other command is g's
   abbrev pub onClose : A → (Command → A) → Command → A
@@ -61,8 +79,18 @@ module _ {A : Type 0} where
   onClose a g (instructionᶜ i) = g (instructionᶜ i)
   onClose a g (defaultᶜ d) = g (defaultᶜ d)
   onClose a g (readingᶜ r) = g (readingᶜ r)
+  onClose a g (revisionᶜ v) = g (revisionᶜ v)
   onClose a g closeᶜ = a
+
+  -- f of a reading's revision, 0 of a plain one, and of the reading; any other command is g's
+  abbrev pub onMetered : (ℕ → Reading → A) → (Command → A) → Command → A
+  onMetered f g c = onReading (f 0) (onRevision (λ v. f (v .number) (v .reading)) g) c
 
   -- a of every command
   abbrev pub always : A → Command → A
   always a c = a
+
+-- a reading as a command, by its revision: a plain one, or one sent again
+abbrev pub revisedAs : ℕ → Reading → Command
+revisedAs zero r = readingᶜ r
+revisedAs (suc n) r = revisionᶜ (record { number = suc n; reading = r })

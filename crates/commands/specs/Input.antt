@@ -7,10 +7,11 @@ use lib.IntN.{ℤ, pos, negsuc, natAbs}
 use lib.Signed.{leZ}
 use lib.Dec.{eqb, leb, ltb}
 use Rattle.energy.specs.Number.{ceiling}
-use Rattle.commands.specs.Command.{onContract, onWindow, onInstruction, onDefault, onReading, always}
+use Rattle.commands.specs.Command.{onContract, onWindow, onInstruction, onDefault, onReading, onRevision, always}
 use Rattle.commands.specs.declared.contract.Contract.{Contract}
 use Rattle.commands.specs.declared.contract.Offer.{Offer}
 use Rattle.commands.specs.declared.contract.Offer.the-variants.{Agreed, Refused}
+use Rattle.commands.specs.declared.entries.Reading.{Reading}
 use Rattle.commands.specs.declared.entries.Command.{Command}
 use Rattle.commands.specs.declared.entries.Command.the-variants.{Contract as contractᶜ}
 
@@ -46,6 +47,10 @@ isReading z = from-toℤ (negsuc 499999) (pos 500000) z
 abbrev pub mostMinute : ℕ
 mostMinute = 44640
 
+-- minute and kW of a reading are in their ranges
+abbrev pub meterable : Reading → Bool
+meterable r = from-to 0 mostMinute (r .minute .0) && isReading (r .kw .0)
+
 -- 3: every operand is in its range or one of its values
 abbrev pub inRange : Command → Bool
 inRange c =
@@ -61,8 +66,9 @@ inRange c =
     (onWindow (λ w. from-to 0 mostMinute (w .start .0) && from-to 0 mostMinute (w .end .0) && from-to 0 1 (w .verdict))
     (onInstruction (λ i. from-to 3 mostMinute (i .issue .0) && from-to 0 mostMinute (i .cease .0))
     (onDefault (λ d. from-to 0 mostMinute (d .minute .0) && from-to 1 4 (d .kind) && from-to 1 3 (d .reach))
-    (onReading (λ r. from-to 0 mostMinute (r .minute .0) && isReading (r .kw .0))
-    (always true)))))
+    (onReading meterable
+    (onRevision (λ v. from-to 1 255 (v .number) && meterable (v .reading))
+    (always true))))))
     c
 
 -- 4: ramp up minutes above the response, or ramp down minutes above 240
@@ -74,7 +80,7 @@ abbrev pub badWindow : Command → Bool
 badWindow c =
     onWindow (λ w. leb (w .end .0) (w .start .0) || not (eqb (w .start .0 % 30) 0) || not (eqb (w .end .0 % 30) 0)) (always false) c
 
--- ---- the lowest number that applies
+-- ---- the first number that applies
 
 -- a refusal's number, and whether its condition holds
 pub record Condition : Type 0 where
@@ -94,19 +100,19 @@ inputConditions c =
     ∷ (5 when badWindow c)
     ∷ []
 
--- the lowest number whose condition holds
-unfoldable pub lowest : List Condition → Option ℕ
-lowest [] = none
-lowest (c ∷ cs) = elim (c .holds) [ true ↦ some (c .number) | false ↦ lowest cs ]
+-- the number of the first condition that holds
+unfoldable pub firstMet : List Condition → Option ℕ
+firstMet [] = none
+firstMet (c ∷ cs) = elim (c .holds) [ true ↦ some (c .number) | false ↦ firstMet cs ]
 
 -- a number, 0 where there is none
 abbrev pub orZero : Option ℕ → ℕ
 orZero none = 0
 orZero (some n) = n
 
--- the lowest of 3, 4 and 5 whose condition holds, 0 for none
+-- the first of 3, 4 and 5 whose condition holds, 0 for none
 unfoldable pub inputRefusal : Command → ℕ
-inputRefusal c = orZero (lowest (inputConditions c))
+inputRefusal c = orZero (firstMet (inputConditions c))
 
 -- the offer for a number: the contract where there is none
 abbrev pub offerFor : Contract → Option ℕ → Offer
@@ -115,4 +121,4 @@ offerFor k (some n) = Refused n
 
 -- what comes of a contract's operands
 unfoldable pub offerOf : Contract → Offer
-offerOf k = offerFor k (lowest (inputConditions (contractᶜ k)))
+offerOf k = offerFor k (firstMet (inputConditions (contractᶜ k)))

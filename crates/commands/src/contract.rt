@@ -112,6 +112,13 @@ impl Contract {
 
     pub const READING_MOST: Kw = Kw(KW_MOST);
 
+    // a reading that was not sent again, which a revision's number is above
+    pub const PLAIN: u8 = 0;
+
+    pub const REVISION_LEAST: u8 = 1;
+
+    pub const REVISION_MOST: u8 = 255;
+
     // marks a minute without a reading
     pub const NO_READING: i32 = -2147483648;
 

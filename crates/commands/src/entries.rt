@@ -2,8 +2,8 @@
 // an entry's `input_refusal` tells whether that is in its range.
 ghost use mathlib.Core.Path.{_≡_};
 ghost use Prim.Native.Nat.{_+_, _<_, _^_};
-ghost use Rattle.commands.specs.Input.{from-to, inputRefusal};
-ghost use Rattle.commands.specs.declared.entries.Command.the-variants.{Window as windowᶜ, Instruction as instructionᶜ, Default as defaultᶜ, Reading as readingᶜ};
+ghost use Rattle.commands.specs.Input.{from-to, inputRefusal, meterable};
+ghost use Rattle.commands.specs.declared.entries.Command.the-variants.{Window as windowᶜ, Instruction as instructionᶜ, Default as defaultᶜ, Reading as readingᶜ, Revision as revisionᶜ};
 use crate::checks::byte_from_to;
 use crate::checks::kw_from_to;
 use crate::checks::minutes_from_to;
@@ -40,12 +40,19 @@ pub struct Reading {
     pub kw: Kw,
 }
 
+// A reading that the meter operator sends again: of those for a minute the greatest number supersedes.
+pub struct Revision {
+    pub number: u8,
+    pub reading: Reading,
+}
+
 pub enum Command {
     Contract(Contract),
     Window(Window),
     Instruction(Instruction),
     Default(Default),
     Reading(Reading),
+    Revision(Revision),
     Close,
 }
 
@@ -95,10 +102,31 @@ impl Reading {
     pub fn input_refusal(self) -> u8
         ensures { λ r. ⌜ r ≡ inputRefusal (readingᶜ self) ⌝ }
     {
+        pick(!self.in_range(), 3, 0)
+    }
+
+    // Whether minute and kW are in their ranges.
+    fn in_range(self) -> bool
+        ensures { λ r. ⌜ r ≡ meterable self ⌝ }
+    {
         let minute = self.minute;
         let kw = self.kw;
-        let fits = minutes_from_to(Contract::MINUTE_LEAST, Contract::MINUTE_MOST, minute)
-            & kw_from_to(Contract::READING_LEAST, Contract::READING_MOST, kw);
+        minutes_from_to(Contract::MINUTE_LEAST, Contract::MINUTE_MOST, minute)
+            & kw_from_to(Contract::READING_LEAST, Contract::READING_MOST, kw)
+    }
+}
+
+impl Revision {
+    pub fn input_refusal(self) -> u8
+        ensures { λ r. ⌜ r ≡ inputRefusal (revisionᶜ self) ⌝ }
+    {
+        let reading = self.reading;
+        let fits = byte_from_to(
+            Contract::REVISION_LEAST,
+            Contract::REVISION_MOST,
+            self.number,
+        )
+            & reading.in_range();
         pick(!fits, 3, 0)
     }
 }

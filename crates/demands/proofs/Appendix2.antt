@@ -20,7 +20,7 @@ use Rattle.demands.proofs.Demand3.{demand3}
 -- its bytes are its commands
 entered : readsTo appendix2File (length appendix2File) .commands ≡ appendix2
 unfolding Demand3·theorem
-entered = demand3 appendix2File (lent []) [] .wholeFile ∙ appendix2-read
+entered = demand3 appendix2File (lent [] []) [] .wholeFile ∙ appendix2-read
 
 -- its book is closed and complete
 met : Settleable 6 (ledger appendix2)

@@ -15,7 +15,7 @@ use lib.Seq.{drop-append-le}
 use Rattle.book_memory.specs.Meter.{Memory, roomIn}
 use Rattle.energy.specs.Lists.{all}
 use Rattle.energy.proofs.Tests.{T-and, either}
-use Rattle.commands.specs.Input.{Condition, lowest}
+use Rattle.commands.specs.Input.{Condition, firstMet}
 use Rattle.commands.proofs.Chain.{not-on}
 use Rattle.rules.specs.Refusal.{conditions, refusal}
 use Rattle.rules.proofs.Taken.{at-first, past-first}
@@ -35,14 +35,14 @@ use Rattle.file_load.proofs.From.{enough, from, from-step, by-turns}
 use Rattle.demands.specs.Pieces.{unfinished, shiftedBy, Pieces·theorem}
 
 -- the book never answers 2
-lowest-not : (cs : List Condition) → T (all (λ c. not (eqb (c .number) 2)) cs) → (x : ℕ) → lowest cs ≡ some x → eqb x 2 ≡ false
-unfolding lowest all
-lowest-not [] t x e = absurd (Option·none-ne-some x e)
-lowest-not (c ∷ cs) t x e =
+first-not : (cs : List Condition) → T (all (λ c. not (eqb (c .number) 2)) cs) → (x : ℕ) → firstMet cs ≡ some x → eqb x 2 ≡ false
+unfolding firstMet all
+first-not [] t x e = absurd (Option·none-ne-some x e)
+first-not (c ∷ cs) t x e =
     let ts = T-and (not (eqb (c .number) 2)) (all (λ c. not (eqb (c .number) 2)) cs) t in
     either (c .holds)
     (λ h. subst (λ y. eqb y 2 ≡ false) (Option·some-injective (c .number) x (sym (at-first c cs h) ∙ e)) (not-on (eqb (c .number) 2) (ts .0)))
-    (λ h. lowest-not cs (ts .1) x (sym (past-first c cs h) ∙ e))
+    (λ h. first-not cs (ts .1) x (sym (past-first c cs h) ∙ e))
 
 book-not-two : (b : Book) (m : Memory) (c : Command) (x : ℕ) → enterBook b m c .entry .answer ≡ Refused x → T (eqb x 2) → ⊥
 unfolding enterBook refusal conditions
@@ -52,7 +52,7 @@ book-not-two b m c x e t = go (refusal (not (sound b)) (roomIn m) (ledgerIn b m)
     go none f h = let z : _≡_ {A = ℕ} 0 1 = cc in omega arith
     go (some y) f h =
         let same : y ≡ x = cc in
-        subst (λ v. T v) (lowest-not (conditions (not (sound b)) (roomIn m) (ledgerIn b m) c) (unfold all in tt) y f) (subst (λ v. T (eqb v 2)) (sym same) t)
+        subst (λ v. T v) (first-not (conditions (not (sound b)) (roomIn m) (ledgerIn b m) c) (unfold all in tt) y f) (subst (λ v. T (eqb v 2)) (sym same) t)
 
 -- 1 in a piece is 1 in the whole
 kept-refused : (p q : List ℕ) (at x : ℕ) → readAt p at ≡ refusedʳ x → eqb x 2 ≡ false → readAt (p ++ q) at ≡ refusedʳ x

@@ -12,12 +12,12 @@ use lib.Seq.{take-append-seam}
 use Rattle.book_memory.specs.Meter.{Memory, roomIn}
 use Rattle.energy.specs.Lists.{concatMap}
 use Rattle.energy.proofs.Tests.{of-T, off-not}
-use Rattle.commands.specs.Input.{Condition, lowest}
+use Rattle.commands.specs.Input.{Condition, firstMet}
 use Rattle.rules.specs.Ledger.{Ledger, ledgerOf, cellsIn}
 use Rattle.rules.specs.Refusal.{refusal, joined, answerOf}
 use Rattle.rules.specs.File.{write, written, fileOf, commandsFrom, commandsIn}
 use Rattle.rules.specs.Reached.{Reached}
-use Rattle.rules.specs.Rewritten.{Rewritten}
+use Rattle.rules.specs.Rewritten.{Revised, Rewritten}
 use Rattle.commands.specs.declared.entries.Command.{Command}
 use Rattle.rules.specs.declared.answer.Answer.the-variants.{Taken}
 use Rattle.rules.specs.declared.file.Read.the-variants.{End, Refused as refusedʳ}
@@ -30,14 +30,14 @@ use Rattle.book.specs.Enter.{enterBook}
 use Rattle.book.specs.declared.Book.{Book}
 use Rattle.book.proofs.Follow.{Follows, follow, answers, starts}
 use Rattle.book.proofs.Month.{cells-sound}
-use Rattle.book.proofs.FromCommands.{book-reached, same-book}
+use Rattle.book.proofs.FromCommands.{given, book-reached, same-book}
 use Rattle.settle.specs.Settle.{settleBook}
 use Rattle.file_read.proofs.Steps.{got-long}
 use Rattle.file_load.specs.Load.{LoadedFile, loadFrom, load}
 use Rattle.file_load.proofs.From.{past-end, by-turns}
 use Rattle.file_write.specs.Write.{writeConditions, writtenBy, writeBook}
 use Rattle.demands.specs.Files.{File·theorem}
-use Rattle.demands.specs.RoundTrip.{bytesIn, SameAgain, RoundTrip·theorem}
+use Rattle.demands.specs.RoundTrip.{bytesIn, InBytes, SameAgain, RoundTrip·theorem}
 use Rattle.demands.proofs.Along.{Along}
 use Rattle.demands.proofs.Settled.{refused-taken}
 use Rattle.demands.proofs.Files.{file-right, taken-along}
@@ -52,7 +52,7 @@ record Writable (b : Book) (memory : Memory) (bytes : List ℕ) : Type 0 where
 
 writable : (b : Book) (memory : Memory) (bytes : List ℕ) → writeBook b memory bytes .written .answer ≡ Taken → Writable b memory bytes
 unfolding writeBook writeConditions
-writable b memory bytes e = go (lowest met) refl e
+writable b memory bytes e = go (firstMet met) refl e
   where
     g : Ledger
     g = ledgerIn b memory
@@ -60,7 +60,7 @@ writable b memory bytes e = go (lowest met) refl e
     met : List Condition
     met = writeConditions (not (sound b)) (roomIn memory) (length bytes) g
 
-    go : (o : Option ℕ) → lowest met ≡ o → writtenBy o g bytes .written .answer ≡ Taken → Writable b memory bytes
+    go : (o : Option ℕ) → firstMet met ≡ o → writtenBy o g bytes .written .answer ≡ Taken → Writable b memory bytes
     go none q h =
         let c : Clear met = clear met q in
         record {
@@ -99,42 +99,47 @@ module _ (file : List ℕ) {size : ℕ} where
       (rw ledgerOf-snoc (first .1)) (omega (arith, got-long file at e, length-append (write c) (concatMap write cs))))
 
 -- so is the file of a ledger that commands leave
-file-taken : (fresh : Memory) (g : Ledger) → Reached (roomIn fresh) g → load (fileOf g) emptyBook fresh .loaded .answer ≡ Taken
+file-taken : (fresh : Memory) (g : Ledger) → Reached (roomIn fresh) g → Revised g → load (fileOf g) emptyBook fresh .loaded .answer ≡ Taken
 unfolding load commandsIn fileOf
-file-taken fresh g r =
+file-taken fresh g r v =
     let size : ℕ = roomIn fresh in
     let cs : List Command = commandsIn (fileOf g) in
-    let back : cs ≡ written g = file-commands size g r in
+    let back : cs ≡ written g = file-commands size g r v in
     let long : length (fileOf g) ≡ length (concatMap write cs) = ap (λ cs. length (concatMap write cs)) (sym back) in
     all-loaded (fileOf g) (length (fileOf g)) 0 emptyBook fresh [] (starts fresh)
-    (subst⁻¹ (λ cs. Accepted size (ledgerOf []) cs) back (written-replay size g r .accepted))
+    (subst⁻¹ (λ cs. Accepted size (ledgerOf []) cs) back (written-replay size g r v .accepted))
     (omega (arith, long))
 
-again : (b : Book) (memory fresh : Memory) → Shaped b → sound b ≡ true → bookCells b ≤ roomIn fresh → roomIn fresh ≡ roomIn memory
+-- what a book's minutes hold is in bytes where its memory is
+bytes-revised : (b : Book) (memory : Memory) → InBytes memory → Revised (ledgerIn b memory)
+bytes-revised b memory h m x e = omega (arith, h m, given b memory m x e .byte)
+
+again : (b : Book) (memory fresh : Memory) → Shaped b → InBytes memory → sound b ≡ true → bookCells b ≤ roomIn fresh → roomIn fresh ≡ roomIn memory
     → SameAgain b memory (fileOf (ledgerIn b memory)) (load (fileOf (ledgerIn b memory)) emptyBook fresh)
 unfolding File·theorem settleBook
-again b memory fresh s e h n =
+again b memory fresh s byte e h n =
     let g : Ledger = ledgerIn b memory in
     let l : LoadedFile = load (fileOf g) emptyBook fresh in
     let r : Reached (roomIn fresh) g = book-reached b memory (roomIn fresh) e h in
-    let w : Rewritten (roomIn fresh) g = rewritten (roomIn fresh) g r in
-    let taken : l .loaded .answer ≡ Taken = file-taken fresh g r in
+    let v : Revised g = bytes-revised b memory byte in
+    let w : Rewritten (roomIn fresh) g = rewritten (roomIn fresh) g r v in
+    let taken : l .loaded .answer ≡ Taken = file-taken fresh g r v in
     let a : Along fresh (written g) (l .loaded .book) (l .meter) =
-    subst (λ cs. Along fresh cs (l .loaded .book) (l .meter)) (file-commands (roomIn fresh) g r) (taken-along (fileOf g) fresh taken) in
+    subst (λ cs. Along fresh cs (l .loaded .book) (l .meter)) (file-commands (roomIn fresh) g r v) (taken-along (fileOf g) fresh taken) in
     let f : Follows (roomIn fresh) (written g) (l .loaded .book) (l .meter) = a .follows in
     let same : ledgerIn (l .loaded .book) (l .meter) ≡ g = f .ledger ∙ w .same in
-    let book : l .loaded .book ≡ b = same-book (l .loaded .book) b (l .meter) memory (f .shaped) s (f .sound) e same in
+    let book : l .loaded .book ≡ b = same-book (l .loaded .book) b (l .meter) memory (f .stands .shaped) s (f .stands .sound) e same in
     record {
       answer = taken;
       ended = file-right (fileOf g) fresh [] .ended taken;
       sameBook = book;
       sameReadings = λ m. ap (λ x. ledgerIn x (l .meter) .reading m) (sym book) ∙ ap (λ g. g .reading m) same;
-      sameSettlement = λ records. rw (f .sound, f .memory, same, n, e);
+      sameSettlement = λ records. rw (f .stands .sound, f .stands .memory, same, n, e);
     }
 
 pub round-trip : RoundTrip·theorem
 unfolding RoundTrip·theorem
-round-trip b memory fresh bytes s n e =
+round-trip b memory fresh bytes s byte n e =
     let w : Writable b memory bytes = writable b memory bytes e in
     subst⁻¹ (λ file. SameAgain b memory file (load file emptyBook fresh)) (w .file)
-    (again b memory fresh s (w .sound) (omega (arith, n, w .cells, cells-sound b memory (w .sound))) n)
+    (again b memory fresh s byte (w .sound) (omega (arith, n, w .cells, cells-sound b memory (w .sound))) n)

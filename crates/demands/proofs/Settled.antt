@@ -8,15 +8,15 @@ use mathlib.Core.Option.{Option, none, some, Option·none-ne-some}
 use Prim.Native.Nat.{ℕ, _≤_}
 use native.Mathlib.Omega.{arith}
 use borrow.Author.Tests.{ltb-false, le-ltb}
-use lib.IntN.{ℤ}
 use lib.Dec.{T}
 use lib.ListN.{length, drop, length-map}
 use lib.Seq.{take-append-seam, drop-append-seam}
 use Rattle.book_memory.specs.Meter.{Memory, roomIn}
 use Rattle.energy.specs.Lists.{all, isSome}
 use Rattle.energy.proofs.Tests.{of-T, T-and, and-T, off-not}
-use Rattle.commands.specs.Input.{lowest}
-use Rattle.rules.specs.Ledger.{Ledger, ledgerOf, cellsIn}
+use Rattle.commands.specs.Input.{firstMet}
+use Rattle.rules.specs.Ledger.{Ledger, Metered, ledgerOf, cellsIn}
+use Rattle.rules.specs.Reached.{Reached}
 use Rattle.rules.specs.Refusal.{answerOf}
 use Rattle.rules.specs.Segment.{needed, complete, segments}
 use Rattle.rules.specs.Statement.{lines, lineOf, statementOf, settleRefusal, settleConditions}
@@ -51,9 +51,9 @@ given : (g : Ledger) (m : ℕ) → T (isSome (g .reading m)) → Given g m
 unfolding isSome
 given g m t = go (g .reading m) refl t
   where
-    go : (o : Option ℤ) → g .reading m ≡ o → T (isSome o) → Given g m
+    go : (o : Option Metered) → g .reading m ≡ o → T (isSome o) → Given g m
     go none e t = absurd t
-    go (some z) e t = record { kw = z; read = e }
+    go (some x) e t = record { held = x; read = e }
 
 isGiven : (g : Ledger) (m : ℕ) → Given g m → T (isSome (g .reading m))
 unfolding isSome
@@ -87,7 +87,7 @@ settleable size room g e =
 
 -- and nowhere else, with the cells for the span
 not-refused : (size room : ℕ) (g : Ledger) → cellsIn g ≤ size → Settleable room g → settleRefusal false size room g ≡ none
-unfolding settleRefusal settleConditions lowest lines
+unfolding settleRefusal settleConditions firstMet lines
 not-refused size room g fits s =
     rw (
       le-ltb size (cellsIn g) fits,
@@ -145,4 +145,4 @@ pub settlement-right : {memory : Memory} {t : List Command} {b : Book} {m : Memo
     → SettlementRight (roomIn memory) t records (settleBook b m records)
 settlement-right {memory} {t} records a =
     subst⁻¹ (λ r. SettlementRight (roomIn memory) t records r) (settles a records)
-    (settled-right (roomIn memory) t records (cells-fit (a .follows .reached)))
+    (settled-right (roomIn memory) t records (cells-fit (subst (Reached (roomIn memory)) (a .follows .ledger) (a .follows .stands .reached))))

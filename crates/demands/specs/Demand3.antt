@@ -5,11 +5,10 @@ use mathlib.Core.Bool.{false}
 use mathlib.Core.List.{List, [], _∷_, _++_, map, List·Memᴰ}
 use mathlib.Core.Option.{some}
 use Prim.Native.Nat.{ℕ, _≤_}
-use lib.IntN.{ℤ}
 use lib.Dec.{T}
 use lib.ListN.{length, take, drop, getElem?}
 use Rattle.book_memory.specs.Meter.{Memory, roomIn}
-use Rattle.rules.specs.Ledger.{Ledger, ledgerOf}
+use Rattle.rules.specs.Ledger.{Ledger, Metered, ledgerOf}
 use Rattle.rules.specs.Refusal.{taken, answerOf}
 use Rattle.rules.specs.Segment.{needed}
 use Rattle.rules.specs.Statement.{lines, statementOf, settleRefusal}
@@ -29,10 +28,10 @@ use Rattle.demands.specs.Steps.{Step, enter, settle, entered, settled, s
 pub record Needed (g : Ledger) (m : ℕ) : Type 0 where
   pub minute : List·Memᴰ m (needed g)
 
--- minute m has a reading
+-- minute m has a reading, plain or sent again
 pub record Given (g : Ledger) (m : ℕ) : Type 0 where
-  pub kw : ℤ
-  pub read : g .reading m ≡ some kw
+  pub held : Metered
+  pub read : g .reading m ≡ some held
 
 -- a statement, the answer s with the lines ls that it counts, is right
 pub record StatementRight (g : Ledger) (s : Settlement) (ls : List Line) : Type 0 where
@@ -44,7 +43,7 @@ pub record StatementRight (g : Ledger) (s : Settlement) (ls : List Line) : Type 
   -- total capped energy and the total paid are within half a unit for each rounding of the exact sums
   pub halves : WithinHalves g (s .statement) ls
 
--- a settlement's outcome is right for the length of lent memory, the commands t taken before it and the line records lent to it
+-- a settlement's outcome is right for the room of lent memory, the commands t taken before it and the line records lent to it
 pub record SettlementRight (size : ℕ) (t : List Command) (records : List Line) (r : Settled) : Type 0 where
   -- its number is the one that the rules give, also where that is 24, 25 or 26
   pub number : r .settlement .answer ≡ answerOf (settleRefusal false size (length records) (ledgerOf t))
@@ -63,7 +62,7 @@ pub record SettlementRight (size : ℕ) (t : List Command) (records : List Line)
 abbrev pub takenBy : List ℕ → Memory → List Step → List Command
 takenBy file memory steps = taken (roomIn memory) (placeFrom file outset steps .commands)
 
--- for a unit file's bytes, lent memory of any length and contents, and a list of steps from the empty book
+-- for a unit file's bytes, lent memory, meter memory and revision memory each of any length and contents, and a list of steps from the empty book
 pub record Demand3 (file : List ℕ) (memory : Memory) (steps : List Step) : Type 0 where
   -- every step has the outcome that the rules give for the commands taken before it: a command entered, or read where the last read stopped, is
   -- taken or turned down under its number, and a settlement is answered

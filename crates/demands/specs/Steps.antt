@@ -59,7 +59,7 @@ pub record State : Type 0 where
   pub book : Book
   pub memory : Memory
 
--- the empty book, with the reader at the file's first byte and lent memory of any length and contents
+-- the empty book, with the reader at the file's first byte and lent memory of any lengths and contents
 abbrev pub start : Memory → State
 start memory = record { at = 0; book = emptyBook; memory = memory }
 
@@ -111,7 +111,7 @@ placeFrom file p (x ∷ xs) = placeFrom file (onwards p (callAt file (p .at) x))
 abbrev pub readsTo : List ℕ → ℕ → Place
 readsTo file n = placeFrom file outset (replicate n read)
 
--- what a call must be answered, for the length of lent memory and the commands t taken before it
+-- what a call must be answered, for the room of lent memory and the commands t taken before it
 abbrev pub ruled : ℕ → List Command → Call → Outcome
 ruled size t (command c next) = entered (answerOf (refusal false size (ledgerOf t) c))
 ruled size t (stop r) = stopped r

@@ -12,7 +12,8 @@ use Rattle.energy.proofs.Puts.{put-part, laid-long, laid-both}
 use Rattle.rules.specs.File.{table, widthsOf, total, bytesOf, byteOf, operandsOf, writeOperands, write}
 use Rattle.commands.specs.declared.entries.Command.{Command}
 use Rattle.commands.specs.declared.entries.Command.the-variants.{Contract as contractᶜ, Window as windowᶜ, Instruction as instructionᶜ}
-use Rattle.commands.specs.declared.entries.Command.the-variants.{Default as defaultᶜ, Reading as readingᶜ, Close as closeᶜ}
+use Rattle.commands.specs.declared.entries.Command.the-variants.{Default as defaultᶜ, Reading as readingᶜ, Revision as revisionᶜ}
+use Rattle.commands.specs.declared.entries.Command.the-variants.{Close as closeᶜ}
 use Rattle.file_table.specs.Table.{padded, tableRow, rowIn, rowFor}
 
 -- ---- operands as bytes
@@ -72,4 +73,5 @@ encoded (windowᶜ w) = record { bytes = refl; long = refl; parts = refl }
 encoded (instructionᶜ i) = record { bytes = refl; long = refl; parts = refl }
 encoded (defaultᶜ d) = record { bytes = refl; long = refl; parts = refl }
 encoded (readingᶜ r) = record { bytes = refl; long = refl; parts = refl }
+encoded (revisionᶜ v) = record { bytes = refl; long = refl; parts = refl }
 encoded closeᶜ = record { bytes = refl; long = refl; parts = refl }

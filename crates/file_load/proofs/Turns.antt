@@ -4,18 +4,14 @@ use mathlib.Core.Bool.{Bool, true, false, cond}
 use mathlib.Core.List.{List}
 use Prim.Native.Nat.{ℕ, zero, suc, _+_, _-_, _≤_, _<_}
 use native.Mathlib.Omega.{arith}
-use lib.ListN.{length, length-set}
+use lib.ListN.{length}
 use Rattle.rules.specs.File.{readAt}
 use Rattle.commands.specs.declared.entries.Command.{Command}
-use Rattle.commands.specs.declared.entries.Command.the-variants.{Reading as readingᶜ}
-use Rattle.commands.specs.Command.{always}
-use Rattle.commands.proofs.ByKind.{reading-or-not}
-use Rattle.commands.specs.declared.entries.Reading.{Reading}
 use Rattle.rules.specs.declared.answer.Answer.{Answer}
 use Rattle.rules.specs.declared.answer.Answer.the-variants.{Taken, Refused}
 use Rattle.rules.specs.declared.file.Read.{Read}
 use Rattle.rules.specs.declared.file.Read.the-variants.{Got, End, Refused as refusedʳ}
-use Rattle.book_memory.specs.Meter.{putMeter, takesReading, Memory, roomIn}
+use Rattle.book_memory.specs.Meter.{takesReading, Memory, roomIn}
 use Rattle.book.specs.Enter.{enterBook, Entered}
 use Rattle.book.specs.Readings.{openSpan}
 use Rattle.book.specs.Sound.{sound}

@@ -12,7 +12,7 @@ use Rattle.book.specs.Enter.{enterBook, Entered}
 use Rattle.book.specs.declared.Book.{Book}
 use Rattle.file_load.specs.declared.file.Loaded.{Loaded}
 
--- how entering ended, and meter memory then
+-- how entering ended, and lent memory then
 pub record LoadedFile : Type 0 where
   pub loaded : Loaded
   pub meter : Memory

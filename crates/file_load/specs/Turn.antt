@@ -12,7 +12,7 @@ use Rattle.book.specs.Enter.{enterBook}
 use Rattle.book.specs.declared.Book.{Book}
 use Rattle.file_load.specs.declared.file.Turn.{Turn}
 
--- the turn, and meter memory after it
+-- the turn, and lent memory after it
 pub record Turned : Type 0 where
   pub turn : Turn
   pub meter : Memory

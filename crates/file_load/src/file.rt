@@ -10,6 +10,7 @@ ghost use Rattle.file_load.specs.Load.{load as loadOf};
 ghost use Rattle.file_load.specs.Turn.{stopsAt, goesBy, turnAt};
 use book::Book;
 use book::Entry;
+use book_memory::room::room_of;
 use file_read::reader::read_from;
 use file_readings::take_readings;
 use rules::answer::Answer;
@@ -63,10 +64,10 @@ fn entered(e: Entry, at: usize, next: usize) -> Turn
 }
 
 // The command at a position, read by the reader and entered.
-fn read_and_enter(b: Book, s: &[u8], at: usize, meter: &mut [i32]) -> Turn
+fn read_and_enter(b: Book, s: &[u8], at: usize, meter: &mut [i32], revisions: &mut [u8]) -> Turn
     requires { ⌜ sound b ≡ true ⌝ }
-    ensures { λ r. ⌜ r ≡ turnAt (now (s .entry)) at b (lent (now (meter .entry))) .turn ⌝ }
-    ensures { λ r. ⌜ lent (now (meter .exit)) ≡ turnAt (now (s .entry)) at b (lent (now (meter .entry))) .meter ⌝ }
+    ensures { λ r. ⌜ r ≡ turnAt (now (s .entry)) at b (lent (now (meter .entry)) (now (revisions .entry))) .turn ⌝ }
+    ensures { λ r. ⌜ lent (now (meter .exit)) (now (revisions .exit)) ≡ turnAt (now (s .entry)) at b (lent (now (meter .entry)) (now (revisions .entry))) .meter ⌝ }
 {
     let step = read_from(s, at);
     let read = step.read;
@@ -74,7 +75,7 @@ fn read_and_enter(b: Book, s: &[u8], at: usize, meter: &mut [i32]) -> Turn
         Read::End => stopped(Answer::Taken, at, b),
         Read::Refused(n) => stopped(Answer::Refused(n), at, b),
         Read::Got(c, _) => {
-            let e = b.enter_known(c, meter);
+            let e = b.enter_known(c, meter, revisions);
             entered(e, at, step.at)
         }
     }
@@ -82,10 +83,10 @@ fn read_and_enter(b: Book, s: &[u8], at: usize, meter: &mut [i32]) -> Turn
 
 // All commands of a file, or of a piece of one, into a sound book. 11 is not asked again at each command: entering keeps the book sound.
 // Readings, of which a file has most, are taken without the book, by its open span, which is asked again after every other command.
-pub fn load(b: Book, s: &[u8], meter: &mut [i32]) -> Loaded
+pub fn load(b: Book, s: &[u8], meter: &mut [i32], revisions: &mut [u8]) -> Loaded
     requires { ⌜ sound b ≡ true ⌝ }
-    ensures { λ r. ⌜ (r ≡ loadOf (now (s .entry)) b (lent (now (meter .entry))) .loaded)
-        × (lent (now (meter .exit)) ≡ loadOf (now (s .entry)) b (lent (now (meter .entry))) .meter)
+    ensures { λ r. ⌜ (r ≡ loadOf (now (s .entry)) b (lent (now (meter .entry)) (now (revisions .entry))) .loaded)
+        × (lent (now (meter .exit)) (now (revisions .exit)) ≡ loadOf (now (s .entry)) b (lent (now (meter .entry)) (now (revisions .entry))) .meter)
         × (sound (r .book) ≡ true)
         × (r .at ≤ length (now (s .entry))) ⌝ }
 {
@@ -95,25 +96,25 @@ pub fn load(b: Book, s: &[u8], meter: &mut [i32]) -> Loaded
         book: b,
     };
     let mut going = true;
-    let mut span = b.open_span(meter.len());
+    let mut span = b.open_span(room_of(meter, revisions));
     while going {
         let book = l.book;
-        let at = take_readings(span, s, l.at, meter);
-        let t = read_and_enter(book, s, at, meter);
+        let at = take_readings(span, s, l.at, meter, revisions);
+        let t = read_and_enter(book, s, at, meter, revisions);
         going = t.going;
         let turned = t.loaded;
         l = turned;
         let after = l.book;
-        span = after.open_span(meter.len());
+        span = after.open_span(room_of(meter, revisions));
     }
     l
 }
 
 // All commands of a file into the empty book.
-pub fn load_file(s: &[u8], meter: &mut [i32]) -> Loaded
-    ensures { λ r. ⌜ (r ≡ loadOf (now (s .entry)) emptyBook (lent (now (meter .entry))) .loaded)
-        × (lent (now (meter .exit)) ≡ loadOf (now (s .entry)) emptyBook (lent (now (meter .entry))) .meter)
+pub fn load_file(s: &[u8], meter: &mut [i32], revisions: &mut [u8]) -> Loaded
+    ensures { λ r. ⌜ (r ≡ loadOf (now (s .entry)) emptyBook (lent (now (meter .entry)) (now (revisions .entry))) .loaded)
+        × (lent (now (meter .exit)) (now (revisions .exit)) ≡ loadOf (now (s .entry)) emptyBook (lent (now (meter .entry)) (now (revisions .entry))) .meter)
         × (sound (r .book) ≡ true) ⌝ }
 {
-    load(Book::empty(), s, meter)
+    load(Book::empty(), s, meter, revisions)
 }

@@ -4,6 +4,7 @@ use commands::entries::Command;
 use commands::entries::Default;
 use commands::entries::Instruction;
 use commands::entries::Reading;
+use commands::entries::Revision;
 use commands::entries::Window;
 use energy::units::Kw;
 use energy::units::Minutes;
@@ -12,11 +13,13 @@ use file_table::table::CONTRACT_BYTE;
 use file_table::table::DEFAULT_BYTE;
 use file_table::table::INSTRUCTION_BYTE;
 use file_table::table::READING_BYTE;
+use file_table::table::REVISION_BYTE;
 use file_table::table::WINDOW_BYTE;
 use rules::file::Read;
 ghost use mathlib.Core.Path.{_≡_};
+ghost use mathlib.Core.List.{[], _∷_};
 ghost use Prim.Native.Nat.{_<_, _^_};
-ghost use Rattle.rules.specs.File.{signedOf, contractFrom, windowFrom, instructionFrom, defaultFrom, readingFrom, commandOf, readAs};
+ghost use Rattle.rules.specs.File.{signedOf, contractFrom, windowFrom, instructionFrom, defaultFrom, readingFrom, revisionFrom, commandOf, readAs};
 ghost use Rattle.file_table.specs.Operands.{Sized};
 
 // The signed number of four bytes, two's complement.
@@ -92,15 +95,34 @@ fn default_of(v: [u64; 11]) -> Default
     }
 }
 
+// A reading from its minute and its kW: a revision has its number between them.
+fn reading_in(minute: u64, kw: u64) -> Reading
+    requires { ⌜ (minute < 2 ^ 16) × (kw < 2 ^ 32) ⌝ }
+    ensures { λ r. ⌜ r ≡ readingFrom (minute ∷ kw ∷ []) ⌝ }
+{
+    let minutes = Minutes(minute as u16);
+    let metered = Kw(signed(kw));
+    Reading {
+        minute: minutes,
+        kw: metered,
+    }
+}
+
 fn reading_of(v: [u64; 11]) -> Reading
     requires { ⌜ Sized 0x4D v ⌝ }
     ensures { λ r. ⌜ r ≡ readingFrom v ⌝ }
 {
-    let minute = Minutes(v[0] as u16);
-    let kw = Kw(signed(v[1]));
-    Reading {
-        minute: minute,
-        kw: kw,
+    reading_in(v[0], v[1])
+}
+
+fn revision_of(v: [u64; 11]) -> Revision
+    requires { ⌜ Sized 0x52 v ⌝ }
+    ensures { λ r. ⌜ r ≡ revisionFrom v ⌝ }
+{
+    let reading = reading_in(v[0], v[2]);
+    Revision {
+        number: v[1] as u8,
+        reading: reading,
     }
 }
 
@@ -115,6 +137,7 @@ pub fn command_of(byte: u8, v: [u64; 11], next: usize) -> Read
         INSTRUCTION_BYTE => Read::Got(Command::Instruction(instruction_of(v)), next),
         DEFAULT_BYTE => Read::Got(Command::Default(default_of(v)), next),
         READING_BYTE => Read::Got(Command::Reading(reading_of(v)), next),
+        REVISION_BYTE => Read::Got(Command::Revision(revision_of(v)), next),
         CLOSE_BYTE => Read::Got(Command::Close, next),
         0x00..=0xFF => Read::Refused(1),
     }

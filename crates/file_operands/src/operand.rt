@@ -7,6 +7,7 @@ use file_table::table::CONTRACT_BYTE;
 use file_table::table::DEFAULT_BYTE;
 use file_table::table::INSTRUCTION_BYTE;
 use file_table::table::READING_BYTE;
+use file_table::table::REVISION_BYTE;
 use file_table::table::WINDOW_BYTE;
 ghost use mathlib.Core.Path.{_≡_};
 ghost use mathlib.Core.List.{[], _∷_};
@@ -24,6 +25,7 @@ pub fn byte_of(command: Command) -> u8
         Command::Instruction(_) => INSTRUCTION_BYTE,
         Command::Default(_) => DEFAULT_BYTE,
         Command::Reading(_) => READING_BYTE,
+        Command::Revision(_) => REVISION_BYTE,
         Command::Close => CLOSE_BYTE,
     }
 }
@@ -92,6 +94,12 @@ pub fn operands_of(command: Command) -> [u64; 11]
             let minute = r.minute;
             let kw = r.kw;
             places(minute.0 as u64, unsigned(kw.0), 0)
+        }
+        Command::Revision(v) => {
+            let reading = v.reading;
+            let minute = reading.minute;
+            let kw = reading.kw;
+            places(minute.0 as u64, v.number as u64, unsigned(kw.0))
         }
         Command::Close => places(0, 0, 0),
     }

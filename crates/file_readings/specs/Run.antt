@@ -1,21 +1,28 @@
--- Inner, and proved equal to the rules: readings taken one after the other from a position of a unit file into meter memory, without the book.
+-- Inner, and proved equal to the rules: readings taken one after the other from a position of a unit file into lent memory, without the book.
 use mathlib.Core.Path.{_≡_}
 use mathlib.Core.Bool.{Bool, cond, _&&_}
 use mathlib.Core.List.{List}
+use mathlib.Core.Option.{Option, none, some}
 use Prim.Native.Nat.{ℕ, zero, suc, _-_, _≤_}
+use lib.IntN.{ℤ}
 use lib.Dec.{eqb, leb, ltb}
 use lib.ListN.{length, getD}
+use Rattle.commands.specs.Input.{isReading}
 use Rattle.rules.specs.File.{readAt}
 use Rattle.rules.specs.declared.file.Read.{Read}
 use Rattle.rules.specs.declared.file.Read.the-variants.{Got, End, Refused as refusedʳ}
 use Rattle.book_memory.specs.Meter.{putMeter, takesReading, Memory}
 
--- where reading stands in a file, and meter memory then
+-- a kW, where it is in a reading's range
+abbrev pub ranged : ℤ → Option ℤ
+ranged z = cond (isReading z) (some z) none
+
+-- where reading stands in a file, and lent memory then
 pub record Stand : Type 0 where
   pub at : ℕ
   pub meter : Memory
 
--- a reading that is taken in the span goes into meter memory; whatever else was read is left for the book
+-- a reading that is taken in the span goes into lent memory; whatever else was read is left for the book
 abbrev pub standBy : ℕ → ℕ → Memory → Read → Stand
 standBy span at meter (Got c next) = cond (takesReading span meter c) (record { at = next; meter = putMeter meter c }) (record { at = at; meter = meter })
 standBy span at meter (refusedʳ n) = record { at = at; meter = meter }
@@ -27,16 +34,20 @@ standAt span s at meter = standBy span at meter (readAt s at)
 
 -- ---- many of them
 
+-- how long a reading is that starts with a byte: a plain one, or one sent again; 0 where none does
+unfoldable pub readingLength : ℕ → ℕ
+readingLength b = cond (eqb b 0x4D) 7 (cond (eqb b 0x52) 8 0)
+
 -- a whole reading stands at a position
 unfoldable pub wholeReading : List ℕ → ℕ → Bool
-wholeReading s at = ltb at (length s) && eqb (getD s at 0) 0x4D && leb 7 (length s - at)
+wholeReading s at = ltb at (length s) && (ltb 0 (readingLength (getD s at 0)) && leb (readingLength (getD s at 0)) (length s - at))
 
 -- so many positions on
 unfoldable pub stands : ℕ → ℕ → List ℕ → Stand → Stand
 stands zero span s x = x
 stands (suc n) span s x = standAt span s (stands n span s x .at) (stands n span s x .meter)
 
--- from a position and meter memory to others, reading by reading
+-- from a position and lent memory to others, reading by reading
 pub record Run (span : ℕ) (s : List ℕ) (at : ℕ) (meter : Memory) (next : ℕ) (after : Memory) : Type 0 where
   pub turns : ℕ
   pub reached : stands turns span s (record { at = at; meter = meter }) ≡ record { at = next; meter = after }

@@ -13,14 +13,21 @@ pub const DEFAULT_BYTE: u8 = 0x44;
 
 pub const READING_BYTE: u8 = 0x4D;
 
+pub const REVISION_BYTE: u8 = 0x52;
+
 pub const CLOSE_BYTE: u8 = 0x5A;
 
-// What a reading's row says, for `file_readings`, which takes readings by widths that the compiler knows: those of its minute and its kW, and its length.
+// What the rows of a reading and of a revision say, for `file_readings`, which takes both by widths that the compiler knows: those of minute, number
+// and kW, and their lengths.
 pub const MINUTE_WIDTH: u8 = 2;
+
+pub const NUMBER_WIDTH: u8 = 1;
 
 pub const KW_WIDTH: u8 = 4;
 
 pub const READING_LENGTH: u8 = 7;
+
+pub const REVISION_LENGTH: u8 = 8;
 
 // A command in the table.
 pub struct Row {
@@ -32,7 +39,7 @@ pub struct Row {
     pub widths: [u8; 11],
 }
 
-const TABLE: [Row; 6] = [
+const TABLE: [Row; 7] = [
     Row {
         byte: CONTRACT_BYTE,
         length: 32,
@@ -64,6 +71,12 @@ const TABLE: [Row; 6] = [
         widths: [MINUTE_WIDTH, KW_WIDTH, 0, 0, 0, 0, 0, 0, 0, 0, 0],
     },
     Row {
+        byte: REVISION_BYTE,
+        length: REVISION_LENGTH,
+        count: 3,
+        widths: [MINUTE_WIDTH, NUMBER_WIDTH, KW_WIDTH, 0, 0, 0, 0, 0, 0, 0, 0],
+    },
+    Row {
         byte: CLOSE_BYTE,
         length: 1,
         count: 0,
@@ -80,7 +93,7 @@ const MISSING: Row = Row {
 };
 
 fn row_at(place: usize) -> Row
-    requires { ⌜ place < 6 ⌝ }
+    requires { ⌜ place < 7 ⌝ }
     ensures { λ r. ⌜ r ≡ tableRow (layoutAt place) ⌝ }
 {
     TABLE[place]
@@ -91,7 +104,7 @@ pub fn row_of(byte: u8) -> Row
     ensures { λ r. ⌜ r ≡ rowFor byte ⌝ }
 {
     let mut place: usize = 0;
-    while place < 6 {
+    while place < 7 {
         let row = row_at(place);
         if row.byte == byte {
             return row;

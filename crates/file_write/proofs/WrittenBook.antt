@@ -9,12 +9,12 @@ use native.Mathlib.Omega.{arith}
 use borrow.Author.Tests.{lt-ltb, le-ltb}
 use lib.ListN.{length, length-map}
 use Rattle.energy.specs.Lists.{concatMap, run, between, putAt}
-use Rattle.commands.specs.Input.{lowest, mostMinute}
+use Rattle.commands.specs.Input.{firstMet, mostMinute}
 use Rattle.rules.specs.File.{readingAt, written, fileOf}
 use Rattle.commands.specs.declared.contract.Contract.{Contract}
 use Rattle.rules.specs.declared.answer.Answer.the-variants.{Taken, Refused}
 use Rattle.commands.specs.declared.entries.Command.the-variants.{Contract as contractᶜ, Window as windowᶜ, Instruction as instructionᶜ, Default as defaultᶜ}
-use Rattle.book_memory.specs.Meter.{cellReading, Memory, roomIn, kwAt}
+use Rattle.book_memory.specs.Meter.{Memory, roomIn, meteredAt}
 use Rattle.book.specs.Book.{bookSpan, bookCells, ledgerIn}
 use Rattle.book.specs.Sound.{sound, Shaped}
 use Rattle.book.specs.declared.Book.{Book}
@@ -67,7 +67,7 @@ readings-part : (b : Book) (meter : Memory) → concatMap (λ m. readingAt (ledg
 unfolding between ledgerIn readings
 readings-part b meter =
     concatMap-ext _ _ (bookSpan b - 0) 0
-    (λ m h. ap (λ (inside : Bool). readingAt (cond inside (cellReading (kwAt meter m)) none) m) (lt-ltb m (bookSpan b) (omega arith)))
+    (λ m h. ap (λ (inside : Bool). readingAt (cond inside (meteredAt meter m) none) m) (lt-ltb m (bookSpan b) (omega arith)))
 
 file-is : (b : Book) (meter : Memory) → sound b ≡ true → fileOf (ledgerIn b meter) ≡ fileBytes (parts b meter)
 unfolding fileOf written parts
@@ -92,17 +92,17 @@ abbrev no : ℕ → Written
 no n = record { answer = Refused n; size = 0 }
 
 pub refused-11 : (b : Book) (meter : Memory) (memory : List ℕ) → sound b ≡ false → Gives b meter memory (no 11) memory
-unfolding writeBook writeConditions lowest
+unfolding writeBook writeConditions firstMet
 refused-11 b meter memory e = rw e (refl, refl)
 
 module _ (b : Book) (meter : Memory) (memory : List ℕ) (e : sound b ≡ true) where
   pub refused-15 : roomIn meter < bookCells b → Gives b meter memory (no 15) memory
-  unfolding writeBook writeConditions lowest
+  unfolding writeBook writeConditions firstMet
   refused-15 h = rw (e, cells-sound b meter e, lt-ltb (roomIn meter) (bookCells b) h) (refl, refl)
 
   module _ (h : bookCells b ≤ roomIn meter) where
     pub refused-26 : length memory < length (fileBytes (parts b meter)) → Gives b meter memory (no 26) memory
-    unfolding writeBook writeConditions lowest
+    unfolding writeBook writeConditions firstMet
     refused-26 short =
         rw (
           e,
@@ -114,7 +114,7 @@ module _ (b : Book) (meter : Memory) (memory : List ℕ) (e : sound b ≡ true) 
 
     pub written-whole : length (fileBytes (parts b meter)) ≤ length memory → {after : List ℕ} {next : ℕ} → Laid (parts b meter) memory 0 after next
         → Gives b meter memory (record { answer = Taken; size = next }) after
-    unfolding writeBook writeConditions lowest putAt
+    unfolding writeBook writeConditions firstMet putAt
     written-whole long {after} {next} l =
         let file : fileBytes (parts b meter) ≡ fileOf (ledgerIn b meter) = sym (file-is b meter e) in
         rw (

@@ -13,15 +13,16 @@ use lib.Seq.{take-suc, length-take-le}
 use Rattle.energy.specs.Lists.{concatMap, run, between}
 use Rattle.energy.proofs.Sums.{between-snoc}
 use Rattle.book.specs.Book.{bookSpan}
+use Rattle.commands.specs.Command.{revisedAs}
 use Rattle.commands.specs.Input.{isReading, mostMinute}
 use Rattle.rules.specs.File.{table, widthsOf, total, write, readingAt}
-use Rattle.commands.specs.declared.entries.Reading.{Reading}
 use Rattle.commands.specs.declared.entries.Command.{Command}
 use Rattle.commands.specs.declared.entries.Command.the-variants.{Contract as contractᶜ, Window as windowᶜ, Instruction as instructionᶜ}
-use Rattle.commands.specs.declared.entries.Command.the-variants.{Default as defaultᶜ, Reading as readingᶜ, Close as closeᶜ}
+use Rattle.commands.specs.declared.entries.Command.the-variants.{Default as defaultᶜ, Reading as readingᶜ, Revision as revisionᶜ}
+use Rattle.commands.specs.declared.entries.Command.the-variants.{Close as closeᶜ}
 use Rattle.rules.proofs.Operands.{write-long}
 use Rattle.rules.proofs.Taken.{concatMap-append}
-use Rattle.book_memory.specs.Meter.{cellReading, Memory, kwAt}
+use Rattle.book_memory.specs.Meter.{Memory, cellReading, kwAt, revisionAt, meteredAt}
 use Rattle.book.specs.declared.Book.{Book}
 use Rattle.rules.proofs.Lists.{getD-within}
 use Rattle.file_write.specs.Laid.{fileBytes, placesIn, usedIn, entries, readings, parts, Tabled}
@@ -38,6 +39,7 @@ write-short (windowᶜ w) = omega (arith, write-long (windowᶜ w))
 write-short (instructionᶜ i) = omega (arith, write-long (instructionᶜ i))
 write-short (defaultᶜ d) = omega (arith, write-long (defaultᶜ d))
 write-short (readingᶜ r) = omega (arith, write-long (readingᶜ r))
+write-short (revisionᶜ v) = omega (arith, write-long (revisionᶜ v))
 write-short closeᶜ = omega (arith, write-long closeᶜ)
 
 pub bytes-short : (cs : List Command) → length (fileBytes cs) ≤ 32 * length cs
@@ -88,17 +90,6 @@ entries-turns places n few = record { more = λ i h. rw (add-one i, take-suc pla
 
 -- ---- the readings
 
--- the kW of a cell as a command, and whether the cell holds it
-abbrev reading : ℤ → ℕ → Command
-reading z m = readingᶜ (record { minute = record { 0 = m }; kw = record { 0 = z } })
-
-pub cell-command : (z : ℤ) (m : ℕ) → readingAt (cellReading z) m ≡ cond (isReading z) (reading z m ∷ []) []
-cell-command z m = go (isReading z)
-  where
-    go : (b : Bool) → readingAt (cond b (some z) none) m ≡ cond b (reading z m ∷ []) []
-    go true = refl
-    go false = refl
-
 -- a command that may be left out
 pub once-most : (holds : Bool) → cond holds 1 0 ≤ 1
 once-most true = le-refl 1
@@ -108,21 +99,32 @@ once-count : (holds : Bool) (c : Command) → length (cond holds (c ∷ []) []) 
 once-count true c = refl
 once-count false c = refl
 
+once-short : (holds : Bool) (c : Command) → length (fileBytes (cond holds (c ∷ []) [])) ≤ 32
+once-short holds c = omega (arith, bytes-short (cond holds (c ∷ []) []), once-count holds c, once-most holds)
+
 pub once-length : {n long : ℕ} (holds : Bool) (c : Command) → n ≡ cond holds 1 0 → long ≡ n * length (write c)
     → long ≡ length (fileBytes (cond holds (c ∷ []) []))
 unfolding concatMap
 once-length true c e f = f ∙ rw (e, one-mul) (sym (ap length (bytes-one c)))
 once-length false c e f = f ∙ rw (e, zero-mul)
 
-cell-length : (z : ℤ) (m : ℕ) → length (fileBytes (readingAt (cellReading z) m)) ≡ length (readingAt (cellReading z) m) * 7
-unfolding table widthsOf total
-cell-length z m =
-    rw (cell-command z m, once-count (isReading z) (reading z m))
-    (sym (once-length (isReading z) (reading z m) refl refl) ∙ rw (write-long (reading z m)))
+-- a cell's kW and its byte as a command, and whether the cell holds it
+abbrev reading : ℤ → ℕ → ℕ → Command
+reading z n m = revisedAs n (record { minute = record { 0 = m }; kw = record { 0 = z } })
+
+pub cell-command : (z : ℤ) (n m : ℕ) → readingAt (cellReading z n) m ≡ cond (isReading z) (reading z n m ∷ []) []
+cell-command z n m = go (isReading z)
+  where
+    go : (b : Bool) → readingAt (cond b (some (record { kw = z; revision = n })) none) m ≡ cond b (reading z n m ∷ []) []
+    go true = refl
+    go false = refl
+
+pub cell-short : (z : ℤ) (n m : ℕ) → length (fileBytes (readingAt (cellReading z n) m)) ≤ 32
+cell-short z n m = rw (cell-command z n m) (once-short (isReading z) (reading z n m))
 
 module _ (meter : Memory) where
   abbrev turn : ℕ → List Command
-  turn m = readingAt (cellReading (kwAt meter m)) m
+  turn m = readingAt (meteredAt meter m) m
 
   pub readings-turns : (n : ℕ) → Turns (readings meter) turn n
   unfolding readings concatMap
@@ -133,32 +135,18 @@ module _ (meter : Memory) where
   unfolding readings concatMap between run
   readings-none = refl
 
-  pub readings-count : (m : ℕ) → length (readings meter (m + 1)) ≡ length (readings meter m) + cond (isReading (kwAt meter m)) 1 0
-  readings-count m =
-      ap length (readings-turns (m + 1) .more m (omega arith)) ∙ length-append (readings meter m) (turn m)
-      ∙ ap (λ n. length (readings meter m) + n)
-      (rw (cell-command (kwAt meter m) m) (once-count (isReading (kwAt meter m)) (reading (kwAt meter m) m)))
+  -- a minute more, in bytes
+  pub readings-longer : (m : ℕ) → length (fileBytes (readings meter (m + 1))) ≡ length (fileBytes (readings meter m)) + length (fileBytes (turn m))
+  readings-longer m =
+      ap (λ cs. length (fileBytes cs)) (readings-turns (m + 1) .more m (omega arith)) ∙ length-both (readings meter m) (turn m)
 
-  pub readings-few : (n : ℕ) → length (readings meter n) ≤ n
-  readings-few zero = rw readings-none (le-refl 0)
-  readings-few (suc n) = rw (← add-one n) (omega (arith, readings-few n, readings-count n, once-most (isReading (kwAt meter n))))
-
-  sevens : (n : ℕ) → length (fileBytes (readings meter n)) ≡ length (readings meter n) * 7
+  pub readings-short : (n : ℕ) → length (fileBytes (readings meter n)) ≤ 32 * n
   unfolding concatMap
-  sevens zero = rw readings-none
-  sevens (suc n) =
-      rw (← add-one n, readings-turns (n + 1) .more n (omega arith))
-      (omega (arith, length-both (readings meter n) (turn n), length-append (readings meter n) (turn n), sevens n, cell-length (kwAt meter n) n))
-
-  pub readings-length : {n span long : ℕ} (r : Reading) (k : ℕ) → span ≡ k → n ≡ length (readings meter span) → long ≡ n * length (write (readingᶜ r))
-      → long ≡ length (fileBytes (readings meter k))
-  unfolding table widthsOf total
-  readings-length r k e f g = g ∙ rw (f, e, write-long (readingᶜ r)) (sym (sevens k))
+  readings-short zero = rw readings-none (le-refl 0)
+  readings-short (suc n) =
+      rw (← add-one n) (omega (arith, readings-short n, readings-longer n, cell-short (kwAt meter n) (revisionAt meter n) n))
 
 -- ---- all of them
-
-once-short : (holds : Bool) (c : Command) → length (fileBytes (cond holds (c ∷ []) [])) ≤ 32
-once-short holds c = omega (arith, bytes-short (cond holds (c ∷ []) []), once-count holds c, once-most holds)
 
 module _ (b : Book) (meter : Memory) where
   -- the length of the whole is that of the parts
@@ -181,8 +169,7 @@ module _ (b : Book) (meter : Memory) where
         entries-short b Windows (tables Windows),
         entries-short b Instructions (tables Instructions),
         entries-short b Defaults (tables Defaults),
-        bytes-short (readings meter (bookSpan b)),
-        readings-few meter (bookSpan b),
+        readings-short meter (bookSpan b),
         once-short (b .closed) closeᶜ,
       )
 

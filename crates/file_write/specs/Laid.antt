@@ -10,7 +10,7 @@ use Rattle.rules.specs.File.{write, readingAt}
 use Rattle.commands.specs.declared.entries.Command.{Command}
 use Rattle.commands.specs.declared.entries.Command.the-variants.{Contract as contractᶜ, Window as windowᶜ, Instruction as instructionᶜ}
 use Rattle.commands.specs.declared.entries.Command.the-variants.{Default as defaultᶜ, Close as closeᶜ}
-use Rattle.book_memory.specs.Meter.{cellReading, Memory, kwAt}
+use Rattle.book_memory.specs.Meter.{Memory, meteredAt}
 use Rattle.book.specs.Book.{bookSpan}
 use Rattle.book.specs.declared.Book.{Book}
 use Rattle.file_write.specs.declared.entries.Table.{Table}
@@ -48,7 +48,7 @@ entries b t = take (usedIn b t) (placesIn b t)
 
 -- the readings of the first minutes, by rising minute
 unfoldable pub readings : Memory → ℕ → List Command
-readings meter span = concatMap (λ m. readingAt (cellReading (kwAt meter m)) m) (between 0 span)
+readings meter span = concatMap (λ m. readingAt (meteredAt meter m) m) (between 0 span)
 
 -- what a book that commands leave is written as, table by table
 unfoldable pub parts : Book → Memory → List Command
@@ -65,7 +65,7 @@ pub record Tabled (b : Book) (t : Table) : Type 0 where
   pub most : length (placesIn b t) ≤ 128
   pub few : usedIn b t ≤ length (placesIn b t)
 
--- a book's counts are within its tables, and its span within a month and within meter memory of a length
+-- a book's counts are within its tables, and its span within a month and within lent memory with so much room
 pub record Kept (b : Book) (size : ℕ) : Type 0 where
   pub windows : b .nwindows ≤ 128
   pub instructions : b .ninstructions ≤ 64

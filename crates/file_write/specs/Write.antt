@@ -5,7 +5,7 @@ use mathlib.Core.Option.{Option, none, some}
 use Prim.Native.Nat.{ℕ}
 use lib.ListN.{length, drop}
 use Rattle.book_memory.specs.Meter.{Memory, roomIn}
-use Rattle.commands.specs.Input.{lowest}
+use Rattle.commands.specs.Input.{firstMet}
 use Rattle.rules.specs.Ledger.{Ledger}
 use Rattle.rules.specs.Refusal.{answerOf}
 use Rattle.rules.specs.File.{fileOf}
@@ -32,4 +32,4 @@ writtenBy (some n) g memory = record { written = record { answer = answerOf (som
 -- writing a book
 unfoldable pub writeBook : Book → Memory → List ℕ → WrittenBytes
 writeBook b meter memory =
-    writtenBy (lowest (writeConditions (not (sound b)) (roomIn meter) (length memory) (ledgerIn b meter))) (ledgerIn b meter) memory
+    writtenBy (firstMet (writeConditions (not (sound b)) (roomIn meter) (length memory) (ledgerIn b meter))) (ledgerIn b meter) memory

@@ -8,12 +8,11 @@ ghost use Rattle.book_memory.specs.Meter.{cellReading, lent, roomIn};
 ghost use Rattle.file_write.specs.Laid.{Room, Laid, entries, Tabled, readings, parts, Kept};
 use crate::entries::Table;
 use crate::entries::entry;
+use crate::entries::reading_of;
 use crate::entries::used;
 use book::Book;
 use book_memory::holds_reading;
 use commands::entries::Command;
-use commands::entries::Reading;
-use energy::units::Kw;
 use energy::units::Minutes;
 use file_encode::write_at;
 
@@ -52,42 +51,39 @@ fn put_table(b: Book, table: Table, out: &mut [u8], at: usize) -> usize
 }
 
 // The reading of a minute, if its cell holds one.
-fn put_cell(minute: Minutes, cell: i32, out: &mut [u8], at: usize) -> usize
-    requires { ⌜ Room (readingAt (cellReading cell) (minute .0)) (now out) at ⌝ }
-    ensures { λ r. ⌜ Laid (readingAt (cellReading cell) (minute .0)) (now (out .entry)) at (now (out .exit)) r ⌝ }
+fn put_cell(minute: Minutes, cell: i32, byte: u8, out: &mut [u8], at: usize) -> usize
+    requires { ⌜ Room (readingAt (cellReading cell byte) (minute .0)) (now out) at ⌝ }
+    ensures { λ r. ⌜ Laid (readingAt (cellReading cell byte) (minute .0)) (now (out .entry)) at (now (out .exit)) r ⌝ }
 {
-    let reading = Reading {
-        minute: minute,
-        kw: Kw(cell as i64),
-    };
-    put_if(holds_reading(cell), Command::Reading(reading), out, at)
+    put_if(holds_reading(cell), reading_of(minute, cell, byte), out, at)
 }
 
 // The readings of the first minutes, by rising minute.
-fn put_readings(meter: &[i32], span: usize, out: &mut [u8], at: usize) -> usize
-    requires { ⌜ (span ≤ roomIn (lent (now meter))) × (span ≤ mostMinute) × Room (readings (lent (now meter)) span) (now out) at ⌝ }
-    ensures { λ r. ⌜ Laid (readings (lent (now (meter .entry))) span) (now (out .entry)) at (now (out .exit)) r ⌝ }
+fn put_readings(meter: &[i32], revisions: &[u8], span: usize, out: &mut [u8], at: usize) -> usize
+    requires { ⌜ (span ≤ roomIn (lent (now meter) (now revisions))) × (span ≤ mostMinute)
+        × Room (readings (lent (now meter) (now revisions)) span) (now out) at ⌝ }
+    ensures { λ r. ⌜ Laid (readings (lent (now (meter .entry)) (now (revisions .entry))) span) (now (out .entry)) at (now (out .exit)) r ⌝ }
 {
     let mut place = at;
     let mut m: usize = 0;
     while m < span {
         let minute = Minutes(m as u16);
-        place = put_cell(minute, meter[m], out, place);
+        place = put_cell(minute, meter[m], revisions[m], out, place);
         m += 1;
     }
     place
 }
 
 // A book's file from the first byte on; its length. Each name is the position where that part starts.
-pub(crate) fn put_book(b: Book, meter: &[i32], out: &mut [u8]) -> usize
-    requires { ⌜ Kept b (roomIn (lent (now meter))) × Room (parts b (lent (now meter))) (now out) 0 ⌝ }
-    ensures { λ r. ⌜ Laid (parts b (lent (now (meter .entry)))) (now (out .entry)) 0 (now (out .exit)) r ⌝ }
+pub(crate) fn put_book(b: Book, meter: &[i32], revisions: &[u8], out: &mut [u8]) -> usize
+    requires { ⌜ Kept b (roomIn (lent (now meter) (now revisions))) × Room (parts b (lent (now meter) (now revisions))) (now out) 0 ⌝ }
+    ensures { λ r. ⌜ Laid (parts b (lent (now (meter .entry)) (now (revisions .entry)))) (now (out .entry)) 0 (now (out .exit)) r ⌝ }
 {
     let k = b.contract;
     let windows = put_if(b.agreed, Command::Contract(k), out, 0);
     let instructions = put_table(b, Table::Windows, out, windows);
     let defaults = put_table(b, Table::Instructions, out, instructions);
     let readings = put_table(b, Table::Defaults, out, defaults);
-    let close = put_readings(meter, b.span(), out, readings);
+    let close = put_readings(meter, revisions, b.span(), out, readings);
     put_if(b.closed, Command::Close, out, close)
 }

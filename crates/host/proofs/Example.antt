@@ -2,6 +2,7 @@
 use mathlib.Core.Path.{refl}
 use Rattle.rules.specs.Reached.{windowsSound, instructionsSound, agreedTests}
 use Rattle.rules.proofs.Definitions.{opened}
+use Rattle.book_memory.specs.Meter.{roomIn}
 use Rattle.book.specs.Book.{bookSpan, bookCells, ledgerIn}
 use Rattle.book.specs.Sound.{noContractTests, emptyTests, tableTests, sound}
 use Rattle.settle_numbers.specs.Numbers.{numbersOf, numberBook}
@@ -22,5 +23,5 @@ unfolding contractOfRow windowOfRow instructionOfRow defaultOfRow entriesOf book
 numbers = tt
 
 pub example : Example
-unfolding opened books numbers settleInto settleTables
-example = record { settled = refl; fewLines = refl; fewSums = refl; unread = refl; fewMinutes = refl; cutShort = refl }
+unfolding opened books numbers roomIn settleInto settleTables
+example = record { settled = refl; fewLines = refl; fewSums = refl; unread = refl; fewMinutes = refl; fewBytes = refl; cutShort = refl }

@@ -15,7 +15,7 @@ use Rattle.file_write.specs.Write.{WrittenBytes, writeBook}
 
 -- ---- a file entered
 
--- the answer, and meter memory after it
+-- the answer, and meter and revision memory after it
 pub record EnteredFile : Type 0 where
   pub answer : ℕ
   pub meter : Memory
@@ -38,7 +38,7 @@ settleTables t meter lines sums = cond (entire t) (settleInto (bookOf t) meter l
 
 -- ---- a file entered and settled
 
--- the answer, and meter, line and sum memory after it
+-- the answer, and meter and revision, line and sum memory after it
 pub record SettledFile : Type 0 where
   pub answer : ℕ
   pub meter : Memory
@@ -83,7 +83,7 @@ writeTables t meter file =
 
 -- ---- a file entered and written
 
--- the answer, meter memory after it, and the bytes lent for the file that is written
+-- the answer, meter and revision memory after it, and the bytes lent for the file that is written
 pub record RewrittenFile : Type 0 where
   pub answer : ℕ
   pub meter : Memory

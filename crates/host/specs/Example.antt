@@ -24,9 +24,9 @@ abbrev pub meteredMw : List ℕ
 meteredMw =
     (0 ∷ 2 ∷ 4 ∷ 6 ∷ 8 ∷ 10 ∷ 12 ∷ 12 ∷ 12 ∷ 12 ∷ 13 ∷ []) ++ times 15 (10 ∷ 13 ∷ []) ++ times 25 (13 ∷ []) ++ (13 ∷ 11 ∷ 9 ∷ 7 ∷ 5 ∷ 3 ∷ [])
 
--- a day of meter memory with these, and 0 in every other minute
+-- a day of lent memory with these, and 0 in every other minute, all sent nine times
 abbrev pub exampleDay : Memory
-exampleDay = lent (replicate 19 (pos 0) ++ map (λ x. pos (1000 * x)) meteredMw ++ replicate 1349 (pos 0))
+exampleDay = lent (replicate 19 (pos 0) ++ map (λ x. pos (1000 * x)) meteredMw ++ replicate 1349 (pos 0)) (replicate 1440 9)
 
 -- memory of so many numbers, all 7
 abbrev pub sevens : ℕ → List ℤ
@@ -52,7 +52,8 @@ pub record Example : Type 0 where
   -- a number too few of either
   pub fewLines : settleTables appendix exampleDay (sevens 47) (sevens 262) ≡ settledBook 26 (sevens 47) (sevens 262)
   pub fewSums : settleTables appendix exampleDay (sevens 48) (sevens 261) ≡ settledBook 26 (sevens 48) (sevens 261)
-  -- too few sums, and something before it: no readings, meter memory a minute short, a row cut short
-  pub unread : settleTables appendix (lent (replicate 1440 missing)) (sevens 48) (sevens 261) ≡ settledBook 25 (sevens 48) (sevens 261)
-  pub fewMinutes : settleTables appendix (lent (replicate 1439 (pos 0))) (sevens 48) (sevens 261) ≡ settledBook 15 (sevens 48) (sevens 261)
+  -- too few sums, and something before it: no readings, meter or revision memory a minute short, a row cut short
+  pub unread : settleTables appendix (lent (replicate 1440 missing) (replicate 1440 9)) (sevens 48) (sevens 261) ≡ settledBook 25 (sevens 48) (sevens 261)
+  pub fewMinutes : settleTables appendix (lent (replicate 1439 (pos 0)) (replicate 1440 9)) (sevens 48) (sevens 261) ≡ settledBook 15 (sevens 48) (sevens 261)
+  pub fewBytes : settleTables appendix (lent (replicate 1440 (pos 0)) (replicate 1439 9)) (sevens 48) (sevens 261) ≡ settledBook 15 (sevens 48) (sevens 261)
   pub cutShort : settleTables cut exampleDay (sevens 48) (sevens 261) ≡ settledBook 11 (sevens 48) (sevens 261)

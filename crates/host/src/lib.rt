@@ -18,12 +18,12 @@ use rules::answer::Answer;
 
 // Enters a whole unit file. The answer is the refusal's number, or 0, and 256 times the offset of the refused command, or the file's length.
 #[no_mangle]
-pub extern "C" fn stor_enter_file(file: &[u8], meter: &mut [i32]) -> u64
+pub extern "C" fn stor_enter_file(file: &[u8], meter: &mut [i32], revisions: &mut [u8]) -> u64
     ensures { λ r.
-        ⌜ enteredFile r (lent (now (meter .exit)))
-        ≡ enterFile (now (file .entry)) (lent (now (meter .entry))) ⌝ }
+        ⌜ enteredFile r (lent (now (meter .exit)) (now (revisions .exit)))
+        ≡ enterFile (now (file .entry)) (lent (now (meter .entry)) (now (revisions .entry))) ⌝ }
 {
-    let l = load_file(file, meter);
+    let l = load_file(file, meter, revisions);
     let answer = l.answer;
     let number = number_of(answer);
     pack(number, l.at)
@@ -34,20 +34,21 @@ pub extern "C" fn stor_enter_file(file: &[u8], meter: &mut [i32]) -> u64
 pub extern "C" fn stor_settle_file(
     file: &[u8],
     meter: &mut [i32],
+    revisions: &mut [u8],
     lines: &mut [i64],
     sums: &mut [i64],
 ) -> u64
     ensures { λ r.
-        ⌜ settledFile r (lent (now (meter .exit))) (now (lines .exit)) (now (sums .exit))
-        ≡ settleFile (now (file .entry)) (lent (now (meter .entry))) (now (lines .entry)) (now (sums .entry)) ⌝ }
+        ⌜ settledFile r (lent (now (meter .exit)) (now (revisions .exit))) (now (lines .exit)) (now (sums .exit))
+        ≡ settleFile (now (file .entry)) (lent (now (meter .entry)) (now (revisions .entry))) (now (lines .entry)) (now (sums .entry)) ⌝ }
 {
-    let l = load_file(file, meter);
+    let l = load_file(file, meter, revisions);
     let answer = l.answer;
     let book = l.book;
     let at = l.at;
     match answer {
         Answer::Taken => {
-            let number = settle_book(book, meter, lines, sums);
+            let number = settle_book(book, meter, revisions, lines, sums);
             pack(number, at)
         }
         Answer::Refused(n) => pack(n, at),
@@ -62,6 +63,7 @@ pub extern "C" fn stor_settle_tables(
     instructions: &[u32],
     defaults: &[u32],
     meter: &[i32],
+    revisions: &[u8],
     lines: &mut [i64],
     sums: &mut [i64],
 ) -> u8
@@ -69,14 +71,14 @@ pub extern "C" fn stor_settle_tables(
         ⌜ settledBook r (now (lines .exit)) (now (sums .exit))
         ≡ settleTables
         (tables (now (contract .entry)) (now (windows .entry)) (now (instructions .entry)) (now (defaults .entry)))
-        (lent (now (meter .entry))) (now (lines .entry)) (now (sums .entry)) ⌝ }
+        (lent (now (meter .entry)) (now (revisions .entry))) (now (lines .entry)) (now (sums .entry)) ⌝ }
 {
     let entire = entire_tables(contract, windows, instructions, defaults);
     if !entire {
         return 11;
     }
     let b = book_of(contract, windows, instructions, defaults);
-    settle_book(b, meter, lines, sums)
+    settle_book(b, meter, revisions, lines, sums)
 }
 
 // Writes the book that tables say as a unit file. The answer is the refusal's number, or 0, and 256 times the file's length, 0 on a refusal.
@@ -87,20 +89,21 @@ pub extern "C" fn stor_write_tables(
     instructions: &[u32],
     defaults: &[u32],
     meter: &[i32],
+    revisions: &[u8],
     file: &mut [u8],
 ) -> u64
     ensures { λ r.
         ⌜ writtenFile r (now (file .exit))
         ≡ writeTables
         (tables (now (contract .entry)) (now (windows .entry)) (now (instructions .entry)) (now (defaults .entry)))
-        (lent (now (meter .entry))) (now (file .entry)) ⌝ }
+        (lent (now (meter .entry)) (now (revisions .entry))) (now (file .entry)) ⌝ }
 {
     let entire = entire_tables(contract, windows, instructions, defaults);
     if !entire {
         return pack(11, 0);
     }
     let b = book_of(contract, windows, instructions, defaults);
-    let w = write_book(b, meter, file);
+    let w = write_book(b, meter, revisions, file);
     let answer = w.answer;
     let number = number_of(answer);
     pack(number, w.size)
@@ -109,18 +112,23 @@ pub extern "C" fn stor_write_tables(
 // Enters a whole unit file and writes its book, open, empty or closed, as a unit file into other memory. The answer is the refusal's number, or 0, and
 // 256 times the offset of the refused command, or the written file's length; 0 where it has no room.
 #[no_mangle]
-pub extern "C" fn stor_write_file(file: &[u8], meter: &mut [i32], written: &mut [u8]) -> u64
+pub extern "C" fn stor_write_file(
+    file: &[u8],
+    meter: &mut [i32],
+    revisions: &mut [u8],
+    written: &mut [u8],
+) -> u64
     ensures { λ r.
-        ⌜ rewrittenFile r (lent (now (meter .exit))) (now (written .exit))
-        ≡ writeFile (now (file .entry)) (lent (now (meter .entry))) (now (written .entry)) ⌝ }
+        ⌜ rewrittenFile r (lent (now (meter .exit)) (now (revisions .exit))) (now (written .exit))
+        ≡ writeFile (now (file .entry)) (lent (now (meter .entry)) (now (revisions .entry))) (now (written .entry)) ⌝ }
 {
-    let l = load_file(file, meter);
+    let l = load_file(file, meter, revisions);
     let entered = l.answer;
     let book = l.book;
     let stopped = l.at;
     match entered {
         Answer::Taken => {
-            let w = write_book(book, meter, written);
+            let w = write_book(book, meter, revisions, written);
             let ended = w.answer;
             let number = number_of(ended);
             let size = w.size;

@@ -14,7 +14,7 @@ use borrow.Author.Tests.{ltb-false, le-ltb, lt-ltb}
 use Rattle.book_memory.specs.Meter.{Memory, roomIn}
 use Rattle.energy.specs.Lists.{concatMap}
 use Rattle.rules.specs.Ledger.{Ledger}
-use Rattle.commands.specs.Input.{_when_, lowest}
+use Rattle.commands.specs.Input.{_when_, firstMet}
 use Rattle.rules.specs.Segment.{segments}
 use Rattle.rules.specs.Statement.{lines, settleConditions, settleRefusal, statementOf}
 use Rattle.rules.specs.declared.statement.Line.{Line}
@@ -31,8 +31,8 @@ use Rattle.host_sums.specs.Sums.{sumCount, sumsOf}
 
 -- a statement's lines fit the memory lent for them: else it gets 26
 few-by : (u m c k : Bool) (g : Ledger) (memory : List ℤ) (room : ℕ) (r : Bool) → ltb room (length (segments g)) ≡ r
-    → numberedBy (lowest ((11 when u) ∷ (15 when m) ∷ (24 when c) ∷ (25 when k) ∷ (26 when r) ∷ [])) g memory .settlement .statement .lines ≤ room
-unfolding lowest statementOf
+    → numberedBy (firstMet ((11 when u) ∷ (15 when m) ∷ (24 when c) ∷ (25 when k) ∷ (26 when r) ∷ [])) g memory .settlement .statement .lines ≤ room
+unfolding firstMet statementOf
 few-by true m c k g memory room r e = omega arith
 few-by false true c k g memory room r e = omega arith
 few-by false false true k g memory room r e = omega arith
@@ -64,9 +64,9 @@ nothing-written b meter =
 
 number-by :
     (u m c k r q : Bool) (g : Ledger) (ys : List ℤ)
-    → shortNumber (numberedBy (lowest ((11 when u) ∷ (15 when m) ∷ (24 when c) ∷ (25 when k) ∷ (26 when r) ∷ [])) g [] .settlement .answer)
-    ≡ shortNumber (numberedBy (lowest ((11 when u) ∷ (15 when m) ∷ (24 when c) ∷ (25 when k) ∷ (26 when q) ∷ [])) g ys .settlement .answer)
-unfolding lowest
+    → shortNumber (numberedBy (firstMet ((11 when u) ∷ (15 when m) ∷ (24 when c) ∷ (25 when k) ∷ (26 when r) ∷ [])) g [] .settlement .answer)
+    ≡ shortNumber (numberedBy (firstMet ((11 when u) ∷ (15 when m) ∷ (24 when c) ∷ (25 when k) ∷ (26 when q) ∷ [])) g ys .settlement .answer)
+unfolding firstMet
 number-by true m c k r q g ys = refl
 number-by false true c k r q g ys = refl
 number-by false false true k r q g ys = refl

@@ -26,14 +26,20 @@ fn line_room(lines: usize, sums: usize) -> usize
 }
 
 // The number under which settling a book is refused, or 0. Line and sum memory are written only where it is 0.
-pub fn settle_book(b: Book, meter: &[i32], lines: &mut [i64], sums: &mut [i64]) -> u8
+pub fn settle_book(
+    b: Book,
+    meter: &[i32],
+    revisions: &[u8],
+    lines: &mut [i64],
+    sums: &mut [i64],
+) -> u8
     requires { ⌜ b .nwindows < 2 ^ 63 ⌝ }
     ensures { λ r.
         ⌜ settledBook r (now (lines .exit)) (now (sums .exit))
-        ≡ settleInto b (lent (now (meter .entry))) (now (lines .entry)) (now (sums .entry)) ⌝ }
+        ≡ settleInto b (lent (now (meter .entry)) (now (revisions .entry))) (now (lines .entry)) (now (sums .entry)) ⌝ }
 {
     let room = line_room(lines.len(), sums.len());
-    let s = settle_numbers(b, meter, &mut lines[..room]);
+    let s = settle_numbers(b, meter, revisions, &mut lines[..room]);
     let answer = s.answer;
     let statement = s.statement;
     match answer {

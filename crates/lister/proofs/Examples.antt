@@ -1,6 +1,7 @@
 -- The rows of the examples, computed.
 use mathlib.Core.Path.{refl}
 use Rattle.rules.proofs.Definitions.{opened}
+use Rattle.book_memory.specs.Meter.{roomIn}
 use Rattle.book.specs.Book.{ledgerIn, emptyBook}
 use Rattle.book.specs.Sound.{sound, emptyTests, tableTests, noContractTests}
 use Rattle.settle.specs.Settle.{settleBook}
@@ -11,5 +12,5 @@ use Rattle.lister.specs.Printed.{printed}
 use Rattle.lister.specs.Examples.{PrintedExamples}
 
 pub printed-examples : PrintedExamples
-unfolding printed listBook settleBook opened sound tableTests emptyTests noContractTests emptyBook ledgerIn refusalRow row fieldsOf digits digitsIn text
+unfolding printed listBook settleBook roomIn opened sound tableTests emptyTests noContractTests emptyBook ledgerIn refusalRow row fieldsOf digits digitsIn text
 printed-examples = record { refusedEntering = λ b meter. refl; refusedSettling = refl }

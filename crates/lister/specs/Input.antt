@@ -15,7 +15,7 @@ use Rattle.lister.specs.Printed.{printed}
 use Rattle.lister.specs.declared.piece.Ended.{Ended}
 use Rattle.lister.specs.declared.piece.Piece.{Piece}
 
--- how entering stands: how it ended, meter memory then, and the bytes that were not entered
+-- how entering stands: how it ended, lent memory then, and the bytes that were not entered
 pub record Standing : Type 0 where
   pub ended : Ended
   pub meter : Memory
@@ -59,7 +59,7 @@ Steps·theorem = (file new : List ℕ) (before : Memory) → Steps file new befo
 
 -- ---- what the lister's functions promise
 
--- the first `have` bytes of a buffer are entered; the piece, meter memory and the buffer after it
+-- the first `have` bytes of a buffer are entered; the piece, lent memory and the buffer after it
 pub record EntersPiece (e : Ended) (before : Memory) (buffer : List ℕ) (have : ℕ) (p : Piece) (after : Memory) (left : List ℕ) : Type 0 where
   -- it stands as the step says, and what is kept is in front of the buffer
   pub stands : record { ended = p .ended; meter = after; kept = take (p .kept) left } ≡ step e before (take have buffer)

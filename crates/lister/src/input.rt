@@ -20,10 +20,15 @@ fn fill(buffer: &mut [u8], kept: usize) -> usize
 }
 
 // Reads standard input up to its end or the first refusal, and puts the rows of what came; how many bytes. It ends because commands that are all
-// taken are no longer than the tables and meter memory have room for (FileLength·theorem of the rules).
-pub fn list_input(buffer: &mut [u8], meter: &mut [i32], rows: &mut [u8; BYTES]) -> usize
-    requires { ⌜ (32 ≤ length (now buffer)) × (length (now buffer) ≤ 65536) × (length (now meter) ≡ 15840) ⌝ }
-    ensures { λ r. ⌜ ListedInput (lent (now (meter .entry))) (now (buffer .exit)) (now (rows .entry)) (now (rows .exit)) r ⌝ }
+// taken are no longer than the tables and lent memory have room for (FileLength·theorem of the rules).
+pub fn list_input(
+    buffer: &mut [u8],
+    meter: &mut [i32],
+    revisions: &mut [u8],
+    rows: &mut [u8; BYTES],
+) -> usize
+    requires { ⌜ (32 ≤ length (now buffer)) × (length (now buffer) ≤ 65536) × (length (now meter) ≡ 15840) × (length (now revisions) ≡ 15840) ⌝ }
+    ensures { λ r. ⌜ ListedInput (lent (now (meter .entry)) (now (revisions .entry))) (now (buffer .exit)) (now (rows .entry)) (now (rows .exit)) r ⌝ }
 {
     let mut e = Ended {
         answer: Answer::Taken,
@@ -33,7 +38,7 @@ pub fn list_input(buffer: &mut [u8], meter: &mut [i32], rows: &mut [u8; BYTES]) 
     let mut kept: usize = 0;
     loop {
         let have = fill(buffer, kept);
-        let t = list_piece(e, have, buffer, meter, rows);
+        let t = list_piece(e, have, buffer, meter, revisions, rows);
         let piece = t.piece;
         if !piece.going {
             return t.rows;

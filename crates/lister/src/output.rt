@@ -25,13 +25,18 @@ fn put_settlement(g: Listing, windows: usize, size: usize, out: &mut [u8; BYTES]
 }
 
 // The first refusal with its command's offset, or the settlement; how many bytes.
-pub fn put_answer(e: Ended, meter: &[i32], out: &mut [u8; BYTES]) -> usize
-    ensures { λ r. ⌜ Laid (printed e (lent (now (meter .entry)))) (now (out .entry)) 0 (now (out .exit)) r ⌝ }
+pub fn put_answer(e: Ended, meter: &[i32], revisions: &[u8], out: &mut [u8; BYTES]) -> usize
+    ensures { λ r. ⌜ Laid (printed e (lent (now (meter .entry)) (now (revisions .entry)))) (now (out .entry)) 0 (now (out .exit)) r ⌝ }
 {
     let ended = e.answer;
     let book = e.book;
     match ended {
         Answer::Refused(n) => put_refusal(n, e.offset, out),
-        Answer::Taken => put_settlement(listed(book, meter), book.nwindows, e.offset, out),
+        Answer::Taken => put_settlement(
+            listed(book, meter, revisions),
+            book.nwindows,
+            e.offset,
+            out,
+        ),
     }
 }

@@ -51,13 +51,19 @@ fn unfinished(answer: Answer) -> bool
 
 // Enters the first `have` bytes of the buffer, where entering stood so before them. There is another piece to read where it can change how
 // this one ended and these bytes fill the buffer: a read that comes short is the last.
-pub fn enter_piece(e: Ended, have: usize, buffer: &mut [u8], meter: &mut [i32]) -> Piece
+pub fn enter_piece(
+    e: Ended,
+    have: usize,
+    buffer: &mut [u8],
+    meter: &mut [i32],
+    revisions: &mut [u8],
+) -> Piece
     requires { ⌜ (sound (e .book) ≡ true) × (have ≤ length (now buffer)) × (e .offset + have < 2 ^ 64) ⌝ }
-    ensures { λ r. ⌜ EntersPiece e (lent (now (meter .entry))) (now (buffer .entry)) have r (lent (now (meter .exit))) (now (buffer .exit)) ⌝ }
+    ensures { λ r. ⌜ EntersPiece e (lent (now (meter .entry)) (now (revisions .entry))) (now (buffer .entry)) have r (lent (now (meter .exit)) (now (revisions .exit))) (now (buffer .exit)) ⌝ }
 {
     let start = e.offset;
     let book = e.book;
-    let l = load(book, &buffer[..have], meter);
+    let l = load(book, &buffer[..have], meter, revisions);
     let at = l.at;
     let answer = l.answer;
     let after = l.book;

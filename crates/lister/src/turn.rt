@@ -25,17 +25,18 @@ pub fn list_piece(
     have: usize,
     buffer: &mut [u8],
     meter: &mut [i32],
+    revisions: &mut [u8],
     rows: &mut [u8; BYTES],
 ) -> Turn
     requires { ⌜ (sound (e .book) ≡ true) × (have ≤ length (now buffer)) × (e .offset + have < 2 ^ 64) ⌝ }
-    ensures { λ r. ⌜ EntersPiece e (lent (now (meter .entry))) (now (buffer .entry)) have (r .piece) (lent (now (meter .exit))) (now (buffer .exit)) ⌝ }
-    ensures { λ r. ⌜ Laid (rowsAfter (r .piece) (lent (now (meter .exit)))) (now (rows .entry)) 0 (now (rows .exit)) (r .rows) ⌝ }
+    ensures { λ r. ⌜ EntersPiece e (lent (now (meter .entry)) (now (revisions .entry))) (now (buffer .entry)) have (r .piece) (lent (now (meter .exit)) (now (revisions .exit))) (now (buffer .exit)) ⌝ }
+    ensures { λ r. ⌜ Laid (rowsAfter (r .piece) (lent (now (meter .exit)) (now (revisions .exit)))) (now (rows .entry)) 0 (now (rows .exit)) (r .rows) ⌝ }
 {
-    let piece = enter_piece(e, have, buffer, meter);
+    let piece = enter_piece(e, have, buffer, meter, revisions);
     if piece.going {
         return Turn { piece, rows: 0 };
     }
     let ended = piece.ended;
-    let n = put_answer(ended, meter, rows);
+    let n = put_answer(ended, meter, revisions, rows);
     Turn { piece, rows: n }
 }

@@ -1,7 +1,7 @@
 -- The definitions of the rules, all opened by one name: `unfolding opened` lets a closed case compute.
 use Rattle.energy.specs.Lists.{first, filter, any, all, count, sum, sumℕ, isEmpty, last, isSome, else, later, concatMap, pass, run, between}
 use Rattle.energy.specs.Number.{ceiling, nearest, lesser}
-use Rattle.commands.specs.Input.{upMinutes, downMinutes, lowest}
+use Rattle.commands.specs.Input.{upMinutes, downMinutes, firstMet}
 use Rattle.rules.specs.Ledger.{readingOf, ledgerOf, contractOf, spanIn, cellsIn}
 use Rattle.rules.specs.Refusal.{conditions, refusal, takenAfter, taken}
 use Rattle.rules.specs.Segment.{active, baseMinutes, needed, complete, stageOf, excludes, live, inLive, rateAt, alike, heads, segmentsOf}
@@ -14,7 +14,7 @@ use Rattle.rules.specs.File.{fileOf, writeConditions, commandsFrom, comm
 
 unfoldable pub opened : Unit {0}
 unfolding first filter any all count sum sumℕ isEmpty last isSome else later concatMap pass run between ceiling nearest lesser readingOf ledgerOf contractOf
-    spanIn cellsIn upMinutes downMinutes conditions lowest refusal takenAfter taken active baseMinutes needed complete stageOf excludes live inLive rateAt
+    spanIn cellsIn upMinutes downMinutes conditions firstMet refusal takenAfter taken active baseMinutes needed complete stageOf excludes live inLive rateAt
     alike heads segmentsOf segmentsFrom segments reads baseLoad expectedOf deliveredOf lineOf lines paid paidPeriods penalty periodExact periodPence
     availableOf windowsPaid statementOf exactOf exactEnergy paidCount exactAmount allowance settleConditions settleRefusal table widthsOf total
     wordFrom bytesOf signedOf operands commandOf readAt writeOperands write written fileOf writeConditions commandsFrom commandsIn

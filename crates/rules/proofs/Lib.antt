@@ -15,6 +15,7 @@ pub mod Definitions
 pub mod Conditions
 pub mod Figures
 pub mod Examples
+pub mod Revisions
 pub mod Bounds
 pub mod Operands
 pub mod Reread

@@ -13,7 +13,8 @@ use Rattle.rules.specs.File.{table, widthsOf, total, wordFrom, bytesOf, 
 use Rattle.rules.specs.Reread.{fit}
 use Rattle.commands.specs.declared.entries.Command.{Command}
 use Rattle.commands.specs.declared.entries.Command.the-variants.{Contract as contractᶜ, Window as windowᶜ, Instruction as instructionᶜ}
-use Rattle.commands.specs.declared.entries.Command.the-variants.{Default as defaultᶜ, Reading as readingᶜ, Close as closeᶜ}
+use Rattle.commands.specs.declared.entries.Command.the-variants.{Default as defaultᶜ, Reading as readingᶜ, Revision as revisionᶜ}
+use Rattle.commands.specs.declared.entries.Command.the-variants.{Close as closeᶜ}
 
 length-bytes : (w n : ℕ) → length (bytesOf w n) ≡ w
 unfolding bytesOf
@@ -65,4 +66,5 @@ write-long (windowᶜ w) = refl
 write-long (instructionᶜ i) = refl
 write-long (defaultᶜ d) = refl
 write-long (readingᶜ r) = refl
+write-long (revisionᶜ v) = refl
 write-long closeᶜ = refl

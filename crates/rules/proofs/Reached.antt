@@ -1,18 +1,17 @@
 -- A ledger that commands leave is untouched, or has one contract and entries that could be taken under it: by induction over the commands.
 use mathlib.Core.Path.{_≡_, refl, sym, ap, _∙_, subst, subst⁻¹}
-use mathlib.Core.Bool.{Bool, true, false, not, _&&_, true≢false}
+use mathlib.Core.Bool.{Bool, true, false, not, _&&_, cond, true≢false}
 use mathlib.Core.List.{List, [], _∷_, _++_, append-nil}
 use mathlib.Core.Option.{none, some, Option·none-ne-some, Option·some-injective}
 use Prim.Native.Nat.{ℕ, _≤_, _<_}
 use native.Mathlib.Omega.{arith}
-use lib.IntN.{ℤ}
 use lib.Dec.{T, eqb, leb, ltb}
 use lib.ListN.{length, length-append}
 use borrow.Author.Tests.{leb-false, ltb-false, lt-ltb, eqb-true}
 use Rattle.energy.specs.Lists.{all, any, concatMap, first, isEmpty, later, pass}
 use Rattle.energy.proofs.Tests.{T-and, of-T, off-T, off-not, passes, passed, all-snoc, either}
-use Rattle.commands.specs.Input.{from-to, inRange, rampTooLong, isReading, mostMinute}
-use Rattle.rules.specs.Ledger.{Ledger, ledgerOf, contractOf, noContract, contractIn, windowIn, instructionIn, defaultIn, readingIn, readingOf}
+use Rattle.commands.specs.Input.{from-to, inRange, rampTooLong, isReading, meterable, mostMinute}
+use Rattle.rules.specs.Ledger.{Ledger, Metered, ledgerOf, contractOf, noContract, contractIn, windowIn, instructionIn, defaultIn, readingIn, readingOf}
 use Rattle.rules.specs.Ledger.{isContract, spanOf, spanIn, cellsIn, within}
 use Rattle.rules.specs.Refusal.{refusal, taken}
 use Rattle.rules.specs.Reached.{windowsSound, instructionsSound, defaultSound, agreedTests, Untouched, Agreed, Reached, Reached·theorem}
@@ -22,9 +21,11 @@ use Rattle.commands.specs.declared.entries.Window.{Window}
 use Rattle.commands.specs.declared.entries.Instruction.{Instruction}
 use Rattle.commands.specs.declared.entries.Default.{Default}
 use Rattle.commands.specs.declared.entries.Reading.{Reading}
+use Rattle.commands.specs.declared.entries.Revision.{Revision}
 use Rattle.commands.specs.declared.entries.Command.{Command}
 use Rattle.commands.specs.declared.entries.Command.the-variants.{Contract as contractᶜ, Window as windowᶜ, Instruction as instructionᶜ}
-use Rattle.commands.specs.declared.entries.Command.the-variants.{Default as defaultᶜ, Reading as readingᶜ, Close as closeᶜ}
+use Rattle.commands.specs.declared.entries.Command.the-variants.{Default as defaultᶜ, Reading as readingᶜ, Revision as revisionᶜ}
+use Rattle.commands.specs.declared.entries.Command.the-variants.{Close as closeᶜ}
 use Rattle.commands.proofs.Terms.{Terms, terms}
 use Rattle.rules.proofs.Taken.{grown, ledgerOf-snoc, Allowed, allowed, taken-ind}
 use Rattle.rules.proofs.Span.{span-kept, cells-kept, cells-new}
@@ -63,7 +64,7 @@ terms-of {g = g} a = let p = parts-of a in terms (contractOf g) (p .operands) (p
 
 -- readings of a span
 abbrev Readings : ℕ → Ledger → Type 0
-Readings span g = (m : ℕ) (kw : ℤ) → g .reading m ≡ some kw → (m < span) × T (isReading kw)
+Readings span g = (m : ℕ) (x : Metered) → g .reading m ≡ some x → (m < span) × T (isReading (x .kw))
 
 -- tables with room for what they hold
 record Fits (ws : List Window) (is : List Instruction) (ds : List Default) : Type 0 where
@@ -130,7 +131,7 @@ module _ {size : ℕ} {g : Ledger} (a : Agreed size g) where
   -- no reading: the readings stay
   read : (c : Command) → ((m : ℕ) → readingIn c m ≡ none) → Readings span (grown g c)
   unfolding later
-  read c n m kw q = a .readings m kw (ap (λ o. later (g .reading m) o) (sym (n m)) ∙ q)
+  read c n m x q = a .readings m x (ap (λ o. later (g .reading m) o) (sym (n m)) ∙ q)
 
   -- one entry more: the other tables are found as they were, among p's parts
   with-window : (w : Window) → Allowed size g (windowᶜ w) → Agreed size (grown g (windowᶜ w))
@@ -162,18 +163,29 @@ module _ {size : ℕ} {g : Ledger} (a : Agreed size g) where
       keep (defaultᶜ d) refl (simp append-nil (let rest = p in search))
       (simp append-nil (omega (arith, fits 128 (g .defaults) d (h .kind .room)))) (read (defaultᶜ d) (λ m. refl))
 
-  with-reading : (r : Reading) → Allowed size g (readingᶜ r) → Agreed size (grown g (readingᶜ r))
+  -- a reading of any revision
+  with-metered : (n : ℕ) (r : Reading) → T (meterable r) → leb span (r .minute .0) ≡ false
+      → (m : ℕ) (x : Metered) → later (g .reading m) (cond (eqb (r .minute .0) m) (some (record { kw = r .kw .0; revision = n })) none) ≡ some x
+      → (m < span) × T (isReading (x .kw))
   unfolding later
-  with-reading r h =
-      keep (readingᶜ r) refl (simp append-nil p) (simp append-nil (omega arith))
-      (λ m kw q.
+  with-metered n r t l m x q =
+      let new : Metered = record { kw = r .kw .0; revision = n } in
       either (eqb (r .minute .0) m)
       (λ e.
       let same : r .minute .0 ≡ m = eqb-true (r .minute .0) m e in
-      let range = T-and (from-to 0 mostMinute (r .minute .0)) (isReading (r .kw .0)) (h .input .operands) in
-      let read : r .kw .0 ≡ kw = Option·some-injective (r .kw .0) kw (rw e at q) in
-      (omega (arith, leb-false span (r .minute .0) (h .kind .inside)), subst (λ x. T (isReading x)) read (range .1)))
-      (λ e. a .readings m kw (rw e at q)))
+      let range = T-and (from-to 0 mostMinute (r .minute .0)) (isReading (r .kw .0)) t in
+      let read : new ≡ x = Option·some-injective new x (rw e at q) in
+      (omega (arith, leb-false span (r .minute .0) l), subst (λ y. T (isReading (y .kw))) read (range .1)))
+      (λ e. a .readings m x (rw e at q))
+
+  with-reading : (r : Reading) → Allowed size g (readingᶜ r) → Agreed size (grown g (readingᶜ r))
+  with-reading r h =
+      keep (readingᶜ r) refl (simp append-nil p) (simp append-nil (omega arith)) (with-metered 0 r (h .input .operands) (h .kind .inside))
+
+  with-revision : (v : Revision) → Allowed size g (revisionᶜ v) → Agreed size (grown g (revisionᶜ v))
+  with-revision v h =
+      keep (revisionᶜ v) refl (simp append-nil p) (simp append-nil (omega arith))
+      (with-metered (v .number) (v .reading) (T-and (from-to 1 255 (v .number)) (meterable (v .reading)) (h .input .operands) .1) (h .kind .inside))
 
   with-close : Agreed size (grown g closeᶜ)
   with-close = keep closeᶜ refl (simp append-nil p) (simp append-nil (omega arith)) (read closeᶜ (λ m. refl))
@@ -197,7 +209,7 @@ with-contract {size} {g} k u h =
     }))
     (record { windows = omega (arith, ap length ws); instructions = omega (arith, ap length is); defaults = omega (arith, ap length ds) })
     (omega (arith, cells-new g k (u .contracts), ltb-false size (spanOf k) (h .book .memory)))
-    (λ m kw q. absurd (Option·none-ne-some kw (sym (u .readings m) ∙ q)))
+    (λ m x q. absurd (Option·none-ne-some x (sym (u .readings m) ∙ q)))
 
 -- ---- any command
 
@@ -211,6 +223,7 @@ step size g c r e = go c (allowed size g c e)
     go (instructionᶜ i) h = agreed (with-instruction (needs-contract (instructionᶜ i) refl r h) i h)
     go (defaultᶜ d) h = agreed (with-default (needs-contract (defaultᶜ d) refl r h) d h)
     go (readingᶜ x) h = agreed (with-reading (needs-contract (readingᶜ x) refl r h) x h)
+    go (revisionᶜ x) h = agreed (with-revision (needs-contract (revisionᶜ x) refl r h) x h)
     go closeᶜ h = agreed (with-close (needs-contract closeᶜ refl r h))
 
 -- ---- any list

@@ -7,13 +7,12 @@ use Prim.Native.Nat.{ℕ, _+_, _≤_, _<_}
 use native.Mathlib.Omega.{arith}
 use borrow.Author.Tests.{le-ltb, lt-leb}
 use lib.Dec.{T, eqb, ltb, leb→le, ltb→lt}
-use lib.IntN.{ℤ}
 use lib.ListN.{length, length-append}
 use lib.Seq.{append-snoc}
 use Rattle.energy.specs.Lists.{all, any, concatMap, first, isEmpty, later}
 use Rattle.energy.proofs.Tests.{T-and, of-T}
-use Rattle.commands.specs.Input.{lowest, inRange, rampTooLong, badWindow}
-use Rattle.rules.specs.Ledger.{Ledger, ledgerOf, contractOf, spanOf, spanIn, cellsIn, expiry, endOf, within, readingOf}
+use Rattle.commands.specs.Input.{firstMet, inRange, rampTooLong, badWindow}
+use Rattle.rules.specs.Ledger.{Ledger, Metered, ledgerOf, contractOf, spanOf, spanIn, cellsIn, expiry, endOf, within, readingOf}
 use Rattle.rules.specs.Refusal.{conditions, refusal, joined, takenAfter}
 use Rattle.rules.specs.Reached.{windowsSound, instructionsSound, defaultSound}
 use Rattle.commands.specs.declared.contract.Contract.{Contract}
@@ -93,11 +92,11 @@ module _ {A : Type 0} (size room : ℕ) (command : A → Command) (holding : Lis
 -- ---- under a contract
 
 -- what has been entered under a contract
-abbrev pub held : Contract → List Window → List Instruction → List Default → Bool → (ℕ → Option ℤ) → Ledger
+abbrev pub held : Contract → List Window → List Instruction → List Default → Bool → (ℕ → Option Metered) → Ledger
 held k ws is ds z f = record { contracts = k ∷ []; windows = ws; instructions = is; defaults = ds; closed = z; reading = f }
 
 -- no reading in any minute
-abbrev pub unread : ℕ → Option ℤ
+abbrev pub unread : ℕ → Option Metered
 unread m = none
 
 -- a contract alone
@@ -122,7 +121,7 @@ module _ (size : ℕ) (k : Contract) (span : ℕ) (spans : spanIn (agreedOn k) �
   own-cells = omega (arith, cells-new (ledgerOf []) k none-yet)
 
   contract-taken : T (inRange (contractᶜ k)) → T (not (rampTooLong (contractᶜ k))) → refusal false size (ledgerOf []) (contractᶜ k) ≡ none
-  unfolding refusal conditions lowest isEmpty ledgerOf concatMap any
+  unfolding refusal conditions firstMet isEmpty ledgerOf concatMap any
   contract-taken t s = rw (of-T (inRange (contractᶜ k)) t, not-on (rampTooLong (contractᶜ k)) s, le-ltb size (spanOf k) own-cells)
 
   -- the contract of an untouched ledger
@@ -134,7 +133,7 @@ module _ (size : ℕ) (k : Contract) (span : ℕ) (spans : spanIn (agreedOn k) �
   -- a window that could be taken next is taken, and leaves the rest so
   window-taken : (ws : List Window) (w : Window) (rest : List Window) → T (windowsSound k span (lastEnd 0 ws) (w ∷ rest)) → length ws < 128
       → (refusal false size (held k ws [] [] false unread) (windowᶜ w) ≡ none) × T (windowsSound k span (lastEnd 0 (ws ++ (w ∷ []))) rest)
-  unfolding refusal conditions lowest contractOf first isEmpty windowsSound
+  unfolding refusal conditions firstMet contractOf first isEmpty windowsSound
   window-taken ws w rest t l =
       let rejected : Bool = eqb (k .service) 0 && eqb (w .verdict) 1 in
       let tests : List Bool = windowTests k span (lastEnd 0 ws) w in
@@ -166,7 +165,7 @@ module _ (size : ℕ) (k : Contract) (span : ℕ) (spans : spanIn (agreedOn k) �
   instruction-taken : (ws : List Window) (is : List Instruction) (i : Instruction) (rest : List Instruction)
       → T (instructionsSound k span (ready k 0 is) (i ∷ rest)) → length is < 64
       → (refusal false size (held k ws is [] false unread) (instructionᶜ i) ≡ none) × T (instructionsSound k span (ready k 0 (is ++ (i ∷ []))) rest)
-  unfolding refusal conditions lowest contractOf first isEmpty instructionsSound
+  unfolding refusal conditions firstMet contractOf first isEmpty instructionsSound
   instruction-taken ws is i rest t l =
       let tests : List Bool = instructionTests k span (ready k 0 is) i in
       let q = T-and (chain (inRange (instructionᶜ i)) tests) (instructionsSound k span (endOf k i + k .recovery .0) rest) t in
@@ -197,7 +196,7 @@ module _ (size : ℕ) (k : Contract) (span : ℕ) (spans : spanIn (agreedOn k) �
   default-taken : (ws : List Window) (is : List Instruction) (ds : List Default) (d : Default) (rest : List Default)
       → T (all (defaultSound k span ws) (d ∷ rest)) → length ds < 128
       → (refusal false size (held k ws is ds false unread) (defaultᶜ d) ≡ none) × T (all (defaultSound k span ws) rest)
-  unfolding refusal conditions lowest contractOf first isEmpty all
+  unfolding refusal conditions firstMet contractOf first isEmpty all
   default-taken ws is ds d rest t l =
       let q = T-and (defaultSound k span ws d) (all (defaultSound k span ws) rest) t in
       let windowed : Bool = any (λ w. within w (d .minute .0)) ws in

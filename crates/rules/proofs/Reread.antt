@@ -14,13 +14,14 @@ use lib.Signed.{leZ-yes, yes-nonNeg, pos-natAbs}
 use borrow.Author.Tests.{lt-ltb, le-ltb, le-leb, lt-leb}
 use Rattle.energy.specs.Lists.{all, concatMap, isSome}
 use Rattle.energy.proofs.Tests.{T-and, and-T}
-use Rattle.commands.specs.Input.{inRange, isReading, from-to, from-toℤ, mostMinute}
+use Rattle.commands.specs.Input.{inRange, isReading, meterable, from-to, from-toℤ, mostMinute}
 use Rattle.rules.specs.File.{table, widthsOf, total, signedOf, unsignedOf, operands, commandOf, readAs, readBody, readAt, byteOf, operandsOf}
 use Rattle.rules.specs.File.{writeOperands, widthsFor, write, readOn, commandsFrom, commandsIn}
 use Rattle.rules.specs.Reread.{fit, signFits, fitsBytes, Reread}
 use Rattle.commands.specs.declared.entries.Command.{Command}
 use Rattle.commands.specs.declared.entries.Command.the-variants.{Contract as contractᶜ, Window as windowᶜ, Instruction as instructionᶜ}
-use Rattle.commands.specs.declared.entries.Command.the-variants.{Default as defaultᶜ, Reading as readingᶜ, Close as closeᶜ}
+use Rattle.commands.specs.declared.entries.Command.the-variants.{Default as defaultᶜ, Reading as readingᶜ, Revision as revisionᶜ}
+use Rattle.commands.specs.declared.entries.Command.the-variants.{Close as closeᶜ}
 use Rattle.rules.specs.declared.file.Read.{Read}
 use Rattle.rules.specs.declared.file.Read.the-variants.{Got, End, Refused}
 use Rattle.rules.proofs.Operands.{operands-back, length-operands, write-long}
@@ -46,6 +47,7 @@ command-back (windowᶜ w) t = refl
 command-back (instructionᶜ i) t = refl
 command-back (defaultᶜ d) t = refl
 command-back (readingᶜ r) t = rw (signed-back (r .kw .0) t)
+command-back (revisionᶜ v) t = rw (signed-back (v .reading .kw .0) t)
 command-back closeᶜ t = refl
 
 -- ---- a command in range
@@ -92,6 +94,13 @@ ranged (readingᶜ r) t =
     let m = bounds 0 mostMinute (r .minute .0) (q .0) in let z = reading-says (r .kw .0) (q .1) in
     and-T (signFits (readingᶜ r)) (fit (2 ∷ 4 ∷ []) (operandsOf (readingᶜ r))) (z .0)
     (rw (lt-ltb (r .minute .0) (256 ^ 2) (omega arith), lt-ltb (unsignedOf (r .kw .0)) (256 ^ 4) (omega arith)) tt)
+ranged (revisionᶜ v) t =
+    let r = v .reading in
+    let p = T-and (from-to 1 255 (v .number)) (meterable r) t in
+    let q = T-and (from-to 0 mostMinute (r .minute .0)) (isReading (r .kw .0)) (p .1) in
+    let n = bounds 1 255 (v .number) (p .0) in let m = bounds 0 mostMinute (r .minute .0) (q .0) in let z = reading-says (r .kw .0) (q .1) in
+    and-T (signFits (revisionᶜ v)) (fit (2 ∷ 1 ∷ 4 ∷ []) (operandsOf (revisionᶜ v))) (z .0)
+    (rw (lt-ltb (r .minute .0) (256 ^ 2) (omega arith), lt-ltb (v .number) (256 ^ 1) (omega arith), lt-ltb (unsignedOf (r .kw .0)) (256 ^ 4) (omega arith)) tt)
 ranged closeᶜ t = tt
 
 -- ---- one command read where it stands
@@ -103,6 +112,7 @@ in-table (windowᶜ w) = refl
 in-table (instructionᶜ i) = refl
 in-table (defaultᶜ d) = refl
 in-table (readingᶜ r) = refl
+in-table (revisionᶜ v) = refl
 in-table closeᶜ = refl
 
 -- a byte of the table with operands that fit, after `pre` and before `rest`
@@ -195,7 +205,7 @@ known : (b : ℕ) (v : List ℕ) → isSome (commandOf b v) ≡ isSome (widthsOf
 unfolding isSome commandOf widthsOf table
 known b v =
     both (eqb 0x43 b) _ _ _ _ (both (eqb 0x57 b) _ _ _ _ (both (eqb 0x49 b) _ _ _ _ (both (eqb 0x44 b) _ _ _ _
-    (both (eqb 0x4D b) _ _ _ _ (both (eqb 0x5A b) _ _ none none refl)))))
+    (both (eqb 0x4D b) _ _ _ _ (both (eqb 0x52 b) _ _ _ _ (both (eqb 0x5A b) _ _ none none refl))))))
   where
     -- one byte more
     both : (t : Bool) (c : Command) (ws : List ℕ) (o : Option Command) (p : Option (List ℕ)) → isSome o ≡ isSome p

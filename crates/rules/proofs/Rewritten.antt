@@ -7,18 +7,18 @@ use Prim.Native.Nat.{ℕ, zero, suc, _+_, _-_, _≤_, _<_}
 use native.Mathlib.Nat.{le-refl}
 use native.Mathlib.Omega.{arith}
 use borrow.Author.Tests.{lt-ltb, le-ltb, le-leb, lt-leb, eq-eqb, ne-eqb, ltb-true, ltb-false}
-use lib.Dec.{T, eqb, ltb}
+use lib.Dec.{T, eqb, leb, ltb}
 use lib.IntN.{ℤ}
 use Rattle.energy.specs.Lists.{all, any, between, concatMap, first, isEmpty, isSome, later, run}
 use Rattle.energy.proofs.Tests.{and-T, of-T, either, either-eq}
-use Rattle.commands.specs.Input.{isReading, lowest, mostMinute}
-use Rattle.rules.specs.Ledger.{Ledger, ledgerOf, contractOf, spanIn, cellsIn, readingOf}
+use Rattle.commands.specs.Input.{isReading, firstMet, mostMinute}
+use Rattle.rules.specs.Ledger.{Ledger, Metered, ledgerOf, contractOf, spanIn, cellsIn, readingOf}
 use Rattle.rules.specs.Refusal.{conditions, refusal, taken}
 use Rattle.rules.specs.Reached.{Untouched, Agreed, Reached}
 use Rattle.rules.specs.Reached.Reached.{untouched, agreed}
 use Rattle.rules.specs.File.{readingAt, written, fileOf, commandsIn}
 use Rattle.rules.specs.Reread.{fitsBytes}
-use Rattle.rules.specs.Rewritten.{Rewritten·theorem}
+use Rattle.rules.specs.Rewritten.{Revised, Rewritten·theorem}
 use Rattle.commands.specs.declared.contract.Contract.{Contract}
 use Rattle.commands.specs.declared.entries.Command.{Command}
 use Rattle.commands.specs.declared.entries.Command.the-variants.{Close as closeᶜ}
@@ -33,11 +33,11 @@ use Rattle.rules.proofs.Replay.{contract-replay, windows-replay, instru
 -- ---- readings before a minute
 
 -- the readings of f before minute a
-abbrev before : (ℕ → Option ℤ) → ℕ → ℕ → Option ℤ
+abbrev before : (ℕ → Option Metered) → ℕ → ℕ → Option Metered
 before f a m = cond (ltb m a) (f m) none
 
 -- with the reading of minute a, those before the next minute
-with-next : (f : ℕ → Option ℤ) (a : ℕ) (o : Option ℤ) → f a ≡ o → (m : ℕ) → later (before f a m) (cond (eqb a m) o none) ≡ before f (suc a) m
+with-next : (f : ℕ → Option Metered) (a : ℕ) (o : Option Metered) → f a ≡ o → (m : ℕ) → later (before f a m) (cond (eqb a m) o none) ≡ before f (suc a) m
 unfolding later
 with-next f a o h m =
     either (ltb m a) (λ e. let l = ltb-true m a e in rw (e, ne-eqb a m (λ q. omega arith), lt-ltb m (suc a) (omega arith)))
@@ -47,7 +47,7 @@ with-next f a o h m =
     (λ q. rw (e, ne-eqb a m q, le-ltb m (suc a) (omega arith))))
 
 -- no reading adds nothing
-with-none : (o : Option ℤ) (b : Bool) → o ≡ later o (cond b none none)
+with-none : (o : Option Metered) (b : Bool) → o ≡ later o (cond b none none)
 unfolding later
 with-none o true = refl
 with-none o false = refl
@@ -55,45 +55,63 @@ with-none o false = refl
 -- ---- a ledger under a contract
 
 -- the contract and tables of g
-abbrev tablesOf : Ledger → Bool → (ℕ → Option ℤ) → Ledger
+abbrev tablesOf : Ledger → Bool → (ℕ → Option Metered) → Ledger
 tablesOf g z f = held (contractOf g) (g .windows) (g .instructions) (g .defaults) z f
 
 -- an entry in none of the tables leaves them
-tables-kept : (g : Ledger) (z : Bool) {f f′ : ℕ → Option ℤ} → ((m : ℕ) → f m ≡ f′ m)
+tables-kept : (g : Ledger) (z : Bool) {f f′ : ℕ → Option Metered} → ((m : ℕ) → f m ≡ f′ m)
     → held (contractOf g) (g .windows ++ []) (g .instructions ++ []) (g .defaults ++ []) z f ≡ tablesOf g z f′
 tables-kept g z e j =
     held (contractOf g) (append-nil (g .windows) j) (append-nil (g .instructions) j) (append-nil (g .defaults) j) z (λ m. e m j)
 
-module _ {size : ℕ} {g : Ledger} (a : Agreed size g) where
+module _ {size : ℕ} {g : Ledger} (a : Agreed size g) (bytes : Revised g) where
+  -- what is tested of the reading of a minute, whatever its revision
+  record Tests (m : ℕ) (x : Metered) : Type 0 where
+    least : leb 0 m ≡ true
+    most : leb m mostMinute ≡ true
+    range : isReading (x .kw) ≡ true
+    cells : ltb size (cellsIn g) ≡ false
+    inside : leb (spanIn g) m ≡ false
+    bare : ltb m m ≡ false
+
+  tests : (m : ℕ) (x : Metered) → g .reading m ≡ some x → Tests m x
+  tests m x e =
+      let r = a .readings m x e in
+      let l : m < spanIn g = r .0 in
+      record {
+        least = le-leb 0 m (omega arith);
+        most = le-leb m mostMinute (omega (arith, span-cells g, cells-most g (terms-of a)));
+        range = of-T (isReading (x .kw)) (r .1);
+        cells = le-ltb size (cellsIn g) (a .cells);
+        inside = lt-leb (spanIn g) m l;
+        bare = le-ltb m m (le-refl m);
+      }
+
+  -- the reading of a minute that has one, plain or sent again
+  metered-replay : (m : ℕ) (kw : ℤ) (n : ℕ) → g .reading m ≡ some (record { kw = kw; revision = n })
+      → Replays size (tablesOf g false (before (g .reading) m)) (readingAt (some (record { kw = kw; revision = n })) m)
+      (tablesOf g false (before (g .reading) (suc m)))
+  unfolding refusal conditions firstMet spanIn cellsIn contractOf first isEmpty isSome later
+  metered-replay m kw zero e =
+      let x : Metered = record { kw = kw; revision = zero } in let t = tests m x e in
+      replay-cons (rw (t .least, t .most, t .range, t .cells, t .inside, t .bare)) (tables-kept g false (with-next (g .reading) m (some x) e)) (replay-none refl)
+  metered-replay m kw (suc n) e =
+      let x : Metered = record { kw = kw; revision = suc n } in let t = tests m x e in
+      let sent : suc n ≤ 255 = bytes m x e in
+      replay-cons (rw (le-leb 1 (suc n) (omega arith), le-leb (suc n) 255 sent, t .least, t .most, t .range, t .cells, t .inside, t .bare)) (tables-kept g false (with-next (g .reading) m (some x) e))
+      (replay-none refl)
+
   -- the reading of a minute, if it has one
   minute-replay : (m : ℕ)
       → Replays size (tablesOf g false (before (g .reading) m)) (readingAt (g .reading m) m) (tablesOf g false (before (g .reading) (suc m)))
-  unfolding refusal conditions lowest spanIn cellsIn contractOf first isEmpty isSome later
   minute-replay m = go (g .reading m) refl
     where
-      f : ℕ → Option ℤ
+      f : ℕ → Option Metered
       f = g .reading
 
-      k : Contract
-      k = contractOf g
-
-      go : (o : Option ℤ) → f m ≡ o → Replays size (tablesOf g false (before f m)) (readingAt o m) (tablesOf g false (before f (suc m)))
+      go : (o : Option Metered) → f m ≡ o → Replays size (tablesOf g false (before f m)) (readingAt o m) (tablesOf g false (before f (suc m)))
       go none e = replay-none (ap (tablesOf g false) (fun-ext (λ n. with-none (before f m n) (eqb m n) ∙ with-next f m none e n)))
-      go (some kw) e =
-          let t : Terms k = terms-of a in
-          let r = a .readings m kw e in
-          let l : m < spanIn g = r .0 in
-          replay-cons
-          (rw (
-            le-leb 0 m (omega arith),
-            le-leb m mostMinute (omega (arith, span-cells g, cells-most g t)),
-            of-T (isReading kw) (r .1),
-            le-ltb size (cellsIn g) (a .cells),
-            lt-leb (spanIn g) m l,
-            le-ltb m m (le-refl m),
-          ))
-          (tables-kept g false (with-next f m (some kw) e))
-          (replay-none refl)
+      go (some x) e = metered-replay m (x .kw) (x .revision) e
 
   run-replay : (n m b : ℕ) → m + n ≡ b
       → Replays size (tablesOf g false (before (g .reading) m)) (concatMap (λ m. readingAt (g .reading m) m) (run m n))
@@ -106,10 +124,10 @@ module _ {size : ℕ} {g : Ledger} (a : Agreed size g) where
   all-before : (m : ℕ) → before (g .reading) (spanIn g) m ≡ g .reading m
   all-before m = go (ltb m (spanIn g)) refl (g .reading m) refl
     where
-      go : (b : Bool) → ltb m (spanIn g) ≡ b → (o : Option ℤ) → g .reading m ≡ o → cond b o none ≡ o
+      go : (b : Bool) → ltb m (spanIn g) ≡ b → (o : Option Metered) → g .reading m ≡ o → cond b o none ≡ o
       go true e o q = refl
       go false e none q = refl
-      go false e (some kw) q = absurd (omega (arith, a .readings m kw q .0, ltb-false m (spanIn g) e))
+      go false e (some x) q = absurd (omega (arith, a .readings m x q .0, ltb-false m (spanIn g) e))
 
   -- the readings
   readings-replay : Replays size (tablesOf g false unread) (concatMap (λ m. readingAt (g .reading m) m) (between 0 (spanIn g))) (tablesOf g false (g .reading))
@@ -122,7 +140,7 @@ module _ {size : ℕ} {g : Ledger} (a : Agreed size g) where
 
   -- the close
   close-replay : (z : Bool) → Replays size (tablesOf g false (g .reading)) (cond z (closeᶜ ∷ []) []) (tablesOf g z (g .reading))
-  unfolding refusal conditions lowest spanIn cellsIn contractOf first isEmpty later
+  unfolding refusal conditions firstMet spanIn cellsIn contractOf first isEmpty later
   close-replay false = replay-none refl
   close-replay true = replay-cons (rw (le-ltb size (cellsIn g) (a .cells))) (tables-kept g true (λ m. refl)) (replay-none refl)
 
@@ -166,14 +184,14 @@ untouched-replay size u = subst (λ h. Replays size (ledgerOf []) (written h) h)
 
 -- ---- every ledger that commands leave
 
-pub written-replay : (size : ℕ) (g : Ledger) → Reached size g → Replays size (ledgerOf []) (written g) g
-written-replay size g (untouched u) = untouched-replay size u
-written-replay size g (agreed a) = agreed-replay a
+pub written-replay : (size : ℕ) (g : Ledger) → Reached size g → Revised g → Replays size (ledgerOf []) (written g) g
+written-replay size g (untouched u) b = untouched-replay size u
+written-replay size g (agreed a) b = agreed-replay a b
 
 pub rewritten : Rewritten·theorem
 unfolding taken
-rewritten size g r =
-    let p = written-replay size g r in
+rewritten size g r b =
+    let p = written-replay size g r b in
     record { allTaken = all-taken size [] (written g) (p .accepted); same = ledger-grown [] (written g) ∙ p .leaves }
 
 -- ---- in bytes
@@ -186,6 +204,6 @@ accepted-sayable size g (c ∷ cs) h =
     and-T (fitsBytes c) (all fitsBytes cs) (reread .ranged c (allowed size g c (h .0) .input .operands)) (accepted-sayable size (grown g c) cs (h .1))
 
 -- the file that a ledger is written as has its commands
-pub file-commands : (size : ℕ) (g : Ledger) → Reached size g → commandsIn (fileOf g) ≡ written g
+pub file-commands : (size : ℕ) (g : Ledger) → Reached size g → Revised g → commandsIn (fileOf g) ≡ written g
 unfolding fileOf
-file-commands size g r = reread .file (written g) (accepted-sayable size (ledgerOf []) (written g) (written-replay size g r .accepted))
+file-commands size g r b = reread .file (written g) (accepted-sayable size (ledgerOf []) (written g) (written-replay size g r b .accepted))

@@ -7,10 +7,10 @@ use Prim.Native.Nat.{ℕ}
 use lib.Dec.{T, ltb}
 use Rattle.energy.specs.Lists.{concatMap, isEmpty, later}
 use Rattle.energy.proofs.Tests.{off-not, any-snoc, either}
-use Rattle.commands.specs.Input.{Condition, lowest, inRange, rampTooLong, badWindow, inputConditions}
+use Rattle.commands.specs.Input.{Condition, firstMet, inRange, rampTooLong, badWindow, inputConditions}
 use Rattle.rules.specs.Ledger.{Ledger, ledgerOf, contractIn, windowIn, instructionIn, defaultIn, isClose, isContract, readingIn, readingOf}
 use Rattle.rules.specs.Refusal.{bookConditions, kindConditions, conditions, refusal, joined, takenAfter, cellsFor, beyondSpan}
-use Rattle.rules.specs.Refusal.{rejectedCommitted, windowOverlaps, ceaseEarly, issueEarly, outsideWindows, hasReading, tableFull}
+use Rattle.rules.specs.Refusal.{rejectedCommitted, windowOverlaps, ceaseEarly, issueEarly, outsideWindows, hasReading, revisionHeld, tableFull}
 use Rattle.commands.specs.declared.entries.Command.{Command}
 
 -- ---- the ledger of one command more
@@ -48,8 +48,8 @@ later-none (some z) = refl
 
 readingOf-snoc : (t : List Command) (c : Command) (m : ℕ) → readingOf (t ++ (c ∷ [])) m ≡ later (readingOf t m) (readingIn c m)
 unfolding readingOf later
-readingOf-snoc [] c m = sym (later-none (readingIn c m))
-readingOf-snoc (x ∷ t) c m = ap (λ o. later (readingIn x m) o) (readingOf-snoc t c m) ∙ sym (later-assoc (readingIn x m) (readingOf t m) (readingIn c m))
+readingOf-snoc [] c m = rw later-none
+readingOf-snoc (x ∷ t) c m = simp (readingOf-snoc t c m, later-assoc)
 
 pub ledgerOf-snoc : (t : List Command) (c : Command) → ledgerOf (t ++ (c ∷ [])) ≡ grown (ledgerOf t) c
 unfolding ledgerOf
@@ -71,15 +71,15 @@ Clear (c ∷ cs) = (c .holds ≡ false) × Clear cs
 
 -- the first gives its number where it holds, and else the others decide
 module _ (c : Condition) (cs : List Condition) where
-  pub at-first : c .holds ≡ true → lowest (c ∷ cs) ≡ some (c .number)
-  unfolding lowest
-  at-first h = ap (λ b. elim b as (λ x. Option ℕ) [ true ↦ some (c .number) | false ↦ lowest cs ]) h
+  pub at-first : c .holds ≡ true → firstMet (c ∷ cs) ≡ some (c .number)
+  unfolding firstMet
+  at-first h = ap (λ b. elim b as (λ x. Option ℕ) [ true ↦ some (c .number) | false ↦ firstMet cs ]) h
 
-  pub past-first : c .holds ≡ false → lowest (c ∷ cs) ≡ lowest cs
-  unfolding lowest
-  past-first h = ap (λ b. elim b as (λ x. Option ℕ) [ true ↦ some (c .number) | false ↦ lowest cs ]) h
+  pub past-first : c .holds ≡ false → firstMet (c ∷ cs) ≡ firstMet cs
+  unfolding firstMet
+  past-first h = ap (λ b. elim b as (λ x. Option ℕ) [ true ↦ some (c .number) | false ↦ firstMet cs ]) h
 
-pub clear : (cs : List Condition) → lowest cs ≡ none → Clear cs
+pub clear : (cs : List Condition) → firstMet cs ≡ none → Clear cs
 clear [] e = tt
 clear (c ∷ cs) e =
     either (c .holds) (λ h. absurd (Option·none-ne-some (c .number) (sym e ∙ at-first c cs h))) (λ h. (h, clear cs (sym (past-first c cs h) ∙ e)))
@@ -113,6 +113,7 @@ pub record KindAllowed (g : Ledger) (c : Command) : Type 0 where
   pub recovered : issueEarly g c ≡ false
   pub windowed : outsideWindows g c ≡ false
   pub unread : hasReading g c ≡ false
+  pub above : revisionHeld g c ≡ false
   pub room : tableFull g c ≡ false
 
 pub record Allowed (size : ℕ) (g : Ledger) (c : Command) : Type 0 where
@@ -130,7 +131,7 @@ book-allowed unsound size g c h =
 
 kind-allowed : (g : Ledger) (c : Command) → Clear (kindConditions g c) → KindAllowed g c
 kind-allowed g c h =
-    let (inside, (verdict, (after, (ceased, (recovered, (windowed, (unread, (room, end)))))))) = h in
+    let (inside, (verdict, (after, (ceased, (recovered, (windowed, (unread, (above, (room, end))))))))) = h in
     record {
       inside = inside;
       verdict = verdict;
@@ -139,6 +140,7 @@ kind-allowed g c h =
       recovered = recovered;
       windowed = windowed;
       unread = unread;
+      above = above;
       room = room;
     }
 

@@ -1,12 +1,12 @@
 -- Proved of the rules: "When a command or call is turned down": the numbers of the conditions that each call meets, in their order, and that the
--- lowest number that applies is given, whenever one applies.
+-- first number in this order that applies is given, whenever one applies.
 use mathlib.Core.Path.{_≡_}
-use mathlib.Core.Bool.{Bool, true}
+use mathlib.Core.Bool.{Bool, true, false}
 use mathlib.Core.List.{List, [], _∷_, _++_, map, List·Memᴰ}
 use mathlib.Core.Option.{some}
-use Prim.Native.Nat.{ℕ, _≤_}
-use Rattle.energy.specs.Lists.{between}
-use Rattle.commands.specs.Input.{Condition, _when_, lowest}
+use Prim.Native.Nat.{ℕ}
+use Rattle.energy.specs.Lists.{between, any}
+use Rattle.commands.specs.Input.{Condition, _when_, firstMet}
 use Rattle.rules.specs.Ledger.{Ledger}
 use Rattle.rules.specs.Refusal.{conditions}
 use Rattle.rules.specs.Statement.{settleConditions}
@@ -21,29 +21,35 @@ numbers cs = map (λ c. c .number) cs
 
 -- whatever the command, the book and the memory. 1 and 2 are the reader's
 pub record Numbered : Type 0 where
-  -- a command meets 3 to 5 from its input and 11 to 23 from the state
+  -- a command meets 3 to 5 from its input and 11 to 23 from the state, with 27 after 22
   pub command :
-      (unsound : Bool) (size : ℕ) (g : Ledger) (c : Command) → numbers (conditions unsound size g c) ≡ between 3 6 ++ between 11 24
+      (unsound : Bool) (size : ℕ) (g : Ledger) (c : Command) → numbers (conditions unsound size g c) ≡ between 3 6 ++ between 11 23 ++ 27 ∷ 23 ∷ []
   -- settling meets 11, 15, 24, 25 and 26
   pub settling :
       (unsound : Bool) (size room : ℕ) (g : Ledger) → numbers (settleConditions unsound size room g) ≡ 11 ∷ 15 ∷ 24 ∷ 25 ∷ 26 ∷ []
   -- writing meets 11, 15 and 26
   pub writing : (unsound : Bool) (size room : ℕ) (g : Ledger) → numbers (writeConditions unsound size room g) ≡ 11 ∷ 15 ∷ 26 ∷ []
 
--- ---- the lowest
+-- ---- the first
 
 -- number n applies: its condition is one of these, and holds
 abbrev pub Applies : ℕ → List Condition → Type 0
 Applies n cs = List·Memᴰ (n when true) cs
 
--- the number that is given applies, no lower one does, and one is given whenever one applies
-pub record GivesLowest (cs : List Condition) : Type 0 where
-  pub applies : (n : ℕ) → lowest cs ≡ some n → Applies n cs
-  pub least : (n m : ℕ) → lowest cs ≡ some n → Applies m cs → n ≤ m
-  pub whenever : (m : ℕ) → Applies m cs → (n : ℕ) × (lowest cs ≡ some n)
+-- number n applies and none before it does
+pub record AppliesFirst (n : ℕ) (cs : List Condition) : Type 0 where
+  pub before : List Condition
+  pub after : List Condition
+  pub stands : cs ≡ before ++ (n when true) ∷ after
+  pub none : any (λ (c : Condition). c .holds) before ≡ false
+
+-- the number that is given applies and none before it does, and one is given whenever one applies
+pub record GivesFirst (cs : List Condition) : Type 0 where
+  pub given : (n : ℕ) → firstMet cs ≡ some n → AppliesFirst n cs
+  pub whenever : (m : ℕ) → Applies m cs → (n : ℕ) × (firstMet cs ≡ some n)
 
 -- so it is of every command, of settling and of writing
-pub record Lowest : Type 0 where
-  pub command : (unsound : Bool) (size : ℕ) (g : Ledger) (c : Command) → GivesLowest (conditions unsound size g c)
-  pub settling : (unsound : Bool) (size room : ℕ) (g : Ledger) → GivesLowest (settleConditions unsound size room g)
-  pub writing : (unsound : Bool) (size room : ℕ) (g : Ledger) → GivesLowest (writeConditions unsound size room g)
+pub record First : Type 0 where
+  pub command : (unsound : Bool) (size : ℕ) (g : Ledger) (c : Command) → GivesFirst (conditions unsound size g c)
+  pub settling : (unsound : Bool) (size room : ℕ) (g : Ledger) → GivesFirst (settleConditions unsound size room g)
+  pub writing : (unsound : Bool) (size room : ℕ) (g : Ledger) → GivesFirst (writeConditions unsound size room g)

@@ -11,7 +11,8 @@ use Rattle.rules.specs.Statement.{lines, windowsPaid}
 use Rattle.rules.specs.File.{contractFrom, write}
 use Rattle.commands.specs.declared.entries.Command.{Command}
 use Rattle.commands.specs.declared.entries.Command.the-variants.{Contract as contractᶜ, Window as windowᶜ, Instruction as instructionᶜ}
-use Rattle.commands.specs.declared.entries.Command.the-variants.{Default as defaultᶜ, Reading as readingᶜ, Close as closeᶜ}
+use Rattle.commands.specs.declared.entries.Command.the-variants.{Default as defaultᶜ, Reading as readingᶜ, Revision as revisionᶜ}
+use Rattle.commands.specs.declared.entries.Command.the-variants.{Close as closeᶜ}
 use Rattle.rules.specs.declared.statement.Stage.{Stage}
 use Rattle.rules.specs.declared.statement.Rate.{Rate}
 use Rattle.rules.specs.declared.statement.Line.{Line}
@@ -102,6 +103,10 @@ defaulted m k r = defaultᶜ (record { minute = record { 0 = m }; kind = k; reac
 abbrev pub metered : ℕ → ℤ → Command
 metered m z = readingᶜ (record { minute = record { 0 = m }; kw = record { 0 = z } })
 
+-- a revision: minute, number, kW
+abbrev pub revised : ℕ → ℕ → ℤ → Command
+revised m n z = revisionᶜ (record { number = n; reading = record { minute = record { 0 = m }; kw = record { 0 = z } } })
+
 -- readings in the minutes from m
 abbrev pub readingsFrom : ℕ → List ℤ → List Command
 readingsFrom m [] = []
@@ -165,15 +170,15 @@ appendix2File = concatMap write appendix2
 abbrev pub appendix3 : List Command
 appendix3 = month (set guide kind reducer) accepted reduced
 
--- what is taken of a list of commands, with meter memory of a day
+-- what is taken of a list of commands, with lent memory of a day
 unfoldable pub ledger : List Command → Ledger
 ledger cs = ledgerOf (taken 1440 cs)
 
 -- ---- a unit file
 
--- a command of each kind: Appendix 2's contract, window and instruction, a default, a reading of −1 kW, a close
+-- a command of each kind: Appendix 2's contract, window and instruction, a default, a reading of −1 kW, its revision 9 as 2 kW, a close
 abbrev pub sample : List Command
-sample = agree guide ∷ offer 0 180 accepted ∷ instructed 5 85 ∷ defaulted 31 4 1 ∷ metered 7 (minus 1) ∷ closeᶜ ∷ []
+sample = agree guide ∷ offer 0 180 accepted ∷ instructed 5 85 ∷ defaulted 31 4 1 ∷ metered 7 (minus 1) ∷ revised 7 9 (pos 2) ∷ closeᶜ ∷ []
 
 -- their bytes
 abbrev pub sampleBytes : List ℕ
@@ -184,11 +189,12 @@ sampleBytes =
     ++ (0x49 ∷ 0x00 ∷ 0x05 ∷ 0x00 ∷ 0x55 ∷ [])
     ++ (0x44 ∷ 0x00 ∷ 0x1F ∷ 0x04 ∷ 0x01 ∷ [])
     ++ (0x4D ∷ 0x00 ∷ 0x07 ∷ 0xFF ∷ 0xFF ∷ 0xFF ∷ 0xFF ∷ [])
+    ++ (0x52 ∷ 0x00 ∷ 0x07 ∷ 0x09 ∷ 0x00 ∷ 0x00 ∷ 0x00 ∷ 0x02 ∷ [])
     ++ (0x5A ∷ [])
 
 -- ---- what is asked of a ledger
 
--- what is taken of a contract with these operands, but over two days, and of commands after it, with meter memory of two days
+-- what is taken of a contract with these operands, but over two days, and of commands after it, with lent memory of two days
 abbrev pub twoDays : List ℕ → List Command → Ledger
 twoDays v cs = ledgerOf (taken 2880 (agree (set v days 2) ∷ cs))
 

@@ -8,16 +8,19 @@ use lib.IntN.{ℤ, pos, negsuc, natAbs}
 use lib.Dec.{eqb, leb, ltb}
 use lib.ListN.{length, getD, take, drop}
 use Rattle.energy.specs.Lists.{concatMap, between}
-use Rattle.rules.specs.Ledger.{Ledger, spanIn, cellsIn}
+use Rattle.rules.specs.Ledger.{Ledger, Metered, spanIn, cellsIn}
+use Rattle.commands.specs.Command.{revisedAs}
 use Rattle.commands.specs.Input.{Condition, _when_}
 use Rattle.commands.specs.declared.contract.Contract.{Contract}
 use Rattle.commands.specs.declared.entries.Window.{Window}
 use Rattle.commands.specs.declared.entries.Instruction.{Instruction}
 use Rattle.commands.specs.declared.entries.Default.{Default}
 use Rattle.commands.specs.declared.entries.Reading.{Reading}
+use Rattle.commands.specs.declared.entries.Revision.{Revision}
 use Rattle.commands.specs.declared.entries.Command.{Command}
 use Rattle.commands.specs.declared.entries.Command.the-variants.{Contract as contractᶜ, Window as windowᶜ, Instruction as instructionᶜ}
-use Rattle.commands.specs.declared.entries.Command.the-variants.{Default as defaultᶜ, Reading as readingᶜ, Close as closeᶜ}
+use Rattle.commands.specs.declared.entries.Command.the-variants.{Default as defaultᶜ, Reading as readingᶜ, Revision as revisionᶜ}
+use Rattle.commands.specs.declared.entries.Command.the-variants.{Close as closeᶜ}
 use Rattle.rules.specs.declared.file.Read.{Read}
 use Rattle.rules.specs.declared.file.Read.the-variants.{Got, Refused, End}
 
@@ -30,7 +33,7 @@ pub record Layout : Type 0 where
 abbrev row : ℕ → List ℕ → Layout
 row b ws = record { byte = b; widths = ws }
 
--- contract, window, instruction, default, reading, close
+-- contract, window, instruction, default, reading, revision, close
 unfoldable pub table : List Layout
 table =
     row 0x43 (1 ∷ 1 ∷ 1 ∷ 4 ∷ 4 ∷ 4 ∷ 2 ∷ 2 ∷ 4 ∷ 4 ∷ 4 ∷ [])
@@ -38,6 +41,7 @@ table =
     ∷ row 0x49 (2 ∷ 2 ∷ [])
     ∷ row 0x44 (2 ∷ 1 ∷ 1 ∷ [])
     ∷ row 0x4D (2 ∷ 4 ∷ [])
+    ∷ row 0x52 (2 ∷ 1 ∷ 4 ∷ [])
     ∷ row 0x5A []
     ∷ []
 
@@ -114,6 +118,10 @@ defaultFrom v = record { minute = record { 0 = getD v 0 0 }; kind = getD v 1 0; 
 abbrev pub readingFrom : List ℕ → Reading
 readingFrom v = record { minute = record { 0 = getD v 0 0 }; kw = record { 0 = signedOf (getD v 1 0) } }
 
+-- a revision: its number stands between minute and kW
+abbrev pub revisionFrom : List ℕ → Revision
+revisionFrom v = record { number = getD v 1 0; reading = record { minute = record { 0 = getD v 0 0 }; kw = record { 0 = signedOf (getD v 2 0) } } }
+
 -- the command of a byte of the table, from its operands; none for a byte that the table lacks
 unfoldable pub commandOf : ℕ → List ℕ → Option Command
 commandOf b v =
@@ -122,7 +130,8 @@ commandOf b v =
     (cond (eqb 0x49 b) (some (instructionᶜ (instructionFrom v)))
     (cond (eqb 0x44 b) (some (defaultᶜ (defaultFrom v)))
     (cond (eqb 0x4D b) (some (readingᶜ (readingFrom v)))
-    (cond (eqb 0x5A b) (some closeᶜ) none)))))
+    (cond (eqb 0x52 b) (some (revisionᶜ (revisionFrom v)))
+    (cond (eqb 0x5A b) (some closeᶜ) none))))))
 
 -- ---- reading
 
@@ -152,6 +161,7 @@ byteOf (windowᶜ w) = 0x57
 byteOf (instructionᶜ i) = 0x49
 byteOf (defaultᶜ d) = 0x44
 byteOf (readingᶜ r) = 0x4D
+byteOf (revisionᶜ v) = 0x52
 byteOf closeᶜ = 0x5A
 
 -- a command's operands, as numbers without a sign
@@ -165,6 +175,7 @@ operandsOf (windowᶜ w) = w .start .0 ∷ w .end .0 ∷ w .verdict ∷ []
 operandsOf (instructionᶜ i) = i .issue .0 ∷ i .cease .0 ∷ []
 operandsOf (defaultᶜ d) = d .minute .0 ∷ d .kind ∷ d .reach ∷ []
 operandsOf (readingᶜ r) = r .minute .0 ∷ unsignedOf (r .kw .0) ∷ []
+operandsOf (revisionᶜ v) = v .reading .minute .0 ∷ v .number ∷ unsignedOf (v .reading .kw .0) ∷ []
 operandsOf closeᶜ = []
 
 -- operands as bytes, by their widths
@@ -187,9 +198,9 @@ unfoldable pub write : Command → List ℕ
 write c = byteOf c ∷ writeOperands (widthsFor c) (operandsOf c)
 
 -- the reading of minute m as a command, if there is one
-abbrev pub readingAt : Option ℤ → ℕ → List Command
+abbrev pub readingAt : Option Metered → ℕ → List Command
 readingAt none m = []
-readingAt (some z) m = readingᶜ (record { minute = record { 0 = m }; kw = record { 0 = z } }) ∷ []
+readingAt (some x) m = revisedAs (x .revision) (record { minute = record { 0 = m }; kw = record { 0 = x .kw } }) ∷ []
 
 -- the commands that a book is written as: contract, windows, instructions, defaults, readings by rising minute, close if closed
 unfoldable pub written : Ledger → List Command
@@ -202,7 +213,7 @@ written g =
 unfoldable pub fileOf : Ledger → List ℕ
 fileOf g = concatMap write (written g)
 
--- what writing meets. unsound: no list of commands leaves the book; size and room: the lengths of meter memory and of the lent bytes
+-- what writing meets. unsound: no list of commands leaves the book; size: the room of lent memory; room: the length of the lent bytes
 unfoldable pub writeConditions : Bool → ℕ → ℕ → Ledger → List Condition
 writeConditions unsound size room g =
     (11 when unsound) ∷ (15 when ltb size (cellsIn g)) ∷ (26 when ltb room (length (fileOf g))) ∷ []

@@ -1,5 +1,5 @@
 -- "The book" and "The lists of demand 3": what the commands taken give. Every condition and every sum reads contract, windows, instructions,
--- defaults, close, span and the reading of a minute off a ledger.
+-- defaults, close, span and what a minute holds off a ledger.
 use mathlib.Core.Bool.{Bool, true, false, cond, _&&_}
 use mathlib.Core.List.{List, [], _∷_}
 use mathlib.Core.Option.{Option, none, some}
@@ -7,13 +7,23 @@ use Prim.Native.Nat.{ℕ, _+_, _-_, _*_}
 use lib.IntN.{ℤ, pos}
 use lib.Dec.{eqb, leb, ltb}
 use Rattle.energy.specs.Lists.{first, later, concatMap, any}
-use Rattle.commands.specs.Command.{onContract, onWindow, onInstruction, onDefault, onReading, onClose, always}
+use Rattle.commands.specs.Command.{onContract, onWindow, onInstruction, onDefault, onMetered, onClose, always}
 use Rattle.commands.specs.Input.{upMinutes, downMinutes}
 use Rattle.commands.specs.declared.contract.Contract.{Contract}
 use Rattle.commands.specs.declared.entries.Window.{Window}
 use Rattle.commands.specs.declared.entries.Instruction.{Instruction}
 use Rattle.commands.specs.declared.entries.Default.{Default}
 use Rattle.commands.specs.declared.entries.Command.{Command}
+
+-- what a minute holds: its kW, and the revision of that reading, 0 for a plain one
+pub record Metered : Type 0 where
+  pub kw : ℤ
+  pub revision : ℕ
+
+-- the kW of a minute; 0 where it has no reading
+abbrev pub kwIn : Option Metered → ℤ
+kwIn none = pos 0
+kwIn (some x) = x .kw
 
 -- what has been entered. There is at most one contract
 pub record Ledger : Type 0 where
@@ -22,7 +32,7 @@ pub record Ledger : Type 0 where
   pub instructions : List Instruction
   pub defaults : List Default
   pub closed : Bool
-  pub reading : ℕ → Option ℤ
+  pub reading : ℕ → Option Metered
 
 -- ---- read off the commands taken
 
@@ -42,9 +52,10 @@ instructionIn c = onInstruction (λ i. i ∷ []) (always []) c
 abbrev pub defaultIn : Command → List Default
 defaultIn c = onDefault (λ d. d ∷ []) (always []) c
 
--- the kW that a command gives minute m
-abbrev pub readingIn : Command → ℕ → Option ℤ
-readingIn c m = onReading (λ r. cond (eqb (r .minute .0) m) (some (r .kw .0)) none) (always none) c
+-- what a command gives minute m
+abbrev pub readingIn : Command → ℕ → Option Metered
+readingIn c m =
+    onMetered (λ n r. cond (eqb (r .minute .0) m) (some (record { kw = r .kw .0; revision = n })) none) (always none) c
 
 -- a command is a close
 abbrev pub isClose : Command → Bool
@@ -54,8 +65,8 @@ isClose c = onClose true (always false) c
 abbrev pub isContract : Command → Bool
 isContract c = onContract (λ k. true) (always false) c
 
--- the reading of minute m: the kW of the last command that gives it one
-unfoldable pub readingOf : List Command → ℕ → Option ℤ
+-- the reading of minute m: kW and revision of the last command that gives it one
+unfoldable pub readingOf : List Command → ℕ → Option Metered
 readingOf [] m = none
 readingOf (c ∷ t) m = later (readingIn c m) (readingOf t m)
 
@@ -102,7 +113,7 @@ spanOf k = 1440 * k .days
 unfoldable pub spanIn : Ledger → ℕ
 spanIn g = spanOf (contractOf g)
 
--- 15: the cells that meter memory must have for it
+-- 15: the minutes that lent memory must have room for
 unfoldable pub cellsIn : Ledger → ℕ
 cellsIn g = spanOf (contractOf g)
 

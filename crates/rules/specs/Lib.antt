@@ -15,6 +15,7 @@ pub mod Delivered
 pub mod Availability
 pub mod Amounts
 pub mod WrittenOrder
+pub mod Revisions
 pub mod Bounds
 pub mod Reread
 pub mod FileLength

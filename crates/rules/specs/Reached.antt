@@ -5,12 +5,11 @@ use mathlib.Core.Bool.{Bool, true, false, not, _&&_}
 use mathlib.Core.List.{List, [], _∷_}
 use mathlib.Core.Option.{none, some}
 use Prim.Native.Nat.{ℕ, _+_, _≤_, _<_}
-use lib.IntN.{ℤ}
 use lib.Dec.{T, eqb, leb, ltb}
 use lib.ListN.{length}
 use Rattle.energy.specs.Lists.{all, any, pass}
 use Rattle.commands.specs.Input.{inRange, rampTooLong, badWindow, isReading}
-use Rattle.rules.specs.Ledger.{Ledger, ledgerOf, contractOf, spanIn, cellsIn, expiry, endOf, within}
+use Rattle.rules.specs.Ledger.{Ledger, Metered, ledgerOf, contractOf, spanIn, cellsIn, expiry, endOf, within}
 use Rattle.rules.specs.Refusal.{taken}
 use Rattle.commands.specs.declared.contract.Contract.{Contract}
 use Rattle.commands.specs.declared.entries.Window.{Window}
@@ -59,7 +58,7 @@ pub record Untouched (g : Ledger) : Type 0 where
   pub notClosed : g .closed ≡ false
   pub readings : (m : ℕ) → g .reading m ≡ none
 
--- one contract, entries that could be taken under it and fit their tables, and meter memory of this size with the cells for it
+-- one contract, entries that could be taken under it and fit their tables, and lent memory of this size with room for it
 pub record Agreed (size : ℕ) (g : Ledger) : Type 0 where
   pub contract : g .contracts ≡ contractOf g ∷ []
   pub tests : T (pass (agreedTests (contractOf g) (spanIn g) (g .windows) (g .instructions) (g .defaults)))
@@ -67,7 +66,7 @@ pub record Agreed (size : ℕ) (g : Ledger) : Type 0 where
   pub instructions : length (g .instructions) ≤ 64
   pub defaults : length (g .defaults) ≤ 128
   pub cells : cellsIn g ≤ size
-  pub readings : (m : ℕ) (kw : ℤ) → g .reading m ≡ some kw → (m < spanIn g) × T (isReading kw)
+  pub readings : (m : ℕ) (x : Metered) → g .reading m ≡ some x → (m < spanIn g) × T (isReading (x .kw))
 
 -- a ledger of one of these two kinds
 pub data Reached (size : ℕ) (g : Ledger) : Type 0 where

@@ -6,9 +6,9 @@ use Prim.Native.Nat.{ℕ, _+_}
 use lib.Dec.{eqb, leb, ltb}
 use lib.ListN.{length}
 use Rattle.energy.specs.Lists.{any, last, isEmpty, isSome}
-use Rattle.commands.specs.Command.{onContract, onWindow, onInstruction, onDefault, onReading, always}
-use Rattle.commands.specs.Input.{Condition, _when_, inputConditions, lowest}
-use Rattle.rules.specs.Ledger.{Ledger, ledgerOf, contractOf, isContract, spanOf, spanIn, cellsIn, expiry, endOf, within, noWindow}
+use Rattle.commands.specs.Command.{onContract, onWindow, onInstruction, onDefault, onReading, onRevision, onMetered, always}
+use Rattle.commands.specs.Input.{Condition, _when_, inputConditions, firstMet}
+use Rattle.rules.specs.Ledger.{Ledger, Metered, ledgerOf, contractOf, isContract, spanOf, spanIn, cellsIn, expiry, endOf, within, noWindow}
 use Rattle.commands.specs.declared.contract.Contract.{Contract}
 use Rattle.commands.specs.declared.entries.Instruction.{Instruction}
 use Rattle.commands.specs.declared.entries.Command.{Command}
@@ -17,17 +17,17 @@ use Rattle.rules.specs.declared.answer.Answer.the-variants.{Taken, Refus
 
 -- ---- from the state
 
--- 15: the cells that meter memory must have: for a contract its own span, or what the book needs
+-- 15: the minutes that lent memory must have room for: for a contract its own span, or what the book needs
 abbrev pub cellsFor : Ledger → Command → ℕ
 cellsFor g c = onContract spanOf (always (cellsIn g)) c
 
--- 16: window end or instruction end above the span, or default or reading minute not below it
+-- 16: window end or instruction end above the span, or the minute of a default or of a reading of either kind not below it
 abbrev pub beyondSpan : Ledger → Command → Bool
 beyondSpan g c =
     onWindow (λ w. ltb (spanIn g) (w .end .0))
     (onInstruction (λ i. ltb (spanIn g) (endOf (contractOf g) i))
     (onDefault (λ d. leb (spanIn g) (d .minute .0))
-    (onReading (λ r. leb (spanIn g) (r .minute .0))
+    (onMetered (λ n r. leb (spanIn g) (r .minute .0))
     (always false))))
     c
 
@@ -60,9 +60,18 @@ issueEarly g c = onInstruction (λ i. ltb (i .issue .0) (recovered (contractOf g
 abbrev pub outsideWindows : Ledger → Command → Bool
 outsideWindows g c = onDefault (λ d. not (any (λ w. within w (d .minute .0)) (g .windows))) (always false) c
 
--- 22: minute already has a reading
+-- 22: plain reading for a minute that already has one
 abbrev pub hasReading : Ledger → Command → Bool
 hasReading g c = onReading (λ r. isSome (g .reading (r .minute .0))) (always false) c
+
+-- a revision that is not above what a minute holds; a minute without a reading holds none
+abbrev pub notAbove : ℕ → Option Metered → Bool
+notAbove n none = false
+notAbove n (some x) = leb n (x .revision)
+
+-- 27: revision not above the one held
+abbrev pub revisionHeld : Ledger → Command → Bool
+revisionHeld g c = onRevision (λ v. notAbove (v .number) (g .reading (v .reading .minute .0))) (always false) c
 
 -- 23: the command's table is full
 abbrev pub tableFull : Ledger → Command → Bool
@@ -73,9 +82,9 @@ tableFull g c =
     (always false)))
     c
 
--- ---- the lowest number that applies
+-- ---- the first number that applies
 
--- what any command meets at a book: size is the length of meter memory. unsound: no list of commands leaves the book, which is never so of a book that one left
+-- what any command meets at a book: size is the room of lent memory. unsound: no list of commands leaves the book, which is never so of a book that one left
 abbrev pub bookConditions : Bool → ℕ → Ledger → Command → List Condition
 bookConditions unsound size g c =
     (11 when unsound)
@@ -95,6 +104,7 @@ kindConditions g c =
     ∷ (20 when issueEarly g c)
     ∷ (21 when outsideWindows g c)
     ∷ (22 when hasReading g c)
+    ∷ (27 when revisionHeld g c)
     ∷ (23 when tableFull g c)
     ∷ []
 
@@ -104,7 +114,7 @@ conditions unsound size g c = inputConditions c ++ bookConditions unsound size g
 
 -- the number under which a command is turned down, if it is
 unfoldable pub refusal : Bool → ℕ → Ledger → Command → Option ℕ
-refusal unsound size g c = lowest (conditions unsound size g c)
+refusal unsound size g c = firstMet (conditions unsound size g c)
 
 -- the answer for a number: taken where there is none
 abbrev pub answerOf : Option ℕ → Answer

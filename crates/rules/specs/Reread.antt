@@ -8,7 +8,7 @@ use lib.IntN.{pos, negsuc}
 use lib.ListN.{length}
 use lib.Signed.{leZ}
 use Rattle.energy.specs.Lists.{all, concatMap, isSome}
-use Rattle.commands.specs.Command.{onContract, onReading, always}
+use Rattle.commands.specs.Command.{onContract, onMetered, always}
 use Rattle.commands.specs.Input.{from-toℤ, inRange}
 use Rattle.rules.specs.File.{table, widthsOf, total, commandOf, readAt, operandsOf, widthsFor, write, commandsFrom, commandsIn}
 use Rattle.commands.specs.declared.entries.Command.{Command}
@@ -25,7 +25,7 @@ fit (w ∷ ws) (n ∷ v) = ltb n (256 ^ w) && fit ws v
 abbrev pub signFits : Command → Bool
 signFits c =
     onContract (λ k. leZ (pos 0) (k .contracted .0))
-    (onReading (λ r. from-toℤ (negsuc 2147483647) (pos 2147483647) (r .kw .0))
+    (onMetered (λ n r. from-toℤ (negsuc 2147483647) (pos 2147483647) (r .kw .0))
     (always true))
     c
 

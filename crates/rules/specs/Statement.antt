@@ -6,10 +6,10 @@ use Prim.Native.Nat.{ℕ, _+_, _-_, _*_, _/_, _≤_, min}
 use lib.IntN.{ℤ, pos, natAbs, _+ℤ_, _-ℤ_, _*ℤ_}
 use lib.Dec.{eqb, leb, ltb}
 use lib.ListN.{length, replicate}
-use Rattle.energy.specs.Lists.{any, filter, count, sum, sumℕ, between, else}
+use Rattle.energy.specs.Lists.{any, filter, count, sum, sumℕ, between}
 use Rattle.energy.specs.Energy.{steadyQuarters, rampQuarters, delivers, kwh, capped, payment, periodParts, penceOfParts}
-use Rattle.rules.specs.Ledger.{Ledger, contractOf, cellsIn, within}
-use Rattle.commands.specs.Input.{kwOf, Condition, _when_, lowest}
+use Rattle.rules.specs.Ledger.{Ledger, kwIn, contractOf, cellsIn, within}
+use Rattle.commands.specs.Input.{kwOf, Condition, _when_, firstMet}
 use Rattle.rules.specs.Segment.{periodOf, baseMinutes, complete, stageOf, live, rateAt, price, Segment, segments}
 use Rattle.commands.specs.declared.contract.Contract.{Contract}
 use Rattle.commands.specs.declared.entries.Window.{Window}
@@ -32,7 +32,7 @@ expects k Down = pos (rampQuarters (kwOf k))
 
 -- the reading of a minute that has one
 unfoldable pub reads : Ledger → ℕ → ℤ
-reads g m = else (g .reading m) (pos 0)
+reads g m = kwIn (g .reading m)
 
 -- S: the sum of an instruction's four base readings
 unfoldable pub baseLoad : Ledger → Instruction → ℤ
@@ -179,4 +179,4 @@ settleConditions unsound size room g =
 
 -- the number under which settling is turned down, if it is
 unfoldable pub settleRefusal : Bool → ℕ → ℕ → Ledger → Option ℕ
-settleRefusal unsound size room g = lowest (settleConditions unsound size room g)
+settleRefusal unsound size room g = firstMet (settleConditions unsound size room g)

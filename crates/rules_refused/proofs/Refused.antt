@@ -13,7 +13,7 @@ refusals =
       spans = record { settings = refl; answers = refl; unsound = refl };
       orders = record { settings = refl; answers = refl; unsound = refl };
       tables = record { settings = refl; answers = refl; unsound = refl };
-      lowest = record { settings = refl; answers = refl; unsound = refl };
+      first = record { settings = refl; answers = refl; unsound = refl };
       settling = record { settings = refl; answers = refl; unsound = refl };
       reading = refl;
       known = refl;

@@ -1,5 +1,6 @@
 -- "When a command or call is turned down", by example: for each number but 11 what gets it, beside it the nearest that is taken, and for conditions that
--- hold at once, that the lowest number is given. 11 is a book's, so its examples stand with the book; here is where it stands among the others.
+-- hold at once, that the first number in the list is given. 11 is a book's, so its examples stand with the book; here is where it stands among the
+-- others.
 use mathlib.Core.Path.{_≡_}
 use mathlib.Core.Bool.{Bool, true, false, not}
 use mathlib.Core.List.{List, [], _∷_, _++_, map}
@@ -13,8 +14,8 @@ use Rattle.rules.specs.Refusal.{refusal, answerOf, taken}
 use Rattle.rules.specs.Statement.{settleRefusal}
 use Rattle.rules.specs.File.{readAt, write}
 use Rattle.rules.specs.Examples.{minus, agree, guide, days, kind, service, contracted, rampup, rampdown, response, recovery, availability}
-use Rattle.rules.specs.Examples.{utilisation, optional, flexible, accepted, rejected, offer, instructed, defaulted, metered, readingsFrom, periods, manyInstructed, opening}
-use Rattle.rules.specs.Examples.{appendix2, sample, sampleBytes}
+use Rattle.rules.specs.Examples.{utilisation, optional, flexible, accepted, rejected, offer, instructed, defaulted, metered, revised, readingsFrom}
+use Rattle.rules.specs.Examples.{periods, manyInstructed, opening, appendix2, sample, sampleBytes}
 use Rattle.commands.specs.declared.entries.Command.{Command}
 use Rattle.commands.specs.declared.entries.Command.the-variants.{Contract as contractᶜ, Close as closeᶜ}
 use Rattle.rules.specs.declared.answer.Answer.{Answer}
@@ -115,6 +116,14 @@ faulty n = day (opening ++ replicate n (defaulted 0 1 1))
 abbrev pub read : Setting
 read = day (agree guide ∷ metered 7 (pos 0) ∷ [])
 
+-- revision n in minute 7, and no plain reading
+abbrev pub revisedAt : ℕ → Setting
+revisedAt n = day (agree guide ∷ revised 7 n (pos 0) ∷ [])
+
+-- a reading in minute 7, and after it its revisions 4 and 9
+abbrev pub corrected : Setting
+corrected = day (agree guide ∷ metered 7 (pos 0) ∷ revised 7 4 (pos 0) ∷ revised 7 9 (pos 0) ∷ [])
+
 -- Appendix 2's contract with a negative kW, which no unit file can say
 abbrev pub negative : Command
 negative =
@@ -190,6 +199,16 @@ operandCases =
     ∷ begun enters metered 0 (minus 500000) gets Taken
     ∷ begun enters metered 0 (pos 500000) gets Taken
     ∷ begun enters metered 0 (pos 500001) gets Refused 3
+    ∷ begun enters revised 44640 1 (pos 0) gets Refused 16
+    ∷ begun enters revised 44641 1 (pos 0) gets Refused 3
+    ∷ begun enters revised 0 0 (pos 0) gets Refused 3
+    ∷ begun enters revised 0 1 (pos 0) gets Taken
+    ∷ begun enters revised 0 255 (pos 0) gets Taken
+    ∷ begun enters revised 0 256 (pos 0) gets Refused 3
+    ∷ begun enters revised 0 1 (minus 500001) gets Refused 3
+    ∷ begun enters revised 0 1 (minus 500000) gets Taken
+    ∷ begun enters revised 0 1 (pos 500000) gets Taken
+    ∷ begun enters revised 0 1 (pos 500001) gets Refused 3
     ∷ []
 
 -- 4: U is 21 and 20 with a response of 20; V is 241 and 240. 5: start and end, and multiples of 30
@@ -216,11 +235,13 @@ bookCases =
     ∷ shut begun enters instructed 5 85 gets Refused 12
     ∷ shut begun enters defaulted 0 1 1 gets Refused 12
     ∷ shut begun enters metered 0 (pos 0) gets Refused 12
+    ∷ shut begun enters revised 0 1 (pos 0) gets Refused 12
     ∷ shut begun enters closeᶜ gets Refused 12
     ∷ empty enters offer 0 180 accepted gets Refused 13
     ∷ empty enters instructed 5 85 gets Refused 13
     ∷ empty enters defaulted 0 1 1 gets Refused 13
     ∷ empty enters metered 0 (pos 0) gets Refused 13
+    ∷ empty enters revised 0 1 (pos 0) gets Refused 13
     ∷ empty enters closeᶜ gets Refused 13
     ∷ empty enters agree guide gets Taken
     ∷ begun enters agree guide gets Refused 14
@@ -237,6 +258,7 @@ spanCases =
     ∷ lending 1439 begun enters instructed 5 85 gets Refused 15
     ∷ lending 1439 begun enters defaulted 0 1 1 gets Refused 15
     ∷ lending 1439 begun enters metered 0 (pos 0) gets Refused 15
+    ∷ lending 1439 begun enters revised 0 1 (pos 0) gets Refused 15
     ∷ lending 1439 begun enters closeᶜ gets Refused 15
     ∷ begun enters offer 1410 1470 accepted gets Refused 16
     ∷ begun enters offer 1410 1440 accepted gets Taken
@@ -246,6 +268,8 @@ spanCases =
     ∷ day (agree guide ∷ offer 1410 1440 accepted ∷ []) enters defaulted 1439 1 1 gets Taken
     ∷ begun enters metered 1440 (pos 0) gets Refused 16
     ∷ begun enters metered 1439 (pos 0) gets Taken
+    ∷ begun enters revised 1440 1 (pos 0) gets Refused 16
+    ∷ begun enters revised 1439 1 (pos 0) gets Taken
     ∷ []
 
 -- 17 and 18: touching is allowed. 19 and 20: so is it here, and 20 asks nothing of the first instruction
@@ -262,7 +286,8 @@ orderCases =
     ∷ day (agree (set guide recovery 60) ∷ []) enters instructed 3 85 gets Taken
     ∷ []
 
--- 21: a window's end is not in it, and a rejected or an excluded window counts. 22: a minute's second reading. 23: each table, by itself
+-- 21: a window's end is not in it, and a rejected or an excluded window counts. 22: a plain reading where there is one of either kind. 27: a revision
+-- that is not above the last one. 23: each table, by itself
 abbrev pub tableCases : List Case
 tableCases =
     begun enters defaulted 180 1 1 gets Refused 21
@@ -272,6 +297,18 @@ tableCases =
     ∷ day (agree (set guide service flexible) ∷ offer 0 180 rejected ∷ []) enters defaulted 0 1 1 gets Taken
     ∷ read enters metered 7 (pos 1) gets Refused 22
     ∷ read enters metered 8 (pos 1) gets Taken
+    ∷ revisedAt 9 enters metered 7 (pos 1) gets Refused 22
+    ∷ revisedAt 9 enters metered 8 (pos 1) gets Taken
+    ∷ corrected enters metered 7 (pos 1) gets Refused 22
+    ∷ corrected enters revised 7 8 (pos 1) gets Refused 27
+    ∷ corrected enters revised 7 9 (pos 1) gets Refused 27
+    ∷ corrected enters revised 7 10 (pos 1) gets Taken
+    ∷ corrected enters revised 8 1 (pos 1) gets Taken
+    ∷ read enters revised 7 1 (pos 1) gets Taken
+    ∷ revisedAt 1 enters revised 7 1 (pos 1) gets Refused 27
+    ∷ revisedAt 1 enters revised 7 2 (pos 1) gets Taken
+    ∷ revisedAt 254 enters revised 7 255 (pos 1) gets Taken
+    ∷ revisedAt 255 enters revised 7 255 (pos 1) gets Refused 27
     ∷ windows 128 enters offer 3840 3870 accepted gets Refused 23
     ∷ windows 127 enters offer 3810 3840 accepted gets Taken
     ∷ over 2 (manyInstructed 64 3) enters instructed 1667 1687 gets Refused 23
@@ -284,10 +321,10 @@ tableCases =
     ∷ day (opening ++ (instructed 3 23 ∷ replicate 127 (defaulted 0 1 1))) enters defaulted 0 1 1 gets Taken
     ∷ []
 
--- ---- the lowest number is given: beside the number that each of these gets, the later ones of its group hold too
+-- ---- the first number in the list is given: beside the number that each of these gets, the later ones of its group hold too
 
-abbrev pub lowestCases : List Case
-lowestCases =
+abbrev pub firstCases : List Case
+firstCases =
     -- a contract: 3 4 12 14 15
     lending 1439 (shut begun) enters agree (set (set guide contracted 500001) rampup 1) gets Refused 3
     ∷ lending 1439 (shut begun) enters agree (set guide rampup 1) gets Refused 4
@@ -331,6 +368,17 @@ lowestCases =
     ∷ lending 1439 (shut read) enters metered 1440 (pos 0) gets Refused 12
     ∷ lending 1439 read enters metered 1440 (pos 0) gets Refused 15
     ∷ empty enters metered 7 (pos 500001) gets Refused 3
+    -- a revision: 3 12 15 27, and 16 in a minute past the span
+    ∷ lending 1439 (shut corrected) enters revised 7 0 (pos 0) gets Refused 3
+    ∷ lending 1439 (shut corrected) enters revised 7 9 (pos 500001) gets Refused 3
+    ∷ lending 1439 (shut corrected) enters revised 7 9 (pos 0) gets Refused 12
+    ∷ lending 1439 corrected enters revised 7 9 (pos 0) gets Refused 15
+    ∷ lending 1439 (shut corrected) enters revised 1440 0 (pos 0) gets Refused 3
+    ∷ lending 1439 (shut corrected) enters revised 1440 9 (pos 0) gets Refused 12
+    ∷ lending 1439 corrected enters revised 1440 9 (pos 0) gets Refused 15
+    ∷ corrected enters revised 7 0 (pos 0) gets Refused 3
+    ∷ shut corrected enters revised 7 9 (pos 0) gets Refused 12
+    ∷ empty enters revised 7 0 (pos 0) gets Refused 3
     -- a close: 12 15
     ∷ lending 1439 (shut begun) enters closeᶜ gets Refused 12
     ∷ []
@@ -394,9 +442,10 @@ findings =
     ∷ sampleBytes at 38 gets Got (instructed 5 85) 43
     ∷ sampleBytes at 43 gets Got (defaulted 31 4 1) 48
     ∷ sampleBytes at 48 gets Got (metered 7 (minus 1)) 55
-    ∷ sampleBytes at 55 gets Got closeᶜ 56
-    ∷ sampleBytes at 56 gets End
-    ∷ sampleBytes at 57 gets End
+    ∷ sampleBytes at 55 gets Got (revised 7 9 (pos 2)) 63
+    ∷ sampleBytes at 63 gets Got closeᶜ 64
+    ∷ sampleBytes at 64 gets End
+    ∷ sampleBytes at 65 gets End
     ∷ [] at 0 gets End
     ∷ take 31 sampleBytes at 0 gets Stopped 2
     ∷ take 32 sampleBytes at 0 gets Got (agree guide) 32
@@ -406,9 +455,12 @@ findings =
     ∷ take 42 sampleBytes at 38 gets Stopped 2
     ∷ take 47 sampleBytes at 43 gets Stopped 2
     ∷ take 54 sampleBytes at 48 gets Stopped 2
+    ∷ take 62 sampleBytes at 55 gets Stopped 2
     ∷ sampleBytes at 1 gets Stopped 1
     ∷ (0x4D ∷ 0xAE ∷ 0x61 ∷ 0x7F ∷ 0xFF ∷ 0xFF ∷ 0xFF ∷ []) at 0 gets Got (metered 44641 (pos 2147483647)) 7
     ∷ (0x4D ∷ 0x00 ∷ 0x00 ∷ 0x80 ∷ 0x00 ∷ 0x00 ∷ 0x00 ∷ []) at 0 gets Got (metered 0 (minus 2147483648)) 7
+    ∷ (0x52 ∷ 0xAE ∷ 0x61 ∷ 0xFF ∷ 0x7F ∷ 0xFF ∷ 0xFF ∷ 0xFF ∷ []) at 0 gets Got (revised 44641 255 (pos 2147483647)) 8
+    ∷ (0x52 ∷ 0x00 ∷ 0x00 ∷ 0x00 ∷ 0x80 ∷ 0x00 ∷ 0x00 ∷ 0x00 ∷ []) at 0 gets Got (revised 0 0 (minus 2147483648)) 8
     ∷ []
 
 -- a reader stops with 1
@@ -426,7 +478,7 @@ pub record EntryCases (cases : List Case) : Type 0 where
   -- and after them the command gets its answer
   pub answers :
       map (λ c. answerOf (refusal false (c .setting .now) (ledgerOf (c .setting .commands)) (c .command))) cases ≡ map (λ c. c .answer) cases
-  -- or 11, unless a lower number holds, in a book that no list of commands leaves
+  -- or 11, unless a number before it holds, in a book that no list of commands leaves
   pub unsound :
       map (λ c. answerOf (refusal true (c .setting .now) (ledgerOf (c .setting .commands)) (c .command))) cases
       ≡ map (λ c. orEleven (c .answer)) cases
@@ -448,11 +500,11 @@ pub record Refusals : Type 0 where
   pub spans : EntryCases spanCases
   pub orders : EntryCases orderCases
   pub tables : EntryCases tableCases
-  pub lowest : EntryCases lowestCases
+  pub first : EntryCases firstCases
   pub settling : SettlementCases settlings
   -- what is found at each position
   pub reading : map (λ f. readAt (f .bytes) (f .position)) findings ≡ map (λ f. f .found) findings
   -- the only bytes that do not get 1
-  pub known : filter (λ b. not (isUnknown (readAt (b ∷ []) 0))) (between 0 256) ≡ 0x43 ∷ 0x44 ∷ 0x49 ∷ 0x4D ∷ 0x57 ∷ 0x5A ∷ []
+  pub known : filter (λ b. not (isUnknown (readAt (b ∷ []) 0))) (between 0 256) ≡ 0x43 ∷ 0x44 ∷ 0x49 ∷ 0x4D ∷ 0x52 ∷ 0x57 ∷ 0x5A ∷ []
   -- a command of each kind is written as it is read
   pub writing : concatMap write sample ≡ sampleBytes

@@ -1,4 +1,4 @@
--- From a sound book with a contract to what the laws of settling ask, for the book's ledger, the table of times and meter memory of the span or more.
+-- From a sound book with a contract to what the laws of settling ask, for the book's ledger, the table of times and cells for the span or more.
 use mathlib.Core.Path.{_≡_, refl, sym, _∙_, ap}
 use mathlib.Core.Bool.{Bool, true, false, cond, _&&_}
 use mathlib.Core.List.{List}
@@ -12,7 +12,7 @@ use lib.Seq.{getD-take, length-take-le}
 use lib.Signed.{leZ}
 use borrow.Author.Tests.{lt-ltb}
 use Rattle.energy.specs.Energy.{cell}
-use Rattle.energy.specs.Lists.{all, first, isSome, else, run, between}
+use Rattle.energy.specs.Lists.{all, first, isSome, run, between}
 use Rattle.energy.specs.Number.{down, Upto, Within}
 use Rattle.energy.proofs.Integers.{leZ-true, leZ-yes}
 use Rattle.energy.proofs.Tests.{on-and}
@@ -23,7 +23,7 @@ use Rattle.rules.specs.Statement.{reads}
 use Rattle.commands.specs.declared.contract.Contract.{Contract}
 use Rattle.commands.specs.declared.entries.Default.{Default}
 use Rattle.commands.specs.declared.entries.Instruction.{Instruction}
-use Rattle.book_memory.specs.Meter.{missing, cellReading as reading, Memory, roomIn}
+use Rattle.book_memory.specs.Meter.{missing, cellReading, Memory, revisionAt}
 use Rattle.book.specs.Book.{noWindow, noInstruction, noDefault, bookSpan, bookCells, ledgerIn}
 use Rattle.book.specs.Sound.{Shaped}
 use Rattle.book.specs.declared.Book.{Book}
@@ -60,6 +60,12 @@ reading-within x e =
     let (l, h) = on-and (leZ (negsuc 499999) x) (leZ x (pos 500000)) e in
     omega (arith, leZ-true (negsuc 499999) x l, leZ-true x (pos 500000) h)
 
+-- a cell that is tested holds something where the test holds
+some-where : {A : Type 0} (v : Bool) (x : A) → isSome (cond v (some x) none) ≡ v
+unfolding isSome
+some-where true x = refl
+some-where false x = refl
+
 within-reading : (x : ℤ) → Within 500000 x → isReading x ≡ true
 within-reading x h = rw (leZ-yes (negsuc 499999) x (omega arith), leZ-yes x (pos 500000) (omega arith)) refl
 
@@ -83,7 +89,7 @@ pub record Grounds (b : Book) (times : List ℕ) (readings : Memory) : Type 0 wh
   pub sound : SoundBook b
   pub agreed : b .agreed ≡ true
   pub shape : Shaped b
-  pub room : bookCells b ≤ roomIn readings
+  pub cells : bookCells b ≤ length (readings .cells)
   pub timed : Timed (b .instructions) 64 times
 
 module _ {b : Book} {times : List ℕ} {readings : Memory} (G : Grounds b times readings) where
@@ -117,7 +123,7 @@ module _ {b : Book} {times : List ℕ} {readings : Memory} (G : Grounds b times 
   span-small = omega (arith, span-is, span-cells b, S .month)
 
   span-held : spanIn g ≤ length meter
-  span-held = omega (arith, span-is, span-cells b, G .room)
+  span-held = omega (arith, span-is, span-cells b, G .cells)
 
   -- ---- the tables
   counts : (b .nwindows ≡ length (g .windows)) × (b .ninstructions ≡ length (g .instructions)) × (b .ndefaults ≡ length (g .defaults))
@@ -165,7 +171,7 @@ module _ {b : Book} {times : List ℕ} {readings : Memory} (G : Grounds b times 
         apart = λ i j l h. S .windows .apart i j l (omega (arith, counts));
       }
 
-  reading-is : (m : ℕ) → m < spanIn g → g .reading m ≡ cond (has meter m) (some (cell meter m)) none
+  reading-is : (m : ℕ) → m < spanIn g → g .reading m ≡ cellReading (cell meter m) (revisionAt readings m)
   unfolding ledgerIn
   reading-is m h = rw (lt-ltb m (bookSpan b) (omega (arith, span-is)), getD-within meter m missing (pos 0) (omega (arith, span-held))) refl
 
@@ -175,7 +181,7 @@ module _ {b : Book} {times : List ℕ} {readings : Memory} (G : Grounds b times 
   laid-at j h = omega (arith, terms .each j h, call-sound j h .three, span-held, span-small)
 
   pub surveyed : Surveyed g t times meter
-  unfolding termsOf isSome
+  unfolding termsOf
   surveyed =
       record {
         laid =
@@ -188,8 +194,7 @@ module _ {b : Book} {times : List ℕ} {readings : Memory} (G : Grounds b times 
               each = laid-at;
             };
         terms = terms;
-        reading = λ m h.
-            rw (reading-is m h) (elim (has meter m) as (λ v. isSome (cond v (some (cell meter m)) none) ≡ v) [ true ↦ refl | false ↦ refl ]);
+        reading = λ m h. rw (reading-is m h) (some-where (has meter m) _);
       }
 
   -- ---- live windows
@@ -279,7 +284,7 @@ module _ {b : Book} {times : List ℕ} {readings : Memory} (G : Grounds b times 
           omega (arith, S .calls .order j (omega (arith, counts)), terms .each j (omega arith) .cease, terms .each (j + 1) h .issue)
 
       pub tied : Tied g t times live meter
-      unfolding termsOf reads else
+      unfolding termsOf reads
       tied =
           record {
             plan =

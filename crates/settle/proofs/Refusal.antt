@@ -10,7 +10,7 @@ use borrow.Author.Tests.{lt-ltb, le-ltb}
 use Rattle.book_memory.specs.Meter.{Memory, roomIn}
 use Rattle.energy.specs.Number.{Within}
 use Rattle.rules.specs.Ledger.{Ledger, cellsIn}
-use Rattle.commands.specs.Input.{lowest}
+use Rattle.commands.specs.Input.{firstMet}
 use Rattle.rules.specs.Segment.{complete, segments}
 use Rattle.rules.specs.Statement.{settleConditions, settleRefusal}
 use Rattle.rules.specs.declared.answer.Answer.the-variants.{Refused}
@@ -33,12 +33,12 @@ module _ (b : Book) (meter : Memory) (room : ℕ) where
   refusalFor = settleRefusal (not (sound b)) (roomIn meter) room g
 
   pub is-11 : sound b ≡ false → refusalFor ≡ some 11
-  unfolding settleRefusal settleConditions lowest
+  unfolding settleRefusal settleConditions firstMet
   is-11 e = rw e refl
 
   module _ (e : sound b ≡ true) where
     pub is-15 : roomIn meter < bookCells b → refusalFor ≡ some 15
-    unfolding settleRefusal settleConditions lowest
+    unfolding settleRefusal settleConditions firstMet
     is-15 h = rw (e, lt-ltb (roomIn meter) (cellsIn g) (omega (arith, cells-sound b meter e))) refl
 
     module _ (h : bookCells b ≤ roomIn meter) where
@@ -46,21 +46,21 @@ module _ (b : Book) (meter : Memory) (room : ℕ) where
       long = le-ltb (roomIn meter) (cellsIn g) (omega (arith, cells-sound b meter e))
 
       pub is-24 : b .closed ≡ false → refusalFor ≡ some 24
-      unfolding settleRefusal settleConditions lowest ledgerIn
+      unfolding settleRefusal settleConditions firstMet ledgerIn
       is-24 c = rw (e, long, c) refl
 
       module _ (c : b .closed ≡ true) where
         pub is-25 : complete g ≡ false → refusalFor ≡ some 25
-        unfolding settleRefusal settleConditions lowest ledgerIn
+        unfolding settleRefusal settleConditions firstMet ledgerIn
         is-25 k = rw (e, long, k, c) refl
 
         module _ (k : complete g ≡ true) where
           pub is-26 : room < length (segments g) → refusalFor ≡ some 26
-          unfolding settleRefusal settleConditions lowest ledgerIn
+          unfolding settleRefusal settleConditions firstMet ledgerIn
           is-26 l = rw (e, long, k, lt-ltb room (length (segments g)) l, c) refl
 
           pub is-taken : length (segments g) ≤ room → refusalFor ≡ none
-          unfolding settleRefusal settleConditions lowest ledgerIn
+          unfolding settleRefusal settleConditions firstMet ledgerIn
           is-taken l = rw (e, long, k, le-ltb room (length (segments g)) l, c) refl
 
 -- ---- a refusal

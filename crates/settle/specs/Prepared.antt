@@ -7,7 +7,7 @@ use mathlib.Core.Option.{Option, none, some}
 use Prim.Native.Nat.{ℕ, _≤_, _<_}
 use lib.IntN.{ℤ, pos, natAbs, _+ℤ_}
 use lib.ListN.{length, replicate}
-use Rattle.book_memory.specs.Meter.{Memory, roomIn}
+use Rattle.book_memory.specs.Meter.{Memory, lent, roomIn}
 use Rattle.energy.specs.Number.{Within}
 use Rattle.energy.specs.Lists.{between}
 use Rattle.commands.specs.declared.entries.Instruction.{Instruction}
@@ -17,7 +17,7 @@ use Rattle.rules.specs.Statement.{lines, settleRefusal, statementOf}
 use Rattle.rules.specs.declared.answer.Answer.the-variants.{Taken, Refused}
 use Rattle.rules.specs.declared.statement.Line.{Line}
 use Rattle.rules.specs.declared.statement.Statement.{Statement}
-use Rattle.book.specs.Book.{ledgerIn}
+use Rattle.book.specs.Book.{bookCells, ledgerIn}
 use Rattle.book.specs.Sound.{sound}
 use Rattle.book.specs.declared.Book.{Book}
 use Rattle.settle.specs.declared.Settlement.{Settlement}
@@ -150,3 +150,8 @@ pub record Prepares (b : Book) (readings : Memory) (room : ℕ) (p : Prepared) :
   pub ready : (k : ℕ) → k < p .lines → Ready (p .terms) (p .times) (p .live) (readings .cells) (cursorAt (p .terms) (p .times) (p .live) (readings .cells) k)
   pub sums : Within 100000000000000 (lastCursor p (readings .cells) .pence .0) × Within 100000000000000 (p .settlement .statement .availability .0)
   pub settles : (memory : List Line) → length memory ≡ room → settledWith p (readings .cells) memory ≡ settleBook b readings memory
+
+-- the same of the cells alone, with any revisions for which lent memory has the room that 15 asks
+abbrev pub PreparesWith : Book → List ℤ → ℕ → Prepared → Type 0
+PreparesWith b cells room p =
+    (revisions : List ℕ) → bookCells b ≤ roomIn (lent cells revisions) → Prepares b (lent cells revisions) room p

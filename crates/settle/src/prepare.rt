@@ -2,14 +2,16 @@
 ghost use mathlib.Core.Path.{_≡_};
 ghost use mathlib.Core.Bool.{true};
 ghost use Prim.Native.Nat.{_≤_};
-ghost use Rattle.book_memory.specs.Meter.{lent, roomIn};
+ghost use lib.ListN.{length};
+ghost use Rattle.book_memory.specs.Meter.{lent};
 ghost use Rattle.energy.specs.Number.{Within};
 ghost use Rattle.book.specs.Book.{bookCells};
 ghost use Rattle.book.specs.Sound.{sound};
-ghost use Rattle.settle.specs.Prepared.{LaidOut, Prepares, refusalOf, summed, unsummed};
+ghost use Rattle.settle.specs.Prepared.{LaidOut, Prepares, PreparesWith, refusalOf, summed, unsummed};
 ghost use Rattle.settle_terms.specs.Terms.{Timed, termsOf};
 use crate::Settlement;
 use book::Book;
+use book_memory::room::room_of;
 use energy::units::Kwh;
 use energy::units::Pence;
 use rules::answer::Answer;
@@ -116,10 +118,10 @@ fn lay_out(b: Book, t: Terms, times: [u16; 128], n: usize) -> Prepared
     }
 }
 
-// 25, 26, or what the lines of a sound and closed book need.
+// 25, 26, or what the lines of a sound and closed book need. They read the cells alone, so it is the same with any revisions.
 fn check_lines(b: Book, meter: &[i32], room: usize) -> Prepared
-    requires { ⌜ (sound b ≡ true) × (b .closed ≡ true) × (bookCells b ≤ roomIn (lent (now meter))) ⌝ }
-    ensures { λ r. ⌜ Prepares b (lent (now (meter .entry))) room r ⌝ }
+    requires { ⌜ (sound b ≡ true) × (b .closed ≡ true) × (bookCells b ≤ length (now meter)) ⌝ }
+    ensures { λ r. ⌜ PreparesWith b (now (meter .entry)) room r ⌝ }
 {
     let k = b.contract;
     let instructions = b.instructions;
@@ -137,14 +139,15 @@ fn check_lines(b: Book, meter: &[i32], room: usize) -> Prepared
 }
 
 // 11, 15, 24, and then the others: `soundness` says whether some list of commands leaves the book.
-fn check_book(b: Book, soundness: bool, meter: &[i32], room: usize) -> Prepared
+fn check_book(b: Book, soundness: bool, meter: &[i32], revisions: &[u8], room: usize) -> Prepared
     requires { ⌜ soundness ≡ sound b ⌝ }
-    ensures { λ r. ⌜ Prepares b (lent (now (meter .entry))) room r ⌝ }
+    ensures { λ r. ⌜ Prepares b (lent (now (meter .entry)) (now (revisions .entry))) room r ⌝ }
 {
     if !soundness {
         return refuse(11);
     }
-    if meter.len() < b.cells() {
+    let minutes = room_of(meter, revisions);
+    if minutes < b.cells() {
         return refuse(15);
     }
     let closed = b.closed;
@@ -155,11 +158,11 @@ fn check_book(b: Book, soundness: bool, meter: &[i32], room: usize) -> Prepared
 }
 
 // 25 and 26 are decided here, before a record is written.
-pub fn prepare(b: Book, meter: &[i32], room: usize) -> Prepared
-    ensures { λ r. ⌜ Prepares b (lent (now (meter .entry))) room r ⌝ }
+pub fn prepare(b: Book, meter: &[i32], revisions: &[u8], room: usize) -> Prepared
+    ensures { λ r. ⌜ Prepares b (lent (now (meter .entry)) (now (revisions .entry))) room r ⌝ }
 {
     let soundness = b.sound();
-    check_book(b, soundness, meter, room)
+    check_book(b, soundness, meter, revisions, room)
 }
 
 // The answer with the sums of the lines.

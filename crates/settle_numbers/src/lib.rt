@@ -98,12 +98,12 @@ fn fill_numbers<'a, 'b, 'c>(
     c
 }
 
-// Settles a book over meter memory, each line as eight numbers in the first of those lent. Numbers after them keep their contents; a refusal alters none.
-pub fn settle_numbers(b: Book, meter: &[i32], numbers: &mut [i64]) -> Settlement
-    ensures { λ r. ⌜ r ≡ numberBook b (lent (now (meter .entry))) (now (numbers .entry)) .settlement ⌝ }
-    ensures { λ _. ⌜ now (numbers .exit) ≡ numberBook b (lent (now (meter .entry))) (now (numbers .entry)) .memory ⌝ }
+// Settles a book over lent memory, each line as eight numbers in the first of those lent. Numbers after them keep their contents; a refusal alters none.
+pub fn settle_numbers(b: Book, meter: &[i32], revisions: &[u8], numbers: &mut [i64]) -> Settlement
+    ensures { λ r. ⌜ r ≡ numberBook b (lent (now (meter .entry)) (now (revisions .entry))) (now (numbers .entry)) .settlement ⌝ }
+    ensures { λ _. ⌜ now (numbers .exit) ≡ numberBook b (lent (now (meter .entry)) (now (revisions .entry))) (now (numbers .entry)) .memory ⌝ }
 {
-    let p = prepare(b, meter, numbers.len() / LINE_NUMBERS);
+    let p = prepare(b, meter, revisions, numbers.len() / LINE_NUMBERS);
     let times = p.times;
     let live = p.live;
     let sums = fill_numbers(numbers, p.terms, &times, &live, meter, p.lines);

@@ -10,12 +10,12 @@ use settle::prepare::sum_up;
 use settle_lines::cursor::first;
 use settle_lines::cursor::step;
 
-// Settles a book over meter memory: the answer, and the statement's lines in the first of the records lent. A refusal alters no record.
-pub fn settle(b: Book, meter: &[i32], lines: &mut [Line]) -> Settlement
-    ensures { λ r. ⌜ (r ≡ settleBook b (lent (now (meter .entry))) (now (lines .entry)) .settlement)
-        × (now (lines .exit) ≡ settleBook b (lent (now (meter .entry))) (now (lines .entry)) .memory) ⌝ }
+// Settles a book over lent memory: the answer, and the statement's lines in the first of the records lent. A refusal alters no record.
+pub fn settle(b: Book, meter: &[i32], revisions: &[u8], lines: &mut [Line]) -> Settlement
+    ensures { λ r. ⌜ (r ≡ settleBook b (lent (now (meter .entry)) (now (revisions .entry))) (now (lines .entry)) .settlement)
+        × (now (lines .exit) ≡ settleBook b (lent (now (meter .entry)) (now (revisions .entry))) (now (lines .entry)) .memory) ⌝ }
 {
-    let p = prepare(b, meter, lines.len());
+    let p = prepare(b, meter, revisions, lines.len());
     let times = p.times;
     let live = p.live;
     let lent_times: &[u16] = &times;

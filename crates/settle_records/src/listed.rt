@@ -30,11 +30,11 @@ pub fn blank() -> Line
     }
 }
 
-// Settles a book over meter memory into as many records as 11 days give lines at most.
-pub fn listed(b: Book, meter: &[i32]) -> Listing
-    ensures { λ r. ⌜ r ≡ listBook b (lent (now (meter .entry))) ⌝ }
+// Settles a book over lent memory into as many records as 11 days give lines at most.
+pub fn listed(b: Book, meter: &[i32], revisions: &[u8]) -> Listing
+    ensures { λ r. ⌜ r ≡ listBook b (lent (now (meter .entry)) (now (revisions .entry))) ⌝ }
 {
-    let own = settle_into(b, meter, LISTED_MOST, blank());
+    let own = settle_into(b, meter, revisions, LISTED_MOST, blank());
     let settlement = own.settlement;
     let made = own.lines;
     let mut lines = [blank(); LISTED_MOST];

@@ -16,12 +16,12 @@ pub struct Own {
 }
 
 // Settles into the first n of the records, which all hold `before` until then.
-pub fn settle_into(b: Book, meter: &[i32], n: usize, before: Line) -> Own
+pub fn settle_into(b: Book, meter: &[i32], revisions: &[u8], n: usize, before: Line) -> Own
     requires { ⌜ n ≤ mostLines ⌝ }
-    ensures { λ r. ⌜ r ≡ ownBook b (lent (now (meter .entry))) n before ⌝ }
+    ensures { λ r. ⌜ r ≡ ownBook b (lent (now (meter .entry)) (now (revisions .entry))) n before ⌝ }
 {
     let mut lines = [before; LINES_MOST];
-    let settlement = settle(b, meter, &mut lines[..n]);
+    let settlement = settle(b, meter, revisions, &mut lines[..n]);
     Own {
         settlement: settlement,
         lines: lines,

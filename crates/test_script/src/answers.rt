@@ -1,5 +1,4 @@
 // Rows of what entering answers, and of cells.
-use crate::print::print_line;
 use crate::print::print_number;
 use crate::print::print_text;
 use book::Entry;
@@ -52,17 +51,24 @@ fn natural(kw: i32) -> u64 {
 }
 
 // A cell of meter memory: "marked", "negative", or its kW from 0.
-pub(crate) fn print_cell(line: &[u8], kw: i32) {
-    print_text(line);
+fn print_cell(kw: i32) {
     if kw == -2147483648 {
-        print_line(b": marked");
+        print_text(b": marked");
         return;
     }
     if kw < 0 {
-        print_line(b": negative");
+        print_text(b": negative");
         return;
     }
     print_text(b":");
     print_number(natural(kw));
+}
+
+// A line with a minute's cell and its revision byte.
+pub(crate) fn print_minute(line: &[u8], kw: i32, revision: u8) {
+    print_text(line);
+    print_cell(kw);
+    print_text(b" /");
+    print_number(revision as u64);
     print_text(b"\n");
 }

@@ -30,7 +30,7 @@ pub(crate) fn kw_of(n: i64) -> i32 {
 }
 
 // A step from 1.
-fn stride(step: u16) -> usize
+pub(crate) fn stride(step: u16) -> usize
     ensures { λ r. ⌜ (1 ≤ r) × (r ≤ 65535) ⌝ }
 {
     if step == 0 {

@@ -8,6 +8,7 @@ use commands::entries::Command;
 use commands::entries::Default;
 use commands::entries::Instruction;
 use commands::entries::Reading;
+use commands::entries::Revision;
 use commands::entries::Window;
 use energy::units::Kw;
 use energy::units::Minutes;
@@ -52,10 +53,18 @@ pub(crate) fn default_of(line: &[u8], from: u8) -> Default {
     }
 }
 
-fn reading_of(line: &[u8]) -> Reading {
+// A minute after one space, and a kW after so many: a revision has its number between them.
+fn reading_of(line: &[u8], kw: u8) -> Reading {
     Reading {
         minute: Minutes(u16_after(line, 1)),
-        kw: Kw(i64_after(line, 2)),
+        kw: Kw(i64_after(line, kw as usize)),
+    }
+}
+
+fn revision_of(line: &[u8]) -> Revision {
+    Revision {
+        number: u8_after(line, 2),
+        reading: reading_of(line, 3),
     }
 }
 
@@ -65,7 +74,8 @@ pub(crate) fn command_of(letter: u8, line: &[u8]) -> Command {
         b'W' => Command::Window(window_of(line, 1)),
         b'I' => Command::Instruction(instruction_of(line, 1)),
         b'D' => Command::Default(default_of(line, 1)),
-        b'M' => Command::Reading(reading_of(line)),
+        b'M' => Command::Reading(reading_of(line, 2)),
+        b'V' => Command::Revision(revision_of(line)),
         _ => Command::Close,
     }
 }

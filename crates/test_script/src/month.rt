@@ -28,8 +28,8 @@ pub(crate) fn mark() -> Line {
 }
 
 // Settles into the 719 records of `listed`.
-pub(crate) fn settle_listed(b: Book, meter: &[i32]) -> Own {
-    let got = listed(b, meter);
+pub(crate) fn settle_listed(b: Book, meter: &[i32], revisions: &[u8]) -> Own {
+    let got = listed(b, meter, revisions);
     let made = got.lines;
     let settlement = got.settlement;
     let mut lines = [blank(); LINES_MOST];

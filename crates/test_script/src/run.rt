@@ -1,6 +1,6 @@
 // The run of a script.
-use crate::answers::print_cell;
 use crate::answers::print_entry;
+use crate::answers::print_minute;
 use crate::cells::at_most;
 use crate::cells::cell_at;
 use crate::cells::kw_of;
@@ -14,22 +14,29 @@ use crate::entries::window_of;
 use crate::month::mark;
 use crate::month::settle_listed;
 use crate::print::print_line;
+use crate::revisions::UNWRITTEN;
+use crate::revisions::byte_at;
+use crate::revisions::lent_bytes;
+use crate::revisions::put_bytes;
 use crate::statement::print_month;
 use crate::text::i64_after;
 use crate::text::letter_of;
 use crate::text::line_end;
+use crate::text::u8_after;
 use crate::text::u16_after;
 use crate::text::usize_after;
 use book::Book;
 use book::Entry;
+use book_memory::room::room_of;
 use rules::statement::LINES_MOST;
 use rules::statement::LISTED_MOST;
 use settle_records::listed::blank;
 use settle_records::own::settle_into;
 
-// How many cells and records are lent, and whether what is taken goes unprinted.
+// How many cells, revision bytes and records are lent, and whether what is taken goes unprinted.
 struct Setting {
     cells: usize,
+    revisions: usize,
     records: usize,
     quiet: bool,
 }
@@ -38,7 +45,11 @@ struct Setting {
 fn set(s: Setting, letter: u8, line: &[u8]) -> Setting {
     let mut next = s;
     match letter {
-        b'e' | b'l' => next.cells = usize_after(line, 1),
+        b'e' | b'l' => {
+            next.cells = usize_after(line, 1);
+            next.revisions = usize_after(line, 1);
+        }
+        b't' => next.revisions = usize_after(line, 1),
         b'n' => next.records = usize_after(line, 1),
         b'q' => next.quiet = !s.quiet,
         _ => {}
@@ -51,29 +62,54 @@ fn own_method(letter: u8, quiet: bool) -> u8 {
     if quiet { b'-' } else { letter }
 }
 
-// A command by a method of its own, or by `enter`, which contracts and readings come to in any case.
-fn entered(b: Book, quiet: bool, letter: u8, line: &[u8], meter: &mut [i32]) -> Entry {
+// A command by a method of its own, or by `enter`, which contracts, readings and revisions come to in any case.
+fn entered(
+    b: Book,
+    quiet: bool,
+    letter: u8,
+    line: &[u8],
+    meter: &mut [i32],
+    revisions: &mut [u8],
+) -> Entry {
+    let room = room_of(meter, revisions);
     match own_method(letter, quiet) {
-        b'W' => b.window(window_of(line, 1), meter.len()),
-        b'I' => b.instruction(instruction_of(line, 1), meter.len()),
-        b'D' => b.default(default_of(line, 1), meter.len()),
-        b'Z' => b.close(meter.len()),
-        _ => b.enter(command_of(letter, line), meter),
+        b'W' => b.window(window_of(line, 1), room),
+        b'I' => b.instruction(instruction_of(line, 1), room),
+        b'D' => b.default(default_of(line, 1), room),
+        b'Z' => b.close(room),
+        _ => b.enter(command_of(letter, line), meter, revisions),
     }
 }
 
 // The book after a command.
-fn enter(b: Book, s: Setting, letter: u8, line: &[u8], meter: &mut [i32]) -> Book {
+fn enter(
+    b: Book,
+    s: Setting,
+    letter: u8,
+    line: &[u8],
+    meter: &mut [i32],
+    revisions: &mut [u8],
+) -> Book {
     let n = lent(meter, s.cells);
-    let e = entered(b, s.quiet, letter, line, &mut meter[..n]);
+    let m = lent_bytes(revisions, s.revisions);
+    let e = entered(
+        b,
+        s.quiet,
+        letter,
+        line,
+        &mut meter[..n],
+        &mut revisions[..m],
+    );
     print_entry(line, e, s.quiet);
     e.book
 }
 
-// The empty book, over cells that all hold a kW.
-fn restart(quiet: bool, line: &[u8], meter: &mut [i32]) -> Book {
+// The empty book, over cells that all hold a kW and revision bytes that hold anything.
+fn restart(quiet: bool, line: &[u8], meter: &mut [i32], revisions: &mut [u8]) -> Book {
     let cells = meter.len();
     put_each(meter, 0, cells, 1, kw_of(i64_after(line, 2)));
+    let bytes = revisions.len();
+    put_bytes(revisions, 0, bytes, 1, UNWRITTEN);
     if !quiet {
         print_line(line);
     }
@@ -81,29 +117,45 @@ fn restart(quiet: bool, line: &[u8], meter: &mut [i32]) -> Book {
 }
 
 // The book after a line.
-fn book_after(b: Book, s: Setting, letter: u8, line: &[u8], meter: &mut [i32]) -> Book {
+fn book_after(
+    b: Book,
+    s: Setting,
+    letter: u8,
+    line: &[u8],
+    meter: &mut [i32],
+    revisions: &mut [u8],
+) -> Book {
     match letter {
-        b'C' | b'W' | b'I' | b'D' | b'M' | b'Z' => enter(b, s, letter, line, meter),
-        b'e' => restart(s.quiet, line, meter),
+        b'C' | b'W' | b'I' | b'D' | b'M' | b'V' | b'Z' => enter(
+            b,
+            s,
+            letter,
+            line,
+            meter,
+            revisions,
+        ),
+        b'e' => restart(s.quiet, line, meter, revisions),
         b'b' | b'w' | b'i' | b'd' => changed(b, letter, line),
         _ => b,
     }
 }
 
 // A settlement into the records lent.
-fn settle_lent(b: Book, s: Setting, line: &[u8], meter: &[i32]) {
+fn settle_lent(b: Book, s: Setting, line: &[u8], meter: &[i32], revisions: &[u8]) {
     let n = lent(meter, s.cells);
+    let m = lent_bytes(revisions, s.revisions);
     let records = at_most(s.records, LINES_MOST);
     let before = mark();
-    let m = settle_into(b, &meter[..n], records, before);
-    print_month(m, b.nwindows, u16_after(line, 1), records, before);
+    let month = settle_into(b, &meter[..n], &revisions[..m], records, before);
+    print_month(month, b.nwindows, u16_after(line, 1), records, before);
 }
 
 // A settlement into records of its own.
-fn settle_own(b: Book, s: Setting, line: &[u8], meter: &[i32]) {
+fn settle_own(b: Book, s: Setting, line: &[u8], meter: &[i32], revisions: &[u8]) {
     let n = lent(meter, s.cells);
-    let m = settle_listed(b, &meter[..n]);
-    print_month(m, b.nwindows, u16_after(line, 1), LISTED_MOST, blank());
+    let m = lent_bytes(revisions, s.revisions);
+    let month = settle_listed(b, &meter[..n], &revisions[..m]);
+    print_month(month, b.nwindows, u16_after(line, 1), LISTED_MOST, blank());
 }
 
 fn put_cells(line: &[u8], meter: &mut [i32]) {
@@ -117,22 +169,54 @@ fn put_cells(line: &[u8], meter: &mut [i32]) {
     );
 }
 
+fn put_numbers(line: &[u8], revisions: &mut [u8]) {
+    let number = u8_after(line, 4);
+    put_bytes(
+        revisions,
+        usize_after(line, 1),
+        usize_after(line, 2),
+        u16_after(line, 3),
+        number,
+    );
+}
+
+fn show_minute(line: &[u8], meter: &[i32], revisions: &[u8]) {
+    let at = usize_after(line, 1);
+    print_minute(line, cell_at(meter, at), byte_at(revisions, at));
+}
+
 // What a line asks for that leaves the book as it is.
-fn run_line(b: Book, s: Setting, letter: u8, line: &[u8], meter: &mut [i32]) {
+fn run_line(b: Book, s: Setting, letter: u8, line: &[u8], meter: &mut [i32], revisions: &mut [u8]) {
     match letter {
         b'm' => put_cells(line, meter),
-        b'g' => print_cell(line, cell_at(meter, usize_after(line, 1))),
-        b's' => settle_lent(b, s, line, meter),
-        b'o' => settle_own(b, s, line, meter),
+        b'v' => put_numbers(line, revisions),
+        b'g' => show_minute(line, meter, revisions),
+        b's' => settle_lent(b, s, line, meter, revisions),
+        b'o' => settle_own(b, s, line, meter, revisions),
         b'#' => print_line(line),
         _ => {}
     }
 }
 
+// A line done: the book after it.
+fn after_line(
+    b: Book,
+    s: Setting,
+    letter: u8,
+    line: &[u8],
+    meter: &mut [i32],
+    revisions: &mut [u8],
+) -> Book {
+    let after = book_after(b, s, letter, line, meter, revisions);
+    run_line(after, s, letter, line, meter, revisions);
+    after
+}
+
 // Every line of a script.
-pub(crate) fn run_script(text: &[u8], meter: &mut [i32]) {
+pub(crate) fn run_script(text: &[u8], meter: &mut [i32], revisions: &mut [u8]) {
     let mut setting = Setting {
         cells: 0,
+        revisions: 0,
         records: 0,
         quiet: false,
     };
@@ -145,8 +229,7 @@ pub(crate) fn run_script(text: &[u8], meter: &mut [i32]) {
         let line = &text[at..end];
         let letter = letter_of(line);
         setting = set(setting, letter, line);
-        book = book_after(book, setting, letter, line, meter);
-        run_line(book, setting, letter, line, meter);
+        book = after_line(book, setting, letter, line, meter, revisions);
         if letter == b'k' {
             kept = book;
         }

@@ -3,16 +3,16 @@
 //! and on books that no commands leave.
 
 use crate::enter;
-use crate::month::{self, FILE_BYTES, MINUTES};
+use crate::month::{self, FILE_BYTES, MINUTES, REVISED_BYTES};
 use crate::plain::{self, Book, Contract, Fault, Instruction, Line, Window};
 use crate::sides::{library_rows, rows, tables, LINES};
 use compare::random::Random;
 use compare::scenes::{self, Target};
 use second::book as second_book;
 use second::bytes as second_bytes;
+use second::memory::Memory;
 use second::rows as second_rows;
 use second::rows::Room;
-use second::rules::NO_READING;
 use second::settle as second_settle;
 use second::switches::Switch;
 use second::write as second_write;
@@ -63,27 +63,44 @@ pub fn check() -> Result<(), String> {
 
 fn check_month(seed: u32) -> Result<(), String> {
     let month = month::of_seed(seed);
-    if month.file.len() != FILE_BYTES {
-        return Err(format!("seed {seed}: {} bytes", month.file.len()));
+    let lengths = [&month.file, &month.revised].map(Vec::len);
+    if lengths != [FILE_BYTES, REVISED_BYTES] {
+        return Err(format!("seed {seed}: {lengths:?} bytes"));
     }
-    let (book, meter) = second_month(&month.file);
-    if plain_book(&book) != month.book || meter != month.meter {
-        return Err(format!("seed {seed}: the file is not the book"));
+    let files = [
+        (&month.file, vec![0; MINUTES]),
+        (&month.revised, month::numbers()),
+    ];
+    for (file, revisions) in files {
+        let (book, memory) = second_month(file);
+        let meter = month.meter.clone();
+        if plain_book(&book) != month.book || memory != (Memory { meter, revisions }) {
+            return Err(format!("seed {seed}: the file is not the book"));
+        }
+        let what = format!("month {seed}, {} bytes", file.len());
+        if settled_alike(&what, &book, &memory, LINES, Any::No)?.is_some() {
+            return Err(format!("{what}: refused"));
+        }
+        entered_alike(&what, file, MINUTES, MINUTES)?;
+        file_settled_alike(&what, file, ROOM)?;
     }
-    let what = format!("month {seed}");
-    if settled_alike(&what, &book, &meter, LINES, Any::No)?.is_some() {
-        return Err(format!("{what}: refused"));
-    }
-    entered_alike(&what, &month.file, MINUTES)?;
-    file_settled_alike(&what, &month.file, ROOM)
+    Ok(())
 }
 
 /// The book and readings that a file leaves, refused commands left out.
-fn second_month(file: &[u8]) -> (second_book::Book, Vec<i32>) {
+fn second_month(file: &[u8]) -> (second_book::Book, Memory) {
     let mut book = second_book::Book::default();
-    let mut meter = vec![NO_READING; MINUTES];
-    second_book::enter_file(file, &mut book, &mut meter, false, Switch::RIGHT);
-    (book, meter)
+    let mut memory = Memory::of_minutes(MINUTES);
+    second_book::enter_file(file, &mut book, &mut memory, false, Switch::RIGHT);
+    (book, memory)
+}
+
+/// The first cells and the first revision bytes of a memory.
+fn first(memory: &Memory, cells: usize, bytes: usize) -> Memory {
+    Memory {
+        meter: memory.meter[..cells].to_vec(),
+        revisions: memory.revisions[..bytes].to_vec(),
+    }
 }
 
 /// An error that shows both, unless they are the same.
@@ -111,45 +128,46 @@ enum Any {
 fn settled_alike(
     what: &str,
     book: &second_book::Book,
-    meter: &[i32],
+    memory: &Memory,
     records: usize,
     any: Any,
 ) -> Result<Option<u8>, String> {
-    let second = second_settled(book, meter, records, any);
+    let second = second_settled(book, memory, records, any);
     let plain = plain_book(book);
     alike(
         what,
         "plain",
-        &plain_settled(&plain, meter, records)?,
+        &plain_settled(&plain, memory, records)?,
         &second,
     )?;
     if let Some(tables) = tables(&plain) {
-        let settled = library_settled(&tables, meter, records)?;
+        let settled = library_settled(&tables, memory, records)?;
         alike(what, "library", &settled, &second)?;
-        let file = written_alike(what, book, &tables, meter, any)?;
+        let file = written_alike(what, book, &tables, memory, any)?;
         if let Ok(file) = file {
-            settled_again(what, &file, meter.len(), records, settled)?;
+            let minutes = memory.room(Switch::RIGHT) as usize;
+            settled_again(what, &file, minutes, records, settled)?;
         }
     }
     Ok(second.err())
 }
 
-fn second_settled(book: &second_book::Book, meter: &[i32], records: usize, any: Any) -> Settled {
+fn second_settled(book: &second_book::Book, memory: &Memory, records: usize, any: Any) -> Settled {
     let settle = match any {
         Any::Yes => second_settle::settle_any,
         Any::No => second_settle::settle,
     };
-    settle(book, meter, records, Switch::RIGHT)
+    settle(book, memory, records, Switch::RIGHT)
         .map(|statement| second_rows::statement_rows(&statement))
 }
 
-fn plain_settled(book: &Book, meter: &[i32], records: usize) -> Result<Settled, String> {
+fn plain_settled(book: &Book, memory: &Memory, records: usize) -> Result<Settled, String> {
     let blank = Line {
         pence: UNTOUCHED,
         ..Line::default()
     };
     let mut lines = vec![blank; records];
-    let answer = plain::settle(book, meter, &mut lines);
+    let answer = plain::settle(book, &memory.meter, &memory.revisions, &mut lines);
     let written = answer.as_ref().map_or(0, |answer| answer.lines);
     if lines[written..].iter().any(|line| *line != blank) {
         return Err("plain: a record behind the lines was written".to_string());
@@ -191,14 +209,15 @@ impl Lent {
     }
 }
 
-fn library_settled(tables: &Tables, meter: &[i32], records: usize) -> Result<Settled, String> {
+fn library_settled(tables: &Tables, memory: &Memory, records: usize) -> Result<Settled, String> {
     let mut lent = Lent::new(records);
     let number = library::settle_tables(
         &tables.contract,
         &tables.windows,
         &tables.instructions,
         &tables.defaults,
-        meter,
+        &memory.meter,
+        &memory.revisions,
         &mut lent.lines,
         &mut lent.sums,
     );
@@ -211,38 +230,39 @@ fn written_alike(
     what: &str,
     book: &second_book::Book,
     tables: &Tables,
-    meter: &[i32],
+    memory: &Memory,
     any: Any,
 ) -> Result<Written, String> {
-    let library = |room| library_written(tables, meter, room);
-    let second = second_written(book, meter, MONTH_BYTES, any);
+    let library = |room| library_written(tables, memory, room);
+    let second = second_written(book, memory, MONTH_BYTES, any);
     alike(what, "library", &library(MONTH_BYTES + 7)?, &second)?;
     if let Ok(file) = &second {
         alike(what, "library", &library(file.len())?, &second)?;
         let short = file.len() - 1;
-        let refused = second_written(book, meter, short, any);
+        let refused = second_written(book, memory, short, any);
         alike(what, "library", &library(short)?, &refused)?;
     }
     Ok(second)
 }
 
-fn second_written(book: &second_book::Book, meter: &[i32], room: usize, any: Any) -> Written {
+fn second_written(book: &second_book::Book, memory: &Memory, room: usize, any: Any) -> Written {
     let write = match any {
         Any::Yes => second_write::write_any,
         Any::No => second_write::write,
     };
-    write(book, meter, room, Switch::RIGHT)
+    write(book, memory, room, Switch::RIGHT)
 }
 
 /// The file, or the refusal; an error where more was written.
-fn library_written(tables: &Tables, meter: &[i32], room: usize) -> Result<Written, String> {
+fn library_written(tables: &Tables, memory: &Memory, room: usize) -> Result<Written, String> {
     let mut file = vec![UNTOUCHED_BYTE; room];
     let answer = library::write_tables(
         &tables.contract,
         &tables.windows,
         &tables.instructions,
         &tables.defaults,
-        meter,
+        &memory.meter,
+        &memory.revisions,
         &mut file,
     );
     let length = (answer / 256) as usize;
@@ -278,9 +298,15 @@ fn settled_again(
 
 /// The library's answer for a whole file as the lister prints it.
 fn library_listed(file: &[u8], room: Room) -> Result<String, String> {
-    let mut meter = vec![NO_READING; room.minutes];
+    let mut memory = Memory::of_minutes(room.minutes);
     let mut lent = Lent::new(room.lines);
-    let answer = library::settle_file(file, &mut meter, &mut lent.lines, &mut lent.sums);
+    let answer = library::settle_file(
+        file,
+        &mut memory.meter,
+        &mut memory.revisions,
+        &mut lent.lines,
+        &mut lent.sums,
+    );
     let refusal = |number| Refusal {
         number,
         offset: answer / 256,
@@ -296,31 +322,34 @@ fn file_settled_alike(what: &str, file: &[u8], room: Room) -> Result<(), String>
 
 /// Enters a file up to its first refusal by all three, into memory that held
 /// something before.
-fn entered_alike(what: &str, file: &[u8], minutes: usize) -> Result<(), String> {
-    let before = vec![1; minutes];
+fn entered_alike(what: &str, file: &[u8], cells: usize, bytes: usize) -> Result<(), String> {
+    let before = Memory {
+        meter: vec![1; cells],
+        revisions: vec![UNTOUCHED_BYTE; bytes],
+    };
     let mut book = second_book::Book::default();
-    let mut meter = before.clone();
-    let entered = second_book::enter_file(file, &mut book, &mut meter, true, Switch::RIGHT);
+    let mut memory = before.clone();
+    let entered = second_book::enter_file(file, &mut book, &mut memory, true, Switch::RIGHT);
     let (number, offset) = entered
         .last()
         .and_then(|last| Some((last.answer.err()?, last.offset)))
         .unwrap_or((0, file.len()));
-    let second = (number, offset, meter);
+    let second = (number, offset, memory);
 
     let mut plain = Book::default();
-    let mut meter = before.clone();
-    let entered = enter::enter_file(file, &mut plain, &mut meter);
+    let mut memory = before.clone();
+    let entered = enter::enter_file(file, &mut plain, &mut memory.meter, &mut memory.revisions);
     alike(
         what,
         "plain",
-        &(entered.number, entered.offset, meter),
+        &(entered.number, entered.offset, memory),
         &second,
     )?;
     alike(what, "plain", &plain, &plain_book(&book))?;
 
-    let mut meter = before.clone();
-    let answer = library::enter_file(file, &mut meter);
-    let entered = ((answer % 256) as u8, (answer / 256) as usize, meter);
+    let mut memory = before.clone();
+    let answer = library::enter_file(file, &mut memory.meter, &mut memory.revisions);
+    let entered = ((answer % 256) as u8, (answer / 256) as usize, memory);
     alike(what, "library", &entered, &second)?;
     file_written_alike(what, file, &before, &book, second)
 }
@@ -331,13 +360,13 @@ fn entered_alike(what: &str, file: &[u8], minutes: usize) -> Result<(), String> 
 fn file_written_alike(
     what: &str,
     file: &[u8],
-    before: &[i32],
+    before: &Memory,
     book: &second_book::Book,
-    entered: (u8, usize, Vec<i32>),
+    entered: (u8, usize, Memory),
 ) -> Result<(), String> {
-    let (number, offset, meter) = entered;
+    let (number, offset, memory) = entered;
     let written = |room: usize| match number {
-        0 => second_written(book, &meter, room, Any::No),
+        0 => second_written(book, &memory, room, Any::No),
         _ => Err(number),
     };
     let length = written(MONTH_BYTES).map_or(0, |file| file.len());
@@ -349,8 +378,8 @@ fn file_written_alike(
     ];
     for room in rooms.into_iter().flatten() {
         let mut bytes = vec![UNTOUCHED_BYTE; room];
-        let mut after = before.to_vec();
-        let answer = library::write_file(file, &mut after, &mut bytes);
+        let mut after = before.clone();
+        let answer = library::write_file(file, &mut after.meter, &mut after.revisions, &mut bytes);
         let mut expected = vec![UNTOUCHED_BYTE; room];
         let answered = match written(room) {
             Ok(file) => {
@@ -361,7 +390,7 @@ fn file_written_alike(
             Err(26) => 26,
             Err(number) => u64::from(number) + 256 * offset as u64,
         };
-        if after != meter || bytes != expected {
+        if after != memory || bytes != expected {
             return Err(format!("{what}: written into {room} bytes: other memory"));
         }
         alike(what, "library", &answer, &answered)?;
@@ -373,20 +402,39 @@ fn file_written_alike(
 /// memory.
 fn check_file(seed: u64) -> Result<usize, String> {
     let file = scenes::file(seed, MONTHS);
-    let (book, meter) = second_month(&file);
+    let (book, memory) = second_month(&file);
     let what = format!("file {seed}");
-    let refusal = settled_alike(&what, &book, &meter, LINES, Any::No)?;
-    entered_alike(&what, &file, MINUTES)?;
+    let refusal = settled_alike(&what, &book, &memory, LINES, Any::No)?;
+    entered_alike(&what, &file, MINUTES, MINUTES)?;
 
     let mut random = Random::new(seed);
     let room = Room {
         minutes: random.between(0, MINUTES as i64) as usize,
         lines: random.pick(&[0, 1, 5, 60, 719]),
     };
-    let what = format!("{what}, {room:?}");
-    settled_alike(&what, &book, &meter[..room.minutes], room.lines, Any::No)?;
-    entered_alike(&what, &file, room.minutes)?;
+    // Either memory may be the longer one, and by a minute only.
+    let any = random.between(0, MINUTES as i64) as usize;
+    let span = book.span() as usize;
+    let (cells, bytes) = random.pick(&[
+        (room.minutes, room.minutes),
+        (room.minutes, any),
+        (MINUTES, room.minutes),
+        (span, span),
+        (span, span.saturating_sub(1)),
+        (span.saturating_sub(1), span),
+    ]);
+    let what = format!("{what}, {cells} cells, {bytes} revision bytes, {room:?}");
+    let mut short = first(&memory, cells, bytes);
+    settled_alike(&what, &book, &short, room.lines, Any::No)?;
+    entered_alike(&what, &file, cells, bytes)?;
     file_settled_alike(&what, &file, room)?;
+
+    // What others wrote beside readings is written as their revisions, and
+    // what they wrote elsewhere is not.
+    for byte in &mut short.revisions {
+        *byte = random.pick(&[0, 0, 1, 255]);
+    }
+    settled_alike(&what, &book, &short, LINES, Any::No)?;
     Ok(usize::from(refusal.is_none()))
 }
 
@@ -409,7 +457,7 @@ impl std::iter::Sum for Unsound {
 /// Changes a book in one place, so that mostly no commands leave it.
 fn check_made_up(seed: u64) -> Result<Unsound, String> {
     let file = scenes::file(seed, TWO_DAYS);
-    let (mut book, meter) = second_month(&file);
+    let (mut book, memory) = second_month(&file);
     let mut random = Random::new(seed);
     let near = |random: &mut Random, value: &mut i64| {
         let wide = random.between(-40, 40);
@@ -473,13 +521,13 @@ fn check_made_up(seed: u64) -> Result<Unsound, String> {
         }
     }
     let what = format!("made-up book {seed}");
-    let unsound = settled_alike(&what, &book, &meter, LINES, Any::Yes)? == Some(11);
+    let unsound = settled_alike(&what, &book, &memory, LINES, Any::Yes)? == Some(11);
     let plain = plain_book(&book);
     // Something in an unused entry is 11 too; the other two have no such entries.
     if book.contract.is_some() && book.windows.len() < plain::WINDOWS {
         let mut unclean = plain.clone();
         unclean.windows[plain::WINDOWS - 1].end = 30;
-        if plain_settled(&unclean, &meter, LINES)? != Err(11) {
+        if plain_settled(&unclean, &memory, LINES)? != Err(11) {
             return Err(format!("{what}: an unused entry went unseen"));
         }
     }

@@ -17,14 +17,20 @@ pub struct Entered {
 }
 
 /// Enters a file's commands into the empty book, up to the file's end or the
-/// first refusal; book and meter memory then hold what was taken.
-pub fn enter_file(file: &[u8], book: &mut Book, meter: &mut [i32]) -> Entered {
+/// first refusal; book and lent memory then hold what was taken.
+pub fn enter_file(
+    file: &[u8],
+    book: &mut Book,
+    meter: &mut [i32],
+    revisions: &mut [u8],
+) -> Entered {
     *book = Book::default();
     let mut offset = 0;
     while let Some((&byte, rest)) = file[offset..].split_first() {
         let (number, length) = match byte {
-            b'M' => command(rest, |operands| reading(book, meter, operands)),
-            b'C' => command(rest, |operands| contract(book, meter, operands)),
+            b'M' => command(rest, |operands| reading(book, meter, revisions, operands)),
+            b'R' => command(rest, |operands| revision(book, meter, revisions, operands)),
+            b'C' => command(rest, |operands| contract(book, meter, revisions, operands)),
             b'W' => command(rest, |operands| window(book, operands)),
             b'I' => command(rest, |operands| instruction(book, operands)),
             b'D' => command(rest, |operands| default(book, operands)),
@@ -73,7 +79,7 @@ fn not_ready(book: &Book) -> u8 {
     }
 }
 
-fn contract(book: &mut Book, meter: &mut [i32], o: &[u8; 31]) -> u8 {
+fn contract(book: &mut Book, meter: &mut [i32], revisions: &mut [u8], o: &[u8; 31]) -> u8 {
     let contract = Contract {
         days: i32::from(o[0]),
         kind: i32::from(o[1]),
@@ -99,10 +105,12 @@ fn contract(book: &mut Book, meter: &mut [i32], o: &[u8; 31]) -> u8 {
     if book.has_contract {
         return 14;
     }
-    let Some(span) = meter.get_mut(..contract.span() as usize) else {
+    let span = contract.span() as usize;
+    let (Some(cells), Some(numbers)) = (meter.get_mut(..span), revisions.get_mut(..span)) else {
         return 15;
     };
-    span.fill(NO_READING);
+    cells.fill(NO_READING);
+    numbers.fill(0);
     book.contract = contract;
     book.has_contract = true;
     0
@@ -210,26 +218,54 @@ fn default(book: &mut Book, o: &[u8; 4]) -> u8 {
     0
 }
 
-fn reading(book: &Book, meter: &mut [i32], o: &[u8; 6]) -> u8 {
+fn reading(book: &Book, meter: &mut [i32], revisions: &mut [u8], o: &[u8; 6]) -> u8 {
     let minute = two(o[0], o[1]);
     let kw = four(o, 2);
     if !minute_in_range(minute) || !is_reading(kw) {
         return 3;
     }
-    let number = not_ready(book);
+    let number = not_in_span(book, minute);
     if number != 0 {
         return number;
-    }
-    // The contract was taken, so the span is in the memory and 15 is settled.
-    if minute >= book.contract.span() {
-        return 16;
     }
     let cell = &mut meter[minute as usize];
     if is_reading(*cell) {
         return 22;
     }
     *cell = kw;
+    revisions[minute as usize] = 0;
     0
+}
+
+fn revision(book: &Book, meter: &mut [i32], revisions: &mut [u8], o: &[u8; 7]) -> u8 {
+    let minute = two(o[0], o[1]);
+    let revision = o[2];
+    let kw = four(o, 3);
+    if !minute_in_range(minute) || revision == 0 || !is_reading(kw) {
+        return 3;
+    }
+    let number = not_in_span(book, minute);
+    if number != 0 {
+        return number;
+    }
+    let cell = &mut meter[minute as usize];
+    let held = &mut revisions[minute as usize];
+    if is_reading(*cell) && revision <= *held {
+        return 27;
+    }
+    *cell = kw;
+    *held = revision;
+    0
+}
+
+/// 12, 13 and 16 of a minute that is read. The contract was taken, so the span
+/// is in the memory and 15 is settled.
+fn not_in_span(book: &Book, minute: i32) -> u8 {
+    let number = not_ready(book);
+    if number == 0 && minute >= book.contract.span() {
+        return 16;
+    }
+    number
 }
 
 fn close(book: &mut Book) -> u8 {

@@ -1,5 +1,6 @@
 //! `bench time [REPEATS]` times the plain settlement and the proved library on
-//! months to order, and likewise the reading and entering of their files;
+//! months to order, and likewise the reading and entering of their files, with
+//! plain readings and with revisions;
 //! `bench check` holds both against the second settlement;
 //! `bench file SEED` puts out the unit file of a seed.
 

@@ -5,16 +5,24 @@ use crate::plain::{Book, Contract, Instruction, Window};
 
 pub const DAYS: i32 = 31;
 pub const MINUTES: usize = 44_640;
-/// The bytes of every such file.
+/// The bytes of every such file; a revision has one more than a reading.
 pub const FILE_BYTES: usize = 313_391;
+pub const REVISED_BYTES: usize = FILE_BYTES + MINUTES;
 const WINDOW_COUNT: i32 = 93;
 const INSTRUCTION_COUNT: i32 = 64;
 
 #[derive(Default)]
 pub struct Month {
     pub file: Vec<u8>,
+    /// The same month with a revision for every reading.
+    pub revised: Vec<u8>,
     pub book: Book,
     pub meter: Vec<i32>,
+}
+
+/// By which number each minute of the revised file has its reading.
+pub fn numbers() -> Vec<u8> {
+    (1..=u8::MAX).cycle().take(MINUTES).collect()
 }
 
 struct Draws(u32);
@@ -68,12 +76,17 @@ pub fn of_seed(seed: u32) -> Month {
         };
     }
     let meter: Vec<i32> = (0..MINUTES).map(|_| draws.below(24_001) - 6_000).collect();
-    let file = file(&book, &meter);
-    Month { file, book, meter }
+    Month {
+        file: file(&book, &meter, &[0; MINUTES]),
+        revised: file(&book, &meter, &numbers()),
+        book,
+        meter,
+    }
 }
 
-fn file(book: &Book, meter: &[i32]) -> Vec<u8> {
-    let mut file = Vec::with_capacity(FILE_BYTES);
+/// A number of 0 stands for a plain reading.
+fn file(book: &Book, meter: &[i32], numbers: &[u8]) -> Vec<u8> {
+    let mut file = Vec::with_capacity(REVISED_BYTES);
     let c = &book.contract;
     file.extend([b'C', c.days as u8, c.kind as u8, c.service as u8]);
     for operand in [c.kw, c.ramp_up, c.ramp_down] {
@@ -96,9 +109,10 @@ fn file(book: &Book, meter: &[i32]) -> Vec<u8> {
         file.extend((instruction.issue as u16).to_be_bytes());
         file.extend((instruction.cease as u16).to_be_bytes());
     }
-    for (minute, kw) in (0_u16..).zip(meter) {
-        file.push(b'M');
+    for (minute, (kw, &number)) in (0_u16..).zip(meter.iter().zip(numbers)) {
+        file.push(if number == 0 { b'M' } else { b'R' });
         file.extend(minute.to_be_bytes());
+        file.extend((number > 0).then_some(number));
         file.extend(kw.to_be_bytes());
     }
     file.push(b'Z');

@@ -268,12 +268,17 @@ fn slice(meter: &[i32], from: i32, to: i32) -> &[i32] {
 
 /// Settles a book into lent line memory, or gives 11, 15, 24, 25 or 26 and
 /// leaves the memory as it was.
-pub fn settle(book: &Book, meter: &[i32], lines: &mut [Line]) -> Result<Answer, u8> {
+pub fn settle(
+    book: &Book,
+    meter: &[i32],
+    revisions: &[u8],
+    lines: &mut [Line],
+) -> Result<Answer, u8> {
     if !book.sound() {
         return Err(11);
     }
     let contract = &book.contract;
-    if meter.len() < contract.span() as usize {
+    if meter.len().min(revisions.len()) < contract.span() as usize {
         return Err(15);
     }
     if !book.closed {

@@ -1,7 +1,7 @@
 //! What can be timed: anything that takes in a month and does one call on it.
 
 use crate::enter;
-use crate::month::{Month, MINUTES};
+use crate::month::{self, Month, MINUTES};
 use crate::plain::{self, Answer, Book, Line, Stage};
 use std::fmt::Write;
 use std::rc::Rc;
@@ -38,17 +38,21 @@ pub fn settlers() -> Vec<Box<dyn Side>> {
     ]
 }
 
-/// Those that read and enter a month's file.
+/// Those that read and enter a month's file: first two as it is, then two with
+/// a revision for every reading.
 pub fn enterers() -> Vec<Box<dyn Side>> {
     vec![
-        Box::new(PlainEnterer::default()),
-        Box::new(LibraryEnterer::default()),
+        Box::new(PlainEnterer::of(Readings::Plain)),
+        Box::new(LibraryEnterer(Entering::of(Readings::Plain))),
+        Box::new(PlainEnterer::of(Readings::Revised)),
+        Box::new(LibraryEnterer(Entering::of(Readings::Revised))),
     ]
 }
 
 #[derive(Default)]
 struct PlainSettler {
     month: Rc<Month>,
+    revisions: Vec<u8>,
     lines: Vec<Line>,
     answer: Option<Answer>,
 }
@@ -64,12 +68,18 @@ impl Side for PlainSettler {
 
     fn load(&mut self, month: &Rc<Month>) -> Result<(), String> {
         self.month = Rc::clone(month);
+        self.revisions = vec![0; MINUTES];
         self.lines = vec![Line::default(); LINES];
         Ok(())
     }
 
     fn run(&mut self) -> u8 {
-        let answer = plain::settle(&self.month.book, &self.month.meter, &mut self.lines);
+        let answer = plain::settle(
+            &self.month.book,
+            &self.month.meter,
+            &self.revisions,
+            &mut self.lines,
+        );
         let number = answer.as_ref().err().copied().unwrap_or(0);
         self.answer = answer.ok();
         number
@@ -83,6 +93,7 @@ impl Side for PlainSettler {
 
 struct LibrarySettler {
     month: Rc<Month>,
+    revisions: Vec<u8>,
     tables: Tables,
     lines: Vec<i64>,
     sums: [i64; SUMS],
@@ -92,6 +103,7 @@ impl Default for LibrarySettler {
     fn default() -> LibrarySettler {
         LibrarySettler {
             month: Rc::default(),
+            revisions: Vec::new(),
             tables: Tables::default(),
             lines: Vec::new(),
             sums: [0; SUMS],
@@ -110,6 +122,7 @@ impl Side for LibrarySettler {
 
     fn load(&mut self, month: &Rc<Month>) -> Result<(), String> {
         self.month = Rc::clone(month);
+        self.revisions = vec![0; MINUTES];
         self.tables = tables(&month.book).ok_or("the tables cannot say this book")?;
         self.lines = vec![0; LINE_NUMBERS * LINES];
         Ok(())
@@ -122,6 +135,7 @@ impl Side for LibrarySettler {
             &self.tables.instructions,
             &self.tables.defaults,
             &self.month.meter,
+            &self.revisions,
             &mut self.lines,
             &mut self.sums,
         )
@@ -132,12 +146,82 @@ impl Side for LibrarySettler {
     }
 }
 
-#[derive(Default)]
-struct PlainEnterer {
+/// Which of a month's files is entered.
+#[derive(Clone, Copy)]
+enum Readings {
+    Plain,
+    Revised,
+}
+
+impl Readings {
+    fn file(self, month: &Month) -> &[u8] {
+        match self {
+            Readings::Plain => &month.file,
+            Readings::Revised => &month.revised,
+        }
+    }
+
+    /// What the file leaves as the revision of each minute.
+    fn numbers(self) -> Vec<u8> {
+        match self {
+            Readings::Plain => vec![0; MINUTES],
+            Readings::Revised => month::numbers(),
+        }
+    }
+}
+
+/// A file to enter, the memory for it, and how far the last call came.
+struct Entering {
+    readings: Readings,
     month: Rc<Month>,
-    book: Book,
     meter: Vec<i32>,
+    revisions: Vec<u8>,
     offset: usize,
+}
+
+impl Entering {
+    fn of(readings: Readings) -> Entering {
+        Entering {
+            readings,
+            month: Rc::default(),
+            meter: Vec::new(),
+            revisions: Vec::new(),
+            offset: 0,
+        }
+    }
+
+    fn load(&mut self, month: &Rc<Month>) {
+        self.month = Rc::clone(month);
+        self.meter = vec![0; MINUTES];
+        self.revisions = vec![0; MINUTES];
+    }
+
+    /// All that is left, in a form that is the same for both files; an error
+    /// where the numbers of the revisions are not the file's.
+    fn outcome(&self) -> Result<String, String> {
+        let length = self.readings.file(&self.month).len();
+        if self.offset != length {
+            return Err(format!("entered to {} of {length}", self.offset));
+        }
+        if self.revisions != self.readings.numbers() {
+            return Err("the revisions are not the file's".to_string());
+        }
+        Ok(format!("{:?}", self.meter))
+    }
+}
+
+struct PlainEnterer {
+    book: Book,
+    entering: Entering,
+}
+
+impl PlainEnterer {
+    fn of(readings: Readings) -> PlainEnterer {
+        PlainEnterer {
+            book: Book::default(),
+            entering: Entering::of(readings),
+        }
+    }
 }
 
 impl Side for PlainEnterer {
@@ -146,32 +230,28 @@ impl Side for PlainEnterer {
     }
 
     fn tests(&self) -> &'static str {
-        "every refusal from 1 to 23 that a file can meet"
+        "every refusal from 1 to 23 that a file can meet, and 27"
     }
 
     fn load(&mut self, month: &Rc<Month>) -> Result<(), String> {
-        self.month = Rc::clone(month);
-        self.meter = vec![0; MINUTES];
+        self.entering.load(month);
         Ok(())
     }
 
     fn run(&mut self) -> u8 {
-        let entered = enter::enter_file(&self.month.file, &mut self.book, &mut self.meter);
-        self.offset = entered.offset;
+        let to = &mut self.entering;
+        let file = to.readings.file(&to.month);
+        let entered = enter::enter_file(file, &mut self.book, &mut to.meter, &mut to.revisions);
+        to.offset = entered.offset;
         entered.number
     }
 
     fn outcome(&self) -> Result<String, String> {
-        Ok(format!("to {}: {:?}", self.offset, self.meter))
+        self.entering.outcome()
     }
 }
 
-#[derive(Default)]
-struct LibraryEnterer {
-    month: Rc<Month>,
-    meter: Vec<i32>,
-    answer: u64,
-}
+struct LibraryEnterer(Entering);
 
 impl Side for LibraryEnterer {
     fn name(&self) -> &'static str {
@@ -183,18 +263,20 @@ impl Side for LibraryEnterer {
     }
 
     fn load(&mut self, month: &Rc<Month>) -> Result<(), String> {
-        self.month = Rc::clone(month);
-        self.meter = vec![0; MINUTES];
+        self.0.load(month);
         Ok(())
     }
 
     fn run(&mut self) -> u8 {
-        self.answer = library::enter_file(&self.month.file, &mut self.meter);
-        (self.answer % 256) as u8
+        let to = &mut self.0;
+        let file = to.readings.file(&to.month);
+        let answer = library::enter_file(file, &mut to.meter, &mut to.revisions);
+        to.offset = (answer / 256) as usize;
+        (answer % 256) as u8
     }
 
     fn outcome(&self) -> Result<String, String> {
-        Ok(format!("to {}: {:?}", self.answer / 256, self.meter))
+        self.0.outcome()
     }
 }
 

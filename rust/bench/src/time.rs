@@ -30,13 +30,30 @@ pub fn time(repeats: usize) -> Result<(), String> {
     );
     println!("the mean of the months' best and median times");
     println!("\nsettling a book, {repeats} calls for each month, run and side");
-    compare(&mut settlers(), repeats)?;
+    let mut sides = settlers();
+    let taken = take_turns(&mut sides, repeats)?;
+    print(&sides, &taken);
     let fewer = repeats.div_ceil(ENTERING_SHARE);
     println!("\nreading and entering a file, {fewer} calls for each month, run and side");
-    compare(&mut enterers(), fewer)
+    let mut sides = enterers();
+    let taken = take_turns(&mut sides, fewer)?;
+    let half = sides.len() / 2;
+    print(&sides[..half], &taken[..half]);
+    println!("\nthe same with a revision for every reading, in turn with the above");
+    print(&sides[half..], &taken[half..]);
+    for (side, (plain, revised)) in sides.iter().zip(taken.iter().zip(&taken[half..])) {
+        println!(
+            "{}: revisions take {:.3} of the best time of plain readings, {:.3} of the median",
+            side.name(),
+            revised.best() / plain.best(),
+            revised.median() / plain.median()
+        );
+    }
+    Ok(())
 }
 
-fn compare(sides: &mut [Box<dyn Side>], repeats: usize) -> Result<(), String> {
+/// The times of each side, for each month in each run.
+fn take_turns(sides: &mut [Box<dyn Side>], repeats: usize) -> Result<Vec<Taken>, String> {
     let mut taken = vec![Taken::default(); sides.len()];
     for run in 0..RUNS {
         for seed in SEEDS {
@@ -45,8 +62,7 @@ fn compare(sides: &mut [Box<dyn Side>], repeats: usize) -> Result<(), String> {
             }
         }
     }
-    print(sides, &taken);
-    Ok(())
+    Ok(taken)
 }
 
 /// One month's times for each side. The sides take turns, so that a busy

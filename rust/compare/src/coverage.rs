@@ -1,8 +1,9 @@
 //! What the generated files met: refusals, ends of ranges, and features of
 //! settled months. A comparison proves little about what it never met.
 
-use second::book::{self, Book};
+use second::book::{self, Book, Entered};
 use second::bytes::{self, Command, Contract, Instruction, Read};
+use second::memory::Memory;
 use second::rows::Room;
 use second::rules::{self, *};
 use second::settle::{self, Rate, Stage, Statement};
@@ -11,11 +12,13 @@ use std::collections::BTreeMap;
 use std::ops::RangeInclusive;
 
 /// The refusals that a file can meet.
-pub const REFUSALS: [u8; 19] = [
-    1, 2, 3, 4, 5, 12, 13, 14, 15, 16, 17, 18, 19, 20, 21, 22, 23, 24, 25,
+pub const REFUSALS: [u8; 20] = [
+    1, 2, 3, 4, 5, 12, 13, 14, 15, 16, 17, 18, 19, 20, 21, 22, 27, 23, 24, 25,
 ];
+/// Of these, what only settling meets.
+const SETTLING: [u8; 2] = [24, 25];
 
-const FEATURES: [&str; 70] = [
+const FEATURES: [&str; 80] = [
     "settled, generator",
     "settled, demand reducer",
     "settled, committed",
@@ -78,6 +81,15 @@ const FEATURES: [&str; 70] = [
     "table full",
     "reading below 0",
     "minutes without a reading",
+    "needed minute revised",
+    "revision, minute without a reading",
+    "revision over a plain reading",
+    "revision over a revision",
+    "revision just above",
+    "revision equal to the one held",
+    "revision below the one held",
+    "plain reading over a revision",
+    "a reading and 255 revisions of a minute",
     "31 days",
     "31 days, every table full",
     "31 days, a reading in every minute",
@@ -86,6 +98,7 @@ const FEATURES: [&str; 70] = [
     "written, open",
     "written, closed",
     "written, in another order",
+    "written, revised",
 ];
 
 /// Features that start like this are met in whole months alone, and must be
@@ -122,18 +135,19 @@ impl Coverage {
     /// Counts what a file meets under the right rules when it is listed.
     pub fn add_listed(&mut self, file: &[u8], room: Room) {
         self.listed = true;
-        let (taken, book, meter) = self.add(file, room);
-        let settled = taken.and_then(|()| settle::settle(&book, &meter, room.lines, Switch::RIGHT));
+        let (taken, book, memory) = self.add(file, room);
+        let settled =
+            taken.and_then(|()| settle::settle(&book, &memory, room.lines, Switch::RIGHT));
         match settled {
             Err(number) => self.count_refusal(number),
-            Ok(statement) => self.count_statement(&book, &meter, &statement),
+            Ok(statement) => self.count_statement(&book, &memory, &statement),
         }
     }
 
     /// The same when its book is written: `written` is the file of it.
     pub fn add_written(&mut self, file: &[u8], room: Room, written: &[u8]) {
         self.written = true;
-        let (taken, book, _) = self.add(file, room);
+        let (taken, book, memory) = self.add(file, room);
         if let Err(number) = taken {
             self.count_refusal(number);
             return;
@@ -143,11 +157,14 @@ impl Coverage {
         self.met("written, open", !empty && !book.closed);
         self.met("written, closed", book.closed);
         self.met("written, in another order", written != file);
+        let span = 0..book.span();
+        let revised = |minute| memory.has_reading(minute) && memory.revision(minute) > 0;
+        self.met("written, revised", span.into_iter().any(revised));
     }
 
     /// Counts what entering a file meets; its answer, the book and the
     /// readings.
-    fn add(&mut self, file: &[u8], room: Room) -> (Result<(), u8>, Book, Vec<i32>) {
+    fn add(&mut self, file: &[u8], room: Room) -> (Result<(), u8>, Book, Memory) {
         self.files += 1;
         self.bytes += file.len();
         self.longest = self.longest.max(file.len());
@@ -155,14 +172,67 @@ impl Coverage {
         self.whole_months |= whole;
         self.short_months |= !whole;
         let mut book = Book::default();
-        let mut meter = vec![NO_READING; room.minutes];
-        let entered = book::enter_file(file, &mut book, &mut meter, true, Switch::RIGHT);
+        let mut memory = Memory::of_minutes(room.minutes);
+        let entered = book::enter_file(file, &mut book, &mut memory, true, Switch::RIGHT);
         // What stands behind a refusal is not looked at, and so not met.
         for command in &entered {
             self.count_operands(file, command.offset);
         }
+        self.count_revisions(file, &entered);
         let taken = entered.last().map_or(Ok(()), |last| last.answer);
-        (taken, book, meter)
+        (taken, book, memory)
+    }
+
+    /// What revisions, and plain readings after them, find in their minute.
+    fn count_revisions(&mut self, file: &[u8], entered: &[Entered]) {
+        // Of each minute that was read: the revision held, and how many
+        // readings it took.
+        let mut held: BTreeMap<i64, (i64, usize)> = BTreeMap::new();
+        for command in entered {
+            let (minute, number) = match bytes::read(file, command.offset, Switch::RIGHT) {
+                Read::Command(Command::Reading(r), _) => (r.minute, 0),
+                Read::Command(Command::Revision(v), _) => (v.minute, v.number),
+                _ => continue,
+            };
+            let before = held.get(&minute).copied();
+            let over = before.map(|(number, _)| number);
+            let revision = number > 0;
+            let is_taken = command.answer.is_ok();
+            let is_27 = command.answer == Err(27);
+            self.met(
+                "revision, minute without a reading",
+                revision && is_taken && over.is_none(),
+            );
+            self.met(
+                "revision over a plain reading",
+                revision && is_taken && over == Some(0),
+            );
+            self.met(
+                "revision over a revision",
+                is_taken && over.is_some_and(|held| held > 0),
+            );
+            self.met(
+                "revision just above",
+                is_taken && over.is_some_and(|held| number == held + 1),
+            );
+            self.met(
+                "revision equal to the one held",
+                is_27 && over == Some(number),
+            );
+            self.met(
+                "revision below the one held",
+                is_27 && over.is_some_and(|held| number < held),
+            );
+            self.met(
+                "plain reading over a revision",
+                command.answer == Err(22) && over.is_some_and(|held| held > 0),
+            );
+            if is_taken {
+                let count = before.map_or(1, |(_, count)| count + 1);
+                self.met("a reading and 255 revisions of a minute", count == 256);
+                held.insert(minute, (number, count));
+            }
+        }
     }
 
     fn count_refusal(&mut self, number: u8) {
@@ -176,7 +246,7 @@ impl Coverage {
         REFUSALS
             .into_iter()
             .filter(|number| self.short_months || *number != 15)
-            .filter(|number| self.listed || *number < 24)
+            .filter(|number| self.listed || !SETTLING.contains(number))
     }
 
     /// The features that may be met with the programs and the memory that
@@ -220,8 +290,10 @@ impl Coverage {
             range.end() + 1,
         ];
         // Only a range that starts at 0 has nothing just below it: no sign there.
+        // And only one that ends with its byte has nothing just above.
         let below = (*range.start() != 0).then_some(0);
-        let none_yet = [below, Some(0), Some(0), Some(0)];
+        let above = (*range.end() != 255).then_some(0);
+        let none_yet = [below, Some(0), Some(0), above];
         let counts = self.ends.entry(name).or_insert(none_yet);
         for (point, count) in points.into_iter().zip(counts) {
             if let (Some(count), true) = (count, point == value) {
@@ -265,6 +337,11 @@ impl Coverage {
                     self.end("reading minute", MINUTE, r.minute);
                     self.end("reading kW", READING, r.kw);
                 }
+                Command::Revision(v) => {
+                    self.end("revision minute", MINUTE, v.minute);
+                    self.end("revision number", REVISION, v.number);
+                    self.end("revision kW", READING, v.kw);
+                }
                 Command::Close => {}
             }
         }
@@ -277,7 +354,8 @@ impl Coverage {
         }
     }
 
-    fn count_statement(&mut self, book: &Book, meter: &[i32], statement: &Statement) {
+    fn count_statement(&mut self, book: &Book, memory: &Memory, statement: &Statement) {
+        let meter = &memory.meter;
         let Some(contract) = book.contract else {
             return;
         };
@@ -306,6 +384,10 @@ impl Coverage {
         self.met("31 days, a reading in every minute", all_read);
         let below = span.iter().any(|&kw| kw != NO_READING && kw < 0);
         self.met("reading below 0", below);
+        let needs = |instruction| settle::needed_minutes(&contract, instruction, Switch::RIGHT);
+        let revised = |minute| memory.revision(minute) > 0;
+        let needed = book.instructions.iter().flat_map(needs).any(revised);
+        self.met("needed minute revised", needed);
         self.count_lines(&contract, book, statement);
         self.count_windows(&contract, book, statement);
         self.count_instructions(&contract, book);

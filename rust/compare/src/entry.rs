@@ -41,6 +41,8 @@ pub enum Entry {
     Default(i64, i64, i64),
     /// Minute, kW.
     Reading(i64, i64),
+    /// Minute, number, kW.
+    Revision(i64, i64, i64),
     Close,
     Raw(Vec<u8>),
 }
@@ -85,6 +87,12 @@ impl Entry {
             Entry::Reading(minute, kw) => {
                 file.push(b'M');
                 two(file, *minute);
+                four(file, *kw);
+            }
+            Entry::Revision(minute, number, kw) => {
+                file.push(b'R');
+                two(file, *minute);
+                one(file, *number);
                 four(file, *kw);
             }
             Entry::Close => file.push(b'Z'),

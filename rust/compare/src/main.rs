@@ -17,8 +17,9 @@ use compare::scenes::{self, Target};
 use coverage::Coverage;
 use run::Program;
 use second::book::{self, Book};
+use second::memory::Memory;
 use second::rows::{self, Room};
-use second::rules::{LISTER_LINES, LISTER_MINUTES, NO_READING};
+use second::rules::{LISTER_LINES, LISTER_MINUTES};
 use second::switches::Switch;
 use second::write;
 use std::path::{Path, PathBuf};
@@ -187,13 +188,14 @@ fn report(side: &Side, seed: u64, file: &[u8], theirs: &[u8], ours: &[u8]) -> Re
     Ok(())
 }
 
-/// What the writer puts out leaves the same book and the same readings.
+/// What the writer puts out leaves the same book and the same readings, of the
+/// same revisions.
 fn check_writer(file: &[u8], minutes: usize) -> Result<(), String> {
     let read = |file: &[u8]| {
         let mut book = Book::default();
-        let mut meter = vec![NO_READING; minutes];
-        book::enter_file(file, &mut book, &mut meter, false, Switch::RIGHT);
-        (book, meter)
+        let mut memory = Memory::of_minutes(minutes);
+        book::enter_file(file, &mut book, &mut memory, false, Switch::RIGHT);
+        (book, memory)
     };
     let written = write::rewrite(file, minutes, Switch::RIGHT);
     if read(file) != read(&written) {

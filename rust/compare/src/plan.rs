@@ -15,6 +15,8 @@ pub struct Plan {
     pub defaults: Vec<(i64, i64, i64)>,
     /// Minute, kW; at most one for a minute.
     pub readings: Vec<(i64, i64)>,
+    /// One of so many readings is revised; of 0, none.
+    pub revised: i64,
 }
 
 /// How the readings are drawn.
@@ -123,6 +125,7 @@ pub fn draw_for(random: &mut Random, contract: Contract, size: Size) -> Plan {
         instructions,
         defaults: Vec::new(),
         readings: Vec::new(),
+        revised: random.pick(&[0, 0, 0, 1, 2, 10]),
     };
     for _ in 0..size.defaults {
         if plan.windows.is_empty() {
@@ -235,6 +238,32 @@ pub fn default_in(random: &mut Random, window: (i64, i64, i64)) -> (i64, i64, i6
     (minute, random.between(1, 4), random.between(1, 3))
 }
 
+/// A minute's reading by rising revisions, of which the first may be a plain
+/// one; all but the last say something else.
+fn revised(random: &mut Random, minute: i64, kw: i64) -> Vec<Entry> {
+    let mut number = random.pick(&[0, 0, 0, 1, 1, 9, 254, 255]);
+    let mut rising = vec![number];
+    for _ in 0..random.between(0, 3) {
+        if number == 255 {
+            break;
+        }
+        let any = random.between(number + 1, 255);
+        number = random.pick(&[number + 1, number + 1, any, 255]);
+        rising.push(number);
+    }
+    rising
+        .into_iter()
+        .map(|turn| {
+            let wrong = random.pick(&[0, -kw, 500_000]);
+            let said = if turn == number { kw } else { wrong };
+            match turn {
+                0 => Entry::Reading(minute, said),
+                _ => Entry::Revision(minute, turn, said),
+            }
+        })
+        .collect()
+}
+
 impl Plan {
     pub fn needed(&self) -> Vec<i64> {
         let mut needed = Vec::new();
@@ -310,18 +339,39 @@ impl Plan {
         kw.clamp(-500_000, 500_000)
     }
 
-    /// The plan's commands, the tables mixed with one another now and then.
-    pub fn entries(&self, random: &mut Random) -> Vec<Entry> {
+    /// The readings' commands. What puts a revised one right follows at once, or
+    /// behind all readings, as after a visit to the site.
+    fn reading_entries(&self, random: &mut Random) -> Vec<Entry> {
         let mut readings = self.readings.clone();
         if random.once_in(3) {
             random.shuffle(&mut readings);
         } else {
             readings.sort_unstable();
         }
+        let mut entries = Vec::new();
+        let mut after_all = Vec::new();
+        for (minute, kw) in readings {
+            if self.revised == 0 || !random.once_in(self.revised) {
+                entries.push(Entry::Reading(minute, kw));
+                continue;
+            }
+            let mut rising = revised(random, minute, kw);
+            if random.once_in(2) {
+                after_all.extend(rising.split_off(1));
+            }
+            entries.extend(rising);
+        }
+        entries.extend(after_all);
+        entries
+    }
+
+    /// The plan's commands, the tables mixed with one another now and then.
+    pub fn entries(&self, random: &mut Random) -> Vec<Entry> {
+        let readings = self.reading_entries(random);
         let mut windows = self.windows.iter().peekable();
         let mut instructions = self.instructions.iter().peekable();
         let mut defaults = self.defaults.iter().peekable();
-        let mut readings = readings.iter().peekable();
+        let mut readings = readings.into_iter().peekable();
         let mut entries = vec![Entry::Contract(self.contract)];
         let mixed = random.once_in(2);
         let mut entered_to = 0;
@@ -330,7 +380,7 @@ impl Plan {
             // A default waits for its window.
             let waits = |minute: i64, entered_to: i64| minute >= entered_to;
             if turn >= 3 && readings.peek().is_some() {
-                entries.extend(readings.next().map(|r| Entry::Reading(r.0, r.1)));
+                entries.extend(readings.next());
             } else if turn == 2 && instructions.peek().is_some() {
                 entries.extend(instructions.next().map(|i| Entry::Instruction(i.0, i.1)));
             } else if turn == 1 && defaults.peek().is_some_and(|d| !waits(d.0, entered_to)) {
@@ -342,8 +392,8 @@ impl Plan {
                 entries.push(Entry::Instruction(i.0, i.1));
             } else if let Some(d) = defaults.next() {
                 entries.push(Entry::Default(d.0, d.1, d.2));
-            } else if let Some(r) = readings.next() {
-                entries.push(Entry::Reading(r.0, r.1));
+            } else if let Some(reading) = readings.next() {
+                entries.push(reading);
             } else {
                 break;
             }

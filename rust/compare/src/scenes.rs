@@ -31,10 +31,13 @@ impl Target {
     }
 }
 
-const SCENE_COUNT: usize = 42;
+const SCENE_COUNT: usize = 45;
+/// How often `each_end` stands among the scenes, evenly spread.
+const EACH_END: u64 = 3;
 type Scene = fn(&mut Random, Target) -> Vec<u8>;
 
 const SCENES: [Scene; SCENE_COUNT] = [
+    each_end,
     settled,
     settled,
     settled,
@@ -49,8 +52,8 @@ const SCENES: [Scene; SCENE_COUNT] = [
     fullest,
     long,
     nothing_much,
-    after_close,
     each_end,
+    after_close,
     missing_reading,
     outside_range,
     outside_range,
@@ -64,14 +67,16 @@ const SCENES: [Scene; SCENE_COUNT] = [
     after_span,
     rejected_committed,
     overlapping_windows,
+    each_end,
     early_cease,
     early_issue,
     outside_windows,
     read_twice,
+    revised_late,
+    revised_often,
     full_tables,
     full_tables,
     left_open,
-    each_end,
     strange_byte,
     cut_short,
     corrupted,
@@ -227,6 +232,7 @@ fn range_ends(random: &mut Random, target: Target) -> Vec<u8> {
         instructions: vec![(3, 3 + response + random.pick(&[0, 1, 60]))],
         defaults: vec![(0, 1, 1), (span - 1, 4, 3)],
         readings: Vec::new(),
+        revised: random.pick(&[0, 0, 2]),
     };
     let last_issue = span - contract.down() - response;
     if last_issue > 3 + response + 60 + contract.down() + contract.recovery && random.once_in(2) {
@@ -247,6 +253,7 @@ fn range_ends(random: &mut Random, target: Target) -> Vec<u8> {
             Entry::Window(44_610, 44_640, 1),
             Entry::Default(44_640, 4, 3),
             Entry::Reading(44_640, 0),
+            Entry::Revision(44_640, 255, 0),
         ];
         let chosen = random.between(0, beyond.len() as i64 - 1) as usize;
         entries.insert(last, beyond[chosen].clone());
@@ -285,6 +292,7 @@ fn fullest(random: &mut Random, target: Target) -> Vec<u8> {
         instructions: Vec::new(),
         defaults: Vec::new(),
         readings: Vec::new(),
+        revised: random.pick(&[0, 0, 0, 1, 50]),
     };
     let mut issue = 3;
     for index in 1..=64 {
@@ -345,12 +353,13 @@ fn nothing_much(random: &mut Random, target: Target) -> Vec<u8> {
 
 /// Something that is in order in itself.
 fn any_entry(random: &mut Random) -> Entry {
-    match random.between(0, 5) {
+    match random.between(0, 6) {
         0 => Entry::Contract(plan::contract(random, 1)),
         1 => Entry::Window(0, 30, 0),
         2 => Entry::Instruction(3, 300),
         3 => Entry::Default(0, 1, 1),
         4 => Entry::Reading(random.between(0, 1_439), 0),
+        5 => Entry::Revision(random.between(0, 1_439), random.pick(&[1, 255]), 0),
         _ => Entry::Close,
     }
 }
@@ -372,7 +381,7 @@ fn after_close(random: &mut Random, target: Target) -> Vec<u8> {
 /// A field just beyond an end of its range, or far beyond.
 fn bad_operand(random: &mut Random) -> Entry {
     let mut c = plan::contract(random, 1);
-    match random.between(0, 21) {
+    match random.between(0, 24) {
         0 => c.days = random.pick(&[0, 32, 255]),
         1 => c.kind = random.pick(&[2, 255]),
         2 => c.service = random.pick(&[2, 255]),
@@ -393,12 +402,16 @@ fn bad_operand(random: &mut Random) -> Entry {
         17 => return Entry::Default(0, random.pick(&[0, 5, 255]), 1),
         18 => return Entry::Default(0, 1, random.pick(&[0, 4, 255])),
         19 => return Entry::Reading(random.pick(&[44_641, 65_535]), 0),
-        _ => {
-            let kw = random.pick(&[-500_001, 500_001, i64::from(i32::MIN), i64::from(i32::MAX)]);
-            return Entry::Reading(0, kw);
-        }
+        20 => return Entry::Revision(random.pick(&[44_641, 65_535]), 1, 0),
+        21 => return Entry::Revision(0, 0, random.pick(&[0, 500_001])),
+        22 => return Entry::Revision(0, 255, bad_kw(random)),
+        _ => return Entry::Reading(0, bad_kw(random)),
     }
     Entry::Contract(c)
+}
+
+fn bad_kw(random: &mut Random) -> i64 {
+    random.pick(&[-500_001, 500_001, i64::from(i32::MIN), i64::from(i32::MAX)])
 }
 
 /// The ends of an operand's range and the numbers just beyond them, one after
@@ -406,7 +419,7 @@ fn bad_operand(random: &mut Random) -> Entry {
 fn each_end(random: &mut Random, target: Target) -> Vec<u8> {
     let plan = small_plan(random, target);
     let ends = range_ends_of(plan::contract(random, 1));
-    let entry = ends[random.turn(SCENE_COUNT as u64 / 2, ends.len())].clone();
+    let entry = ends[random.turn(SCENE_COUNT as u64 / EACH_END, ends.len())].clone();
     let after = usize::from(!matches!(entry, Entry::Contract(_)));
     disturbed(random, &plan, after, entry)
 }
@@ -425,6 +438,7 @@ fn range_ends_of(c: Contract) -> Vec<Entry> {
     let ramp = &[0, 1, 500_000, 500_001];
     let rate = &[0, 1_000_000, 1_000_001];
     let minute = &[0, 44_640, 44_641];
+    let kw = &[-500_001, -500_000, 500_000, 500_001];
     [
         contract(&[0, 1, 31, 32], |c, days| Contract { days, ..c }),
         contract(either, |c, kind| Contract { kind, ..c }),
@@ -451,9 +465,10 @@ fn range_ends_of(c: Contract) -> Vec<Entry> {
         entries(&[0, 1, 4, 5], |kind| Entry::Default(0, kind, 1)),
         entries(&[0, 1, 3, 4], |reach| Entry::Default(0, 1, reach)),
         entries(minute, |minute| Entry::Reading(minute, 0)),
-        entries(&[-500_001, -500_000, 500_000, 500_001], |kw| {
-            Entry::Reading(0, kw)
-        }),
+        entries(kw, |kw| Entry::Reading(0, kw)),
+        entries(minute, |minute| Entry::Revision(minute, 255, 0)),
+        entries(&[0, 1, 255], |number| Entry::Revision(0, number, 0)),
+        entries(kw, |kw| Entry::Revision(0, 255, kw)),
     ]
     .concat()
 }
@@ -558,7 +573,7 @@ fn after_span(random: &mut Random, target: Target) -> Vec<u8> {
     let plan = small_plan(random, target);
     let c = plan.contract;
     let span = c.span();
-    let entry = match random.between(0, 3) {
+    let entry = match random.between(0, 4) {
         0 => Entry::Window(span - 30, span + 30, random.between(0, 1)),
         1 => {
             // The end is one minute too far, or the cease is too early besides.
@@ -567,6 +582,7 @@ fn after_span(random: &mut Random, target: Target) -> Vec<u8> {
             Entry::Instruction(issue, cease)
         }
         2 => Entry::Default(span + random.pick(&[0, 0, 1]), 1, 1),
+        3 => Entry::Revision(span + random.pick(&[0, 0, 1]), random.between(1, 255), 0),
         _ => Entry::Reading(span + random.pick(&[0, 0, 1]), 0),
     };
     disturbed(random, &plan, 1, entry)
@@ -634,6 +650,58 @@ fn read_twice(random: &mut Random, target: Target) -> Vec<u8> {
     bytes(&plan.entries(random))
 }
 
+/// Behind a reading that was revised, one that is not above it, one that just
+/// is, or a plain one.
+fn revised_late(random: &mut Random, target: Target) -> Vec<u8> {
+    let mut plan = busy_plan(random, target);
+    plan.revised = random.pick(&[1, 2]);
+    let mut entries = plan.entries(random);
+    let revisions: Vec<(i64, i64)> = entries
+        .iter()
+        .filter_map(|entry| match entry {
+            Entry::Revision(minute, number, _) => Some((*minute, *number)),
+            _ => None,
+        })
+        .collect();
+    if !revisions.is_empty() {
+        let (minute, number) = random.pick(&revisions);
+        let below = random.between(1, number);
+        let last = entries.len() - 1;
+        let late = match random.between(0, 5) {
+            0 => Entry::Reading(minute, 7),
+            1 => Entry::Revision(minute, (number + 1).min(255), 7),
+            2 => Entry::Revision(minute, below, 7),
+            _ => Entry::Revision(minute, number, 7),
+        };
+        entries.insert(last, late);
+    }
+    bytes(&entries)
+}
+
+/// Minutes that are read and then revised as often as can be, once more now
+/// and then: such a file can be longer than any without revisions.
+fn revised_often(random: &mut Random, target: Target) -> Vec<u8> {
+    let plan = small_plan(random, target);
+    let mut entries = plan.entries(random);
+    let mut often = Vec::new();
+    let known = |minute: &i64| plan.readings.iter().any(|reading| reading.0 == *minute);
+    let most = random.pick(&[1, 2, 70]);
+    for minute in (0..plan.contract.span())
+        .filter(|minute| !known(minute))
+        .take(most)
+    {
+        often.push(Entry::Reading(minute, minute));
+        often.extend((1..=255).map(|number| Entry::Revision(minute, number, number - minute)));
+    }
+    if random.once_in(3) && !often.is_empty() {
+        let again = random.between(0, often.len() as i64 - 1) as usize;
+        often.push(often[again].clone());
+    }
+    let last = entries.len() - 1;
+    entries.splice(last..last, often);
+    bytes(&entries)
+}
+
 /// Tables that are just full, and one more in them.
 fn full_tables(random: &mut Random, target: Target) -> Vec<u8> {
     let days = random.between(3, target.days.max(3));
@@ -648,6 +716,7 @@ fn full_tables(random: &mut Random, target: Target) -> Vec<u8> {
         instructions: Vec::new(),
         defaults: Vec::new(),
         readings: Vec::new(),
+        revised: random.pick(&[0, 0, 3]),
     };
     let over = random.between(0, 4);
     let windows = random.pick(&[3, 127, 128]) + i64::from(over == 1);
@@ -729,7 +798,7 @@ fn strange_byte(random: &mut Random, target: Target) -> Vec<u8> {
     let plan = small_plan(random, target);
     let any = random.between(0, 255) as u8;
     // Neighbours of command bytes and their small letters are likely slips.
-    let byte = random.pick(&[0, 0xFF, b'B', b'E', b'L', b'c', b'm', b'z', any]);
+    let byte = random.pick(&[0, 0xFF, b'B', b'E', b'L', b'Q', b'S', b'c', b'm', b'r', any]);
     disturbed(random, &plan, 0, Entry::Raw(vec![byte]))
 }
 
@@ -778,7 +847,7 @@ fn soup(random: &mut Random, _: Target) -> Vec<u8> {
     }
     for _ in 0..length {
         let any = random.between(0, 255) as u8;
-        let command = random.pick(b"CWIDMZ");
+        let command = random.pick(b"CWIDMRZ");
         file.push(random.pick(&[0, any, command, command]));
     }
     file
@@ -790,11 +859,12 @@ fn careless(random: &mut Random, _: Target) -> Vec<u8> {
     for _ in 0..random.between(1, 12) {
         let start = 30 * random.between(0, 48);
         let minute = random.pick(&[0, 3, 29, 30, 60, 61, 1_439, 1_440]);
-        entries.push(match random.between(0, 9) {
+        entries.push(match random.between(0, 11) {
             0..=2 => Entry::Window(start, start + 30 * random.between(0, 3), 0),
             3..=4 => Entry::Instruction(minute, minute + random.between(0, 300)),
             5..=6 => Entry::Default(minute, random.between(1, 4), random.between(1, 3)),
             7..=8 => Entry::Reading(minute, random.between(-9, 9)),
+            9..=10 => Entry::Revision(minute, random.between(1, 3), random.between(-9, 9)),
             _ => any_entry(random),
         });
     }

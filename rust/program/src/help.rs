@@ -20,7 +20,8 @@ means is in docs/COURSE.md.",
         name: "write",
         words: "[FILE]",
         about: "a unit file entered and written again, in the writer's order",
-        help: "The book may be open, empty or closed: whether it can be settled is not asked. A
+        help: "The book may be open, empty or closed: whether it can be settled is not asked. Of
+each minute the reading that stands is written, with its revision's number. A
 refused file has its R row on standard error, no bytes, and exit status 1.",
         run: write::run,
     },

@@ -158,6 +158,12 @@ fn list_explains_a_refusal() {
     // Options may stand behind files.
     let words = ["list", &example("refusal-20"), "--explain"];
     assert_eq!(stor(&words, b""), done(instruction));
+    let revision = "R 27 40\n\
+                    # a revision of a minute that already has one of this number or a greater\n\
+                    # revision minute 5, number 9, kw 0\n\
+                    # where to look: the numbers of earlier revisions\n";
+    let words = ["list", "--explain", &example("revision-equal-27")];
+    assert_eq!(stor(&words, b""), done(revision));
     // No command is refused where the month cannot be settled.
     let open = "R 24 0\n# the file was not closed\n";
     assert_eq!(stor(&["list", "--explain"], b""), done(open));
@@ -207,6 +213,16 @@ fn write_puts_a_file_into_the_writers_order() {
 }
 
 #[test]
+fn write_keeps_revisions() {
+    let written = stor(&["write", &example("corrected-month")], b"");
+    // The reading that was put right is a byte longer than a plain one.
+    assert_eq!(written.out.len(), APPENDIX_2.len() + 1);
+    assert_eq!(stor(&["list"], &written.out), done(APPENDIX_2_ROWS));
+    let shown = stor(&["show"], &written.out);
+    assert!(shown.text().ends_with("revision 90 1 3000\nclose\n"));
+}
+
+#[test]
 fn write_takes_open_and_empty_books() {
     let open = &APPENDIX_2[..APPENDIX_2.len() - 1];
     assert_eq!(stor(&["write"], open), done(open));
@@ -249,6 +265,9 @@ fn pack_turns_text_into_bytes() {
 fn pack_names_a_wrong_line() {
     let wrong = stor(&["pack"], b"close\nopen\n");
     assert_eq!(wrong, failed("stor: line 2: no command open\n"));
+    let number = stor(&["pack"], b"revision 90 256 3000\n");
+    let said = "stor: line 1: number 256 does not fit its bytes, which hold 0 to 255\n";
+    assert_eq!(number, failed(said));
     let bytes = stor(&["pack"], b"\xFF");
     assert_eq!(bytes, failed("stor: the text is not UTF-8\n"));
 }
@@ -257,6 +276,8 @@ fn pack_names_a_wrong_line() {
 fn show_turns_bytes_into_text() {
     let shown = stor(&["show"], b"W\0\0\0\x1E\0Z");
     assert_eq!(shown, done("window 0 30 accepted\nclose\n"));
+    let shown = stor(&["show"], b"R\0\x5A\x01\0\0\x0B\xB8");
+    assert_eq!(shown, done("revision 90 1 3000\n"));
     let shown = stor(&["show"], APPENDIX_2);
     assert_eq!(stor(&["pack"], &shown.out), done(APPENDIX_2));
 }

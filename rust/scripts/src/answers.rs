@@ -1,4 +1,4 @@
-//! What entering answers, and cells of meter memory.
+//! What entering answers, and cells of meter memory with their revisions.
 
 use crate::held::Held;
 use crate::line::Line;
@@ -18,11 +18,12 @@ fn summary(held: &Held) -> String {
     format!("{agreed} {windows} {instructions} {defaults} {closed}")
 }
 
-pub fn print_cell(line: &Line, kw: i32) {
+/// A minute's cell, then its revision byte.
+pub fn print_minute(line: &Line, kw: i32, revision: u8) {
     let cell = match kw {
         NO_READING => "marked".to_string(),
         ..0 => "negative".to_string(),
         _ => kw.to_string(),
     };
-    println!("{}: {cell}", line.text);
+    println!("{}: {cell} / {revision}", line.text);
 }

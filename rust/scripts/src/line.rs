@@ -1,6 +1,6 @@
 //! A line of a script: a letter and numbers, one space apart.
 
-use second::bytes::{Command, Contract, DefaultEntry, Instruction, Reading, Window};
+use second::bytes::{Command, Contract, DefaultEntry, Instruction, Reading, Revision, Window};
 use std::str::FromStr;
 
 pub struct Line<'a> {
@@ -56,6 +56,11 @@ impl<'a> Line<'a> {
         Reading { minute, kw }
     }
 
+    fn revision(&self) -> Revision {
+        let [minute, number, kw] = self.numbers(0);
+        Revision { minute, number, kw }
+    }
+
     /// The command of the unit file that a line gives, if it gives one.
     pub fn command(&self) -> Option<Command> {
         match self.letter {
@@ -64,6 +69,7 @@ impl<'a> Line<'a> {
             "I" => Some(Command::Instruction(self.instruction(0))),
             "D" => Some(Command::Default(self.default(0))),
             "M" => Some(Command::Reading(self.reading())),
+            "V" => Some(Command::Revision(self.revision())),
             "Z" => Some(Command::Close),
             _ => None,
         }

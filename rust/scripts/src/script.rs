@@ -1,24 +1,30 @@
 //! The run of a script, whose letters `crates/test_script/src/main.rt` lists.
 
-use crate::answers::{print_cell, print_entry};
+use crate::answers::{print_entry, print_minute};
 use crate::held::Held;
 use crate::line::Line;
 use second::book::{self, Book};
 use second::bytes::Command;
-use second::rules::{LISTER_LINES, NO_READING};
+use second::memory::Memory;
+use second::rules::LISTER_LINES;
 use second::switches::Switch;
 use crate::statements::print_settlement;
 
 /// The most minutes that any script lends.
 const CELLS: usize = 44640;
 
-/// What calls go by and leave behind. Of the meter memory the first cells are
-/// lent; others write any cell of it.
+/// What revision memory holds after a restart: to mean anything it has to be
+/// written first.
+const UNWRITTEN: u8 = 77;
+
+/// What calls go by and leave behind. Of the memory the first cells and the
+/// first revision bytes are lent; others write any of them.
 struct State {
     held: Held,
     kept: Held,
-    meter: Vec<i32>,
+    memory: Memory,
     cells: usize,
+    revisions: usize,
     records: usize,
     quiet: bool,
     switch: Switch,
@@ -30,8 +36,9 @@ impl State {
         State {
             held: empty.clone(),
             kept: empty,
-            meter: vec![NO_READING; CELLS],
+            memory: Memory::of_minutes(CELLS),
             cells: 0,
+            revisions: 0,
             records: 0,
             quiet: false,
             switch,
@@ -45,41 +52,71 @@ impl State {
             book::refused_by_input(command, self.switch)?;
             return Err(11);
         };
-        let lent = &mut self.meter[..self.cells];
-        let answer = book::enter_any(&mut book, lent, command, self.switch);
+        let mut lent = self.lent();
+        let answer = book::enter_any(&mut book, &mut lent, command, self.switch);
+        self.memory.meter[..self.cells].copy_from_slice(&lent.meter);
+        self.memory.revisions[..self.revisions].copy_from_slice(&lent.revisions);
         self.held = Held::of(&book);
         answer
     }
 
-    /// The empty book, with meter memory of so many cells that all hold a kW.
+    /// What calls are lent of the memory.
+    fn lent(&self) -> Memory {
+        Memory {
+            meter: self.memory.meter[..self.cells].to_vec(),
+            revisions: self.memory.revisions[..self.revisions].to_vec(),
+        }
+    }
+
+    /// Lends so many cells, and as many revision bytes.
+    fn lend(&mut self, minutes: usize) {
+        self.cells = minutes;
+        self.revisions = minutes;
+    }
+
+    /// The empty book, with memory of so many minutes that all hold a kW.
     fn restart(&mut self, line: &Line) {
         self.held = Held::of(&Book::default());
-        self.cells = line.number(0);
-        self.meter.fill(line.number(1));
+        self.lend(line.number(0));
+        self.memory.meter.fill(line.number(1));
+        self.memory.revisions.fill(UNWRITTEN);
         if !self.quiet {
             println!("{}", line.text);
         }
     }
 
     fn put_cells(&mut self, line: &Line) {
-        let (from, to): (usize, usize) = (line.number(0), line.number(1));
-        for minute in (from..to).step_by(line.number(2)) {
-            self.meter[minute] = line.number(3);
+        for minute in minutes(line) {
+            self.memory.meter[minute] = line.number(3);
         }
     }
 
+    fn put_revisions(&mut self, line: &Line) {
+        for minute in minutes(line) {
+            self.memory.revisions[minute] = line.number(3);
+        }
+    }
+
+    fn print_minute(&self, line: &Line) {
+        let minute: usize = line.number(0);
+        let memory = &self.memory;
+        print_minute(line, memory.meter[minute], memory.revisions[minute]);
+    }
+
     fn settle(&self, step: usize, records: usize) {
-        let lent = &self.meter[..self.cells];
-        print_settlement(self.held.book(), lent, step, records, self.switch);
+        let lent = self.lent();
+        print_settlement(self.held.book(), &lent, step, records, self.switch);
     }
 
     /// A line that is neither a heading nor a command.
     fn run_line(&mut self, line: &Line) {
         match line.letter {
             "e" => self.restart(line),
-            "l" => self.cells = line.number(0),
+            "l" => self.lend(line.number(0)),
+            "t" => self.revisions = line.number(0),
             "m" => self.put_cells(line),
-            "g" => print_cell(line, self.meter[line.number::<usize>(0)]),
+            "v" => self.put_revisions(line),
+            "g" => self.print_minute(line),
             "b" | "w" | "i" | "d" => self.held.change(line),
             "k" => self.kept = self.held.clone(),
             "r" => self.held = self.kept.clone(),
@@ -90,6 +127,12 @@ impl State {
             _ => panic!("{}: no such letter", line.text),
         }
     }
+}
+
+/// The minutes that others write: from one on, by steps, before another.
+fn minutes(line: &Line) -> impl Iterator<Item = usize> {
+    let (from, to): (usize, usize) = (line.number(0), line.number(1));
+    (from..to).step_by(line.number(2))
 }
 
 pub fn run(script: &str, switch: Switch) {

@@ -1,6 +1,7 @@
 //! The rows of settlements.
 
 use second::book::Book;
+use second::memory::Memory;
 use second::rows::statement_rows;
 use second::settle::{self, Statement};
 use second::switches::Switch;
@@ -12,14 +13,14 @@ use second::switches::Switch;
 /// after" the lines "keep their contents".
 pub fn print_settlement(
     book: Option<Book>,
-    meter: &[i32],
+    memory: &Memory,
     step: usize,
     records: usize,
     switch: Switch,
 ) {
     let answer = book
         .ok_or(11)
-        .and_then(|book| settle::settle_any(&book, meter, records, switch));
+        .and_then(|book| settle::settle_any(&book, memory, records, switch));
     let lines = match answer {
         Err(number) => {
             println!("R {number}");

@@ -1,8 +1,9 @@
 //! The book: which commands it takes, and what it turns down under which
-//! number. The tests stand in the order of the numbers, so the first that
-//! holds is the lowest.
+//! number. The tests stand in the order of the refusals, so the first that
+//! holds is given.
 
-use crate::bytes::{self, Command, Contract, DefaultEntry, Instruction, Read, Window};
+use crate::bytes::{self, Command, Contract, DefaultEntry, Instruction, Read, Revision, Window};
+use crate::memory::Memory;
 use crate::rules::{self, *};
 use crate::switches::{Switch, Wrong};
 
@@ -22,29 +23,24 @@ impl Book {
     }
 }
 
-/// A cell outside the reading range holds no reading.
-pub fn has_reading(meter: &[i32], minute: i64) -> bool {
-    READING.contains(&i64::from(meter[minute as usize]))
-}
-
 /// Enters a command into a book that commands alone have made, as those of a
 /// file are: 11 cannot hold of such a book.
 pub fn enter(
     book: &mut Book,
-    meter: &mut [i32],
+    memory: &mut Memory,
     command: &Command,
     switch: Switch,
 ) -> Result<(), u8> {
     refused_by_input(command, switch)?;
-    refused_by_state(book, meter, command, switch)?;
-    take(book, meter, command);
+    refused_by_state(book, memory, command, switch)?;
+    take(book, memory, command, switch);
     Ok(())
 }
 
 /// Enters a command into any book, also one that somebody made up.
 pub fn enter_any(
     book: &mut Book,
-    meter: &mut [i32],
+    memory: &mut Memory,
     command: &Command,
     switch: Switch,
 ) -> Result<(), u8> {
@@ -52,8 +48,8 @@ pub fn enter_any(
     if !sound(book, switch) {
         return Err(11);
     }
-    refused_by_state(book, meter, command, switch)?;
-    take(book, meter, command);
+    refused_by_state(book, memory, command, switch)?;
+    take(book, memory, command, switch);
     Ok(())
 }
 
@@ -108,27 +104,31 @@ fn in_range(command: &Command) -> bool {
                 && DEFAULT_REACH.contains(&d.reach)
         }
         Command::Reading(r) => MINUTE.contains(&r.minute) && READING.contains(&r.kw),
+        Command::Revision(v) => {
+            MINUTE.contains(&v.minute) && REVISION.contains(&v.number) && READING.contains(&v.kw)
+        }
         Command::Close => true,
     }
 }
 
-/// Refusals 12 to 23, which look at the book and the meter memory too.
+/// Refusals 12 to 23, and 27 before the last of them, which look at the book
+/// and the lent memory too.
 fn refused_by_state(
     book: &Book,
-    meter: &[i32],
+    memory: &Memory,
     command: &Command,
     switch: Switch,
 ) -> Result<(), u8> {
     refuse_if(book.closed, 12)?;
     if let Command::Contract(new) = command {
         refuse_if(book.contract.is_some(), 14)?;
-        return refuse_if((meter.len() as i64) < rules::span(new), 15);
+        return refuse_if(memory.room(switch) < rules::span(new), 15);
     }
     let Some(contract) = &book.contract else {
         return Err(13);
     };
     let span = book.span();
-    refuse_if((meter.len() as i64) < span, 15)?;
+    refuse_if(memory.room(switch) < span, 15)?;
     match command {
         Command::Contract(_) => unreachable!("answered above"),
         Command::Window(w) => {
@@ -150,7 +150,11 @@ fn refused_by_state(
         }
         Command::Reading(r) => {
             refuse_if(r.minute >= span, 16)?;
-            refuse_if(already_read(meter, r.minute, switch), 22)
+            refuse_if(already_read(memory, r.minute, switch), 22)
+        }
+        Command::Revision(v) => {
+            refuse_if(v.minute >= span, 16)?;
+            refuse_if(superseded(memory, v, switch), 27)
         }
         Command::Close => Ok(()),
     }
@@ -173,11 +177,20 @@ fn recovered(book: &Book, contract: &Contract, switch: Switch) -> i64 {
     }
 }
 
-fn already_read(meter: &[i32], minute: i64, switch: Switch) -> bool {
+fn already_read(memory: &Memory, minute: i64, switch: Switch) -> bool {
     if switch.is(Wrong::OnlyMarkEmpty) {
-        return meter[minute as usize] != NO_READING;
+        return memory.meter[minute as usize] != NO_READING;
     }
-    has_reading(meter, minute)
+    memory.has_reading(minute)
+}
+
+/// Whether the minute holds a reading of this number or a greater one.
+fn superseded(memory: &Memory, revision: &Revision, switch: Switch) -> bool {
+    let held = memory.revision(revision.minute);
+    let above =
+        revision.number > held || revision.number == held && switch.is(Wrong::EqualRevisionTaken);
+    let holds = memory.has_reading(revision.minute) || switch.is(Wrong::EmptyMinuteHolds);
+    holds && !above
 }
 
 /// In a window entered, whether it is live or not.
@@ -185,27 +198,36 @@ fn in_some_window(book: &Book, minute: i64, switch: Switch) -> bool {
     book.windows.iter().any(|w| holds(w, minute, switch))
 }
 
-fn take(book: &mut Book, meter: &mut [i32], command: &Command) {
+fn take(book: &mut Book, memory: &mut Memory, command: &Command, switch: Switch) {
     match *command {
         Command::Contract(c) => {
-            meter[..rules::span(&c) as usize].fill(NO_READING);
+            memory.clear(rules::span(&c));
             book.contract = Some(c);
         }
         Command::Window(w) => book.windows.push(w),
         Command::Instruction(i) => book.instructions.push(i),
         Command::Default(d) => book.defaults.push(d),
-        Command::Reading(r) => meter[r.minute as usize] = r.kw as i32,
+        Command::Reading(r) => {
+            memory.put_kw(r.minute, r.kw);
+            if !switch.is(Wrong::PlainKeepsRevision) {
+                memory.put_revision(r.minute, 0);
+            }
+        }
+        Command::Revision(v) => {
+            memory.put_kw(v.minute, v.kw);
+            memory.put_revision(v.minute, v.number);
+        }
         Command::Close => book.closed = true,
     }
 }
 
 /// Whether some list of commands leaves this book (refusal 11 if not). The
 /// windows can always have come before the defaults, so the tables' order
-/// among each other does not matter. Meter memory of the longest span takes
-/// every contract, so the book is built again in such memory.
+/// among each other does not matter. Memory of the longest span takes every
+/// contract, so the book is built again in such memory.
 pub fn sound(book: &Book, switch: Switch) -> bool {
     let mut again = Book::default();
-    let mut meter = vec![NO_READING; (*DAYS.end() * DAY) as usize];
+    let mut memory = Memory::of_minutes((*DAYS.end() * DAY) as usize);
     let mut commands = Vec::new();
     commands.extend(book.contract.map(Command::Contract));
     commands.extend(book.windows.iter().copied().map(Command::Window));
@@ -214,7 +236,7 @@ pub fn sound(book: &Book, switch: Switch) -> bool {
     commands.extend(book.closed.then_some(Command::Close));
     commands
         .iter()
-        .all(|command| enter(&mut again, &mut meter, command, switch).is_ok())
+        .all(|command| enter(&mut again, &mut memory, command, switch).is_ok())
 }
 
 /// What became of a file's command: where it starts, and its refusal if any.
@@ -229,7 +251,7 @@ pub struct Entered {
 pub fn enter_file(
     file: &[u8],
     book: &mut Book,
-    meter: &mut [i32],
+    memory: &mut Memory,
     stop: bool,
     switch: Switch,
 ) -> Vec<Entered> {
@@ -239,7 +261,7 @@ pub fn enter_file(
         let (answer, next) = match bytes::read(file, offset, switch) {
             Read::End => return entered,
             Read::Refused(number) => (Err(number), None),
-            Read::Command(command, next) => (enter(book, meter, &command, switch), Some(next)),
+            Read::Command(command, next) => (enter(book, memory, &command, switch), Some(next)),
         };
         entered.push(Entered { offset, answer });
         match next {

@@ -48,6 +48,14 @@ pub struct Reading {
     pub kw: i64,
 }
 
+/// A reading that supersedes those of lower numbers.
+#[derive(Clone, Copy, PartialEq, Eq, Debug)]
+pub struct Revision {
+    pub minute: i64,
+    pub number: i64,
+    pub kw: i64,
+}
+
 /// A command as its bytes say it; the fields may be out of their ranges.
 #[derive(Clone, Copy, PartialEq, Eq, Debug)]
 pub enum Command {
@@ -56,6 +64,7 @@ pub enum Command {
     Instruction(Instruction),
     Default(DefaultEntry),
     Reading(Reading),
+    Revision(Revision),
     Close,
 }
 
@@ -85,11 +94,23 @@ pub const READING: Layout = Layout {
     byte: 0x4D,
     widths: &[2, 4],
 };
+pub const REVISION: Layout = Layout {
+    byte: 0x52,
+    widths: &[2, 1, 4],
+};
 pub const CLOSE: Layout = Layout {
     byte: 0x5A,
     widths: &[],
 };
-pub const TABLE: [Layout; 6] = [CONTRACT, WINDOW, INSTRUCTION, DEFAULT, READING, CLOSE];
+pub const TABLE: [Layout; 7] = [
+    CONTRACT,
+    WINDOW,
+    INSTRUCTION,
+    DEFAULT,
+    READING,
+    REVISION,
+    CLOSE,
+];
 
 impl Layout {
     /// The whole command's bytes.
@@ -184,6 +205,11 @@ fn command(byte: u8, operands: &[i64]) -> Command {
             minute,
             kw: signed(kw),
         }),
+        (0x52, &[minute, number, kw]) => Command::Revision(Revision {
+            minute,
+            number,
+            kw: signed(kw),
+        }),
         (0x5A, &[]) => Command::Close,
         _ => unreachable!("the table gives each command its operands"),
     }
@@ -212,6 +238,7 @@ pub fn bytes_of(command: &Command, switch: Switch) -> Vec<u8> {
         Command::Instruction(i) => (INSTRUCTION, vec![i.issue, i.cease]),
         Command::Default(d) => (DEFAULT, vec![d.minute, d.kind, d.reach]),
         Command::Reading(r) => (READING, vec![r.minute, r.kw]),
+        Command::Revision(v) => (REVISION, vec![v.minute, v.number, v.kw]),
         Command::Close => (CLOSE, vec![]),
     };
     let mut bytes = vec![layout.byte];

@@ -3,6 +3,7 @@
 
 pub mod book;
 pub mod bytes;
+pub mod memory;
 pub mod rows;
 pub mod rules;
 pub mod settle;

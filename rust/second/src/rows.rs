@@ -1,12 +1,12 @@
 //! Rows as the lister prints them, and the lister itself.
 
 use crate::book::{self, Book};
-use crate::rules::NO_READING;
+use crate::memory::Memory;
 use crate::settle::{self, Line, Rate, Stage, Statement};
 use crate::switches::Switch;
 use std::fmt::Write;
 
-/// The memory that a program lends.
+/// The memory that a program lends: minutes of kW and of revisions, and lines.
 #[derive(Clone, Copy, PartialEq, Eq, Debug)]
 pub struct Room {
     pub minutes: usize,
@@ -58,32 +58,38 @@ pub fn refusal_row(number: u8, offset: usize) -> String {
 /// What the lister prints for a file: it ends at the first refusal.
 pub fn list(file: &[u8], room: Room, switch: Switch) -> String {
     let mut book = Book::default();
-    let mut meter = vec![NO_READING; room.minutes];
-    let entered = book::enter_file(file, &mut book, &mut meter, true, switch);
+    let mut memory = Memory::of_minutes(room.minutes);
+    let entered = book::enter_file(file, &mut book, &mut memory, true, switch);
     if let Some(last) = entered.last() {
         if let Err(number) = last.answer {
             return refusal_row(number, last.offset);
         }
     }
-    settlement_rows(file, &book, &meter, room, switch)
+    settlement_rows(file, &book, &memory, room, switch)
 }
 
 /// What became of each command of a file, and then the settlement.
 pub fn answers(file: &[u8], room: Room, switch: Switch) -> String {
     let mut book = Book::default();
-    let mut meter = vec![NO_READING; room.minutes];
+    let mut memory = Memory::of_minutes(room.minutes);
     let mut rows = String::new();
-    for entered in book::enter_file(file, &mut book, &mut meter, false, switch) {
+    for entered in book::enter_file(file, &mut book, &mut memory, false, switch) {
         match entered.answer {
             Ok(()) => rows.push_str("taken\n"),
             Err(number) => writeln!(rows, "{number}").expect("text takes every row"),
         }
     }
-    rows + &settlement_rows(file, &book, &meter, room, switch)
+    rows + &settlement_rows(file, &book, &memory, room, switch)
 }
 
-fn settlement_rows(file: &[u8], book: &Book, meter: &[i32], room: Room, switch: Switch) -> String {
-    match settle::settle(book, meter, room.lines, switch) {
+fn settlement_rows(
+    file: &[u8],
+    book: &Book,
+    memory: &Memory,
+    room: Room,
+    switch: Switch,
+) -> String {
+    match settle::settle(book, memory, room.lines, switch) {
         Ok(statement) => statement_rows(&statement),
         Err(number) => refusal_row(number, file.len()),
     }

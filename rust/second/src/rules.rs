@@ -14,6 +14,8 @@ pub const RATE: RangeInclusive<i64> = 0..=1_000_000;
 pub const MINUTE: RangeInclusive<i64> = 0..=44_640;
 pub const ISSUE: RangeInclusive<i64> = 3..=44_640;
 pub const READING: RangeInclusive<i64> = -500_000..=500_000;
+/// A plain reading is revision 0.
+pub const REVISION: RangeInclusive<i64> = 1..=255;
 /// A kind, a service, or accepted and rejected.
 pub const EITHER: RangeInclusive<i64> = 0..=1;
 pub const DEFAULT_KIND: RangeInclusive<i64> = 1..=4;

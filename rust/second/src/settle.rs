@@ -3,6 +3,7 @@
 
 use crate::book::{self, Book};
 use crate::bytes::{Contract, DefaultEntry, Instruction, Window};
+use crate::memory::Memory;
 use crate::rules::{self, *};
 use crate::switches::{Switch, Wrong};
 
@@ -52,11 +53,11 @@ pub struct Statement {
 /// Settles a book that commands alone have made, with room for so many lines.
 pub fn settle(
     book: &Book,
-    meter: &[i32],
+    memory: &Memory,
     line_records: usize,
     switch: Switch,
 ) -> Result<Statement, u8> {
-    if (meter.len() as i64) < book.span() {
+    if memory.room(switch) < book.span() {
         return Err(15);
     }
     let contract = match &book.contract {
@@ -66,12 +67,12 @@ pub fn settle(
     let all_read = book.instructions.iter().all(|instruction| {
         needed_minutes(contract, instruction, switch)
             .into_iter()
-            .all(|minute| book::has_reading(meter, minute))
+            .all(|minute| memory.has_reading(minute))
     });
     if !all_read {
         return Err(25);
     }
-    let lines = lines(book, contract, meter, switch);
+    let lines = lines(book, contract, &memory.meter, switch);
     if lines.len() > line_records {
         return Err(26);
     }
@@ -91,14 +92,14 @@ pub fn settle(
 /// Settles any book, also one that somebody made up.
 pub fn settle_any(
     book: &Book,
-    meter: &[i32],
+    memory: &Memory,
     line_records: usize,
     switch: Switch,
 ) -> Result<Statement, u8> {
     if !book::sound(book, switch) {
         return Err(11);
     }
-    settle(book, meter, line_records, switch)
+    settle(book, memory, line_records, switch)
 }
 
 /// The stage of a minute under an instruction; none if it is not active.

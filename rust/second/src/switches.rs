@@ -41,10 +41,20 @@ pub enum Wrong {
     RecoveryFromZero,
     /// Every cell but a marked one has a reading when another is entered.
     OnlyMarkEmpty,
+    /// A revision is taken where one of its number is held.
+    EqualRevisionTaken,
+    /// A minute's byte counts as its revision without a reading too.
+    EmptyMinuteHolds,
+    /// A plain reading leaves its minute's revision as it was.
+    PlainKeepsRevision,
+    /// How many minutes the memory for revisions holds is not asked.
+    RevisionRoomUnasked,
+    /// A revised reading is written as a plain one.
+    RevisedWrittenPlain,
 }
 
 /// The names by which the command line knows the switches.
-pub const SWITCHES: [(&str, Wrong); 19] = [
+pub const SWITCHES: [(&str, Wrong); 24] = [
     ("cap-by-minute", Wrong::CapByMinute),
     ("base-rounded", Wrong::BaseRounded),
     ("whole-ramp", Wrong::WholeRamp),
@@ -67,6 +77,11 @@ pub const SWITCHES: [(&str, Wrong); 19] = [
     ("touching-refused", Wrong::TouchingRefused),
     ("recovery-from-zero", Wrong::RecoveryFromZero),
     ("only-mark-empty", Wrong::OnlyMarkEmpty),
+    ("equal-revision-taken", Wrong::EqualRevisionTaken),
+    ("empty-minute-holds", Wrong::EmptyMinuteHolds),
+    ("plain-keeps-revision", Wrong::PlainKeepsRevision),
+    ("revision-room-unasked", Wrong::RevisionRoomUnasked),
+    ("revised-written-plain", Wrong::RevisedWrittenPlain),
 ];
 
 /// The rules to go by: the right ones, or all but one of them.

@@ -1,14 +1,14 @@
-//! The writer: a book and its readings as a unit file.
+//! The writer: a book and its readings, with their revisions, as a unit file.
 
 use crate::book::{self, Book};
-use crate::bytes::{bytes_of, Command, Reading};
-use crate::rules::NO_READING;
-use crate::switches::Switch;
+use crate::bytes::{bytes_of, Command, Reading, Revision};
+use crate::memory::Memory;
+use crate::switches::{Switch, Wrong};
 
 /// The file of a book that commands alone have made, or 15, or 26 where it
 /// does not fit into `room` bytes.
-pub fn write(book: &Book, meter: &[i32], room: usize, switch: Switch) -> Result<Vec<u8>, u8> {
-    if (meter.len() as i64) < book.span() {
+pub fn write(book: &Book, memory: &Memory, room: usize, switch: Switch) -> Result<Vec<u8>, u8> {
+    if memory.room(switch) < book.span() {
         return Err(15);
     }
     let mut commands = Vec::new();
@@ -17,9 +17,8 @@ pub fn write(book: &Book, meter: &[i32], room: usize, switch: Switch) -> Result<
     commands.extend(book.instructions.iter().copied().map(Command::Instruction));
     commands.extend(book.defaults.iter().copied().map(Command::Default));
     for minute in 0..book.span() {
-        if book::has_reading(meter, minute) {
-            let kw = i64::from(meter[minute as usize]);
-            commands.push(Command::Reading(Reading { minute, kw }));
+        if memory.has_reading(minute) {
+            commands.push(reading(memory, minute, switch));
         }
     }
     commands.extend(book.closed.then_some(Command::Close));
@@ -33,21 +32,32 @@ pub fn write(book: &Book, meter: &[i32], room: usize, switch: Switch) -> Result<
     Ok(file)
 }
 
+/// A minute's reading by the command that gives it its revision too.
+fn reading(memory: &Memory, minute: i64, switch: Switch) -> Command {
+    let kw = memory.kw(minute);
+    match memory.revision(minute) {
+        number if number > 0 && !switch.is(Wrong::RevisedWrittenPlain) => {
+            Command::Revision(Revision { minute, number, kw })
+        }
+        _ => Command::Reading(Reading { minute, kw }),
+    }
+}
+
 /// Writes any book, also one that somebody made up.
-pub fn write_any(book: &Book, meter: &[i32], room: usize, switch: Switch) -> Result<Vec<u8>, u8> {
+pub fn write_any(book: &Book, memory: &Memory, room: usize, switch: Switch) -> Result<Vec<u8>, u8> {
     if !book::sound(book, switch) {
         return Err(11);
     }
-    write(book, meter, room, switch)
+    write(book, memory, room, switch)
 }
 
 /// A file's book as a file again; nothing where a command is refused.
 pub fn written(file: &[u8], minutes: usize, switch: Switch) -> Vec<u8> {
     let mut book = Book::default();
-    let mut meter = vec![NO_READING; minutes];
-    let entered = book::enter_file(file, &mut book, &mut meter, true, switch);
+    let mut memory = Memory::of_minutes(minutes);
+    let entered = book::enter_file(file, &mut book, &mut memory, true, switch);
     match entered.last().map_or(Ok(()), |last| last.answer) {
-        Ok(()) => write(&book, &meter, usize::MAX, switch).expect("nothing to turn down"),
+        Ok(()) => write(&book, &memory, usize::MAX, switch).expect("nothing to turn down"),
         Err(_) => Vec::new(),
     }
 }
@@ -56,8 +66,8 @@ pub fn written(file: &[u8], minutes: usize, switch: Switch) -> Vec<u8> {
 /// file again.
 pub fn rewrite(file: &[u8], minutes: usize, switch: Switch) -> Vec<u8> {
     let mut book = Book::default();
-    let mut meter = vec![NO_READING; minutes];
-    book::enter_file(file, &mut book, &mut meter, false, switch);
+    let mut memory = Memory::of_minutes(minutes);
+    book::enter_file(file, &mut book, &mut memory, false, switch);
     // Commands alone made this book in this memory, and there is room.
-    write(&book, &meter, usize::MAX, switch).expect("nothing to turn down")
+    write(&book, &memory, usize::MAX, switch).expect("nothing to turn down")
 }

@@ -22,7 +22,7 @@
 //! ```
 //!
 //! A month can be given as [`Tables`] too, with its readings in
-//! [`Memory::meter`].
+//! [`Memory::meter`] and their revisions in [`Memory::revisions`].
 
 #![warn(missing_docs)]
 
@@ -38,12 +38,13 @@ mod tests;
 pub use memory::{Memory, Tables};
 pub use statement::{Failure, Line, Rate, Refusal, Stage, Statement, WindowPay};
 
-/// Minutes of metering that every month fits.
+/// Minutes of metering, and of revisions, that every month fits.
 pub const MONTH_MINUTES: usize = 44_640;
 /// Line records that every month fits.
 pub const MONTH_LINES: usize = 1_680;
-/// Bytes that every written month fits.
-pub const MONTH_BYTES: usize = 314_241;
+/// Bytes that every written month fits. A file that is read can be longer: it
+/// may read a minute once and revise it 255 times.
+pub const MONTH_BYTES: usize = 358_881;
 /// The window entries of a statement, used or not.
 pub const WINDOWS: usize = 128;
 /// The numbers of one line record.

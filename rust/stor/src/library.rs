@@ -10,13 +10,22 @@
 //! has no state of its own. Its functions ask nothing more of a caller.
 
 extern "C" {
-    fn stor_enter_file(file: *const u8, file_len: usize, meter: *mut i32, meter_len: usize) -> u64;
+    fn stor_enter_file(
+        file: *const u8,
+        file_len: usize,
+        meter: *mut i32,
+        meter_len: usize,
+        revisions: *mut u8,
+        revisions_len: usize,
+    ) -> u64;
 
     fn stor_settle_file(
         file: *const u8,
         file_len: usize,
         meter: *mut i32,
         meter_len: usize,
+        revisions: *mut u8,
+        revisions_len: usize,
         lines: *mut i64,
         lines_len: usize,
         sums: *mut i64,
@@ -34,6 +43,8 @@ extern "C" {
         defaults_len: usize,
         meter: *const i32,
         meter_len: usize,
+        revisions: *const u8,
+        revisions_len: usize,
         lines: *mut i64,
         lines_len: usize,
         sums: *mut i64,
@@ -51,6 +62,8 @@ extern "C" {
         defaults_len: usize,
         meter: *const i32,
         meter_len: usize,
+        revisions: *const u8,
+        revisions_len: usize,
         file: *mut u8,
         file_len: usize,
     ) -> u64;
@@ -60,19 +73,36 @@ extern "C" {
         file_len: usize,
         meter: *mut i32,
         meter_len: usize,
+        revisions: *mut u8,
+        revisions_len: usize,
         written: *mut u8,
         written_len: usize,
     ) -> u64;
 }
 
 /// The refusal's number, 0 for none, and 256 times the offset.
-pub fn enter_file(file: &[u8], meter: &mut [i32]) -> u64 {
+pub fn enter_file(file: &[u8], meter: &mut [i32], revisions: &mut [u8]) -> u64 {
     // SAFETY: as said at the top.
-    unsafe { stor_enter_file(file.as_ptr(), file.len(), meter.as_mut_ptr(), meter.len()) }
+    unsafe {
+        stor_enter_file(
+            file.as_ptr(),
+            file.len(),
+            meter.as_mut_ptr(),
+            meter.len(),
+            revisions.as_mut_ptr(),
+            revisions.len(),
+        )
+    }
 }
 
 /// The refusal's number, 0 for none, and 256 times the offset.
-pub fn settle_file(file: &[u8], meter: &mut [i32], lines: &mut [i64], sums: &mut [i64]) -> u64 {
+pub fn settle_file(
+    file: &[u8],
+    meter: &mut [i32],
+    revisions: &mut [u8],
+    lines: &mut [i64],
+    sums: &mut [i64],
+) -> u64 {
     // SAFETY: as said at the top.
     unsafe {
         stor_settle_file(
@@ -80,6 +110,8 @@ pub fn settle_file(file: &[u8], meter: &mut [i32], lines: &mut [i64], sums: &mut
             file.len(),
             meter.as_mut_ptr(),
             meter.len(),
+            revisions.as_mut_ptr(),
+            revisions.len(),
             lines.as_mut_ptr(),
             lines.len(),
             sums.as_mut_ptr(),
@@ -89,12 +121,15 @@ pub fn settle_file(file: &[u8], meter: &mut [i32], lines: &mut [i64], sums: &mut
 }
 
 /// The refusal's number, 0 for none.
+// One slice for each of the function's pointers.
+#[allow(clippy::too_many_arguments)]
 pub fn settle_tables(
     contract: &[u32],
     windows: &[u32],
     instructions: &[u32],
     defaults: &[u32],
     meter: &[i32],
+    revisions: &[u8],
     lines: &mut [i64],
     sums: &mut [i64],
 ) -> u8 {
@@ -111,6 +146,8 @@ pub fn settle_tables(
             defaults.len(),
             meter.as_ptr(),
             meter.len(),
+            revisions.as_ptr(),
+            revisions.len(),
             lines.as_mut_ptr(),
             lines.len(),
             sums.as_mut_ptr(),
@@ -126,6 +163,7 @@ pub fn write_tables(
     instructions: &[u32],
     defaults: &[u32],
     meter: &[i32],
+    revisions: &[u8],
     file: &mut [u8],
 ) -> u64 {
     // SAFETY: as said at the top.
@@ -141,6 +179,8 @@ pub fn write_tables(
             defaults.len(),
             meter.as_ptr(),
             meter.len(),
+            revisions.as_ptr(),
+            revisions.len(),
             file.as_mut_ptr(),
             file.len(),
         )
@@ -149,7 +189,7 @@ pub fn write_tables(
 
 /// The refusal's number, 0 for none, and 256 times the offset, or the length
 /// of what was written.
-pub fn write_file(file: &[u8], meter: &mut [i32], written: &mut [u8]) -> u64 {
+pub fn write_file(file: &[u8], meter: &mut [i32], revisions: &mut [u8], written: &mut [u8]) -> u64 {
     // SAFETY: as said at the top.
     unsafe {
         stor_write_file(
@@ -157,6 +197,8 @@ pub fn write_file(file: &[u8], meter: &mut [i32], written: &mut [u8]) -> u64 {
             file.len(),
             meter.as_mut_ptr(),
             meter.len(),
+            revisions.as_mut_ptr(),
+            revisions.len(),
             written.as_mut_ptr(),
             written.len(),
         )

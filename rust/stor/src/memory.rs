@@ -20,9 +20,11 @@ pub struct Tables {
     pub defaults: Vec<u32>,
 }
 
-/// The memory that calls are lent: metering, line records and sums.
+/// The memory that calls are lent: metering, its revisions, line records and
+/// sums.
 pub struct Memory {
     meter: Vec<i32>,
+    revisions: Vec<u8>,
     lines: Vec<i64>,
     sums: [i64; SUMS],
 }
@@ -33,13 +35,22 @@ impl Memory {
         Memory::with_room(MONTH_MINUTES, MONTH_LINES)
     }
 
-    /// Shorter memory is refused under 15 or 26 where it does not do.
+    /// So many minutes of metering and of revisions. Shorter memory is refused
+    /// under 15 or 26 where it does not do.
     pub fn with_room(minutes: usize, line_records: usize) -> Memory {
         Memory {
             meter: vec![NO_READING; minutes],
+            revisions: vec![0; minutes],
             lines: vec![0; LINE_NUMBERS * line_records],
             sums: [0; SUMS],
         }
+    }
+
+    /// The same with another number of minutes of revisions: the shorter of
+    /// the two memories counts for 15.
+    pub fn with_revisions(mut self, minutes: usize) -> Memory {
+        self.revisions.resize(minutes, 0);
+        self
     }
 
     /// The cells as the last call left them: for tables, put the readings
@@ -48,15 +59,29 @@ impl Memory {
         &mut self.meter
     }
 
+    /// The number of the revision by which each minute has its reading, 0 for
+    /// a plain one, as the last call left them; of a minute without a reading
+    /// it means nothing. For tables that are to be written, put them here.
+    pub fn revisions(&mut self) -> &mut [u8] {
+        &mut self.revisions
+    }
+
     /// Enters a unit file's commands up to its end or the first refusal. The
-    /// readings taken are in the meter memory then.
+    /// readings taken and their revisions are in the memory then.
     pub fn enter_file(&mut self, file: &[u8]) -> Result<(), Refusal> {
-        taken(library::enter_file(file, &mut self.meter))
+        let answer = library::enter_file(file, &mut self.meter, &mut self.revisions);
+        taken(answer)
     }
 
     /// Enters and settles a whole unit file.
     pub fn settle_file(&mut self, file: &[u8]) -> Result<Statement, Failure> {
-        let answer = library::settle_file(file, &mut self.meter, &mut self.lines, &mut self.sums);
+        let answer = library::settle_file(
+            file,
+            &mut self.meter,
+            &mut self.revisions,
+            &mut self.lines,
+            &mut self.sums,
+        );
         taken(answer).map_err(Failure::Refused)?;
         self.statement()
     }
@@ -69,6 +94,7 @@ impl Memory {
             &tables.instructions,
             &tables.defaults,
             &self.meter,
+            &self.revisions,
             &mut self.lines,
             &mut self.sums,
         );
@@ -76,7 +102,8 @@ impl Memory {
         self.statement()
     }
 
-    /// A closed book and the readings in the meter memory as a unit file.
+    /// A closed book, and the readings in the meter memory with their revisions,
+    /// as a unit file.
     pub fn write_tables(&self, tables: &Tables) -> Result<Vec<u8>, Refusal> {
         let mut file = vec![0; MONTH_BYTES];
         let answer = library::write_tables(
@@ -85,6 +112,7 @@ impl Memory {
             &tables.instructions,
             &tables.defaults,
             &self.meter,
+            &self.revisions,
             &mut file,
         );
         shortened(file, answer)
@@ -94,7 +122,7 @@ impl Memory {
     /// unit file: the same book in the writer's order.
     pub fn write_file(&mut self, file: &[u8]) -> Result<Vec<u8>, Refusal> {
         let mut written = vec![0; MONTH_BYTES];
-        let answer = library::write_file(file, &mut self.meter, &mut written);
+        let answer = library::write_file(file, &mut self.meter, &mut self.revisions, &mut written);
         shortened(written, answer)
     }
 

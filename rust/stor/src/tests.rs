@@ -7,6 +7,9 @@ const APPENDIX_2_LINES: usize = 6;
 /// Marks lent memory, to see what a call leaves alone.
 const MARK: i64 = -77;
 const BYTE_MARK: u8 = 0xA5;
+/// The last minute that Appendix 2 has a reading of, and its command's place.
+const LAST_READ: usize = 90;
+const LAST_READING: usize = APPENDIX_2.len() - 8;
 
 fn appendix_2_tables() -> Tables {
     Tables {
@@ -16,6 +19,20 @@ fn appendix_2_tables() -> Tables {
         defaults: Vec::new(),
     }
 }
+
+fn revision(minute: usize, number: u8, kw: i32) -> Vec<u8> {
+    let minute = (minute as u16).to_be_bytes();
+    [&[0x52], &minute[..], &[number], &kw.to_be_bytes()].concat()
+}
+
+/// Appendix 2 up to its last reading, of 3,000 kW, and then other bytes in its
+/// place.
+fn with_last(bytes: &[&[u8]]) -> Vec<u8> {
+    [&APPENDIX_2[..LAST_READING], &bytes.concat(), b"Z"].concat()
+}
+
+/// What a plain reading of 0 in that minute is.
+const LAST_AS_0: &[u8] = &[0x4D, 0, LAST_READ as u8, 0, 0, 0, 0];
 
 /// A month's memory with the readings of Appendix 2 in it.
 fn appendix_2_read() -> Memory {
@@ -106,12 +123,57 @@ fn tables_are_settled_like_the_file() {
 fn entering_leaves_the_readings() {
     let mut memory = Memory::of_month();
     memory.meter().fill(1);
+    memory.revisions().fill(9);
     assert_eq!(memory.enter_file(APPENDIX_2), Ok(()));
     let meter = memory.meter();
     // Minute 0 has no reading, minutes after the first day are not the contract's.
     assert_eq!(meter[0], NO_READING);
     assert!(meter[2..6].iter().all(|&kw| kw != NO_READING && kw != 1));
     assert!(meter[1_440..].iter().all(|&kw| kw == 1));
+    let revisions = memory.revisions();
+    assert_eq!(revisions[..1_440], [0; 1_440]);
+    assert!(revisions[1_440..].iter().all(|&number| number == 9));
+}
+
+#[test]
+fn a_corrected_reading_is_settled() {
+    let right = Memory::of_month().settle_file(APPENDIX_2);
+    assert!(right.is_ok());
+    let mut memory = Memory::of_month();
+    assert_ne!(memory.settle_file(&with_last(&[LAST_AS_0])), right);
+    let corrected = with_last(&[LAST_AS_0, &revision(LAST_READ, 1, 3_000)]);
+    assert_eq!(memory.settle_file(&corrected), right);
+    assert_eq!(memory.meter()[LAST_READ], 3_000);
+    assert_eq!(memory.revisions()[LAST_READ], 1);
+    // A minute without a reading takes any revision.
+    let revised = with_last(&[&revision(LAST_READ, 255, 3_000)]);
+    assert_eq!(memory.settle_file(&revised), right);
+    assert_eq!(memory.revisions()[LAST_READ], 255);
+}
+
+#[test]
+fn revisions_are_refused_and_nothing_is_altered() {
+    let nine = revision(LAST_READ, 9, 3_000);
+    for (number, refused) in [
+        (27, revision(LAST_READ, 9, 0)),
+        (27, revision(LAST_READ, 1, 0)),
+        (22, LAST_AS_0.to_vec()),
+        (3, revision(LAST_READ, 0, 0)),
+        (3, revision(LAST_READ, 10, 500_001)),
+        (3, revision(44_641, 10, 0)),
+        (16, revision(1_440, 10, 0)),
+        (2, revision(LAST_READ, 10, 0)[..6].to_vec()),
+    ] {
+        let mut memory = Memory::of_month();
+        let file = [&APPENDIX_2[..LAST_READING], &nine, &refused].concat();
+        let refusal = Refusal {
+            number,
+            offset: (LAST_READING + nine.len()) as u64,
+        };
+        assert_eq!(memory.enter_file(&file), Err(refusal));
+        assert_eq!(memory.meter()[LAST_READ], 3_000);
+        assert_eq!(memory.revisions()[LAST_READ], 9);
+    }
 }
 
 #[test]
@@ -145,8 +207,12 @@ fn short_memory_is_refused() {
     let length = APPENDIX_2.len() as u64;
     let mut few_minutes = Memory::with_room(1_439, MONTH_LINES);
     assert_eq!(few_minutes.settle_file(APPENDIX_2), Err(refused(15, 0)));
+    let mut few_revisions = Memory::of_month().with_revisions(1_439);
+    assert_eq!(few_revisions.settle_file(APPENDIX_2), Err(refused(15, 0)));
     let mut few_lines = Memory::with_room(1_440, APPENDIX_2_LINES - 1);
     assert_eq!(few_lines.settle_file(APPENDIX_2), Err(refused(26, length)));
+    let mut more_revisions = Memory::with_room(1_439, MONTH_LINES).with_revisions(1_440);
+    assert_eq!(more_revisions.settle_file(APPENDIX_2), Err(refused(15, 0)));
     let mut just_enough = Memory::with_room(1_440, APPENDIX_2_LINES);
     assert!(just_enough.settle_file(APPENDIX_2).is_ok());
 }
@@ -172,6 +238,10 @@ fn tables_meet_the_refusals_of_settling() {
     assert_eq!(unread.settle_tables(&tables), Err(refused(25, 0)));
     let mut short = Memory::with_room(1_439, MONTH_LINES);
     assert_eq!(short.settle_tables(&tables), Err(refused(15, 0)));
+    let mut few_revisions = appendix_2_read().with_revisions(1_439);
+    assert_eq!(few_revisions.settle_tables(&tables), Err(refused(15, 0)));
+    let mut enough = appendix_2_read().with_revisions(1_440);
+    assert!(enough.settle_tables(&tables).is_ok());
     let mut few_lines = Memory::with_room(1_440, APPENDIX_2_LINES - 1);
     assert_eq!(few_lines.enter_file(APPENDIX_2), Ok(()));
     assert_eq!(few_lines.settle_tables(&tables), Err(refused(26, 0)));
@@ -180,10 +250,18 @@ fn tables_meet_the_refusals_of_settling() {
 #[test]
 fn lent_memory_behind_the_answer_is_kept() {
     let mut meter = [NO_READING; 1_440];
+    let mut revisions = [BYTE_MARK; 1_445];
     let mut lines = [MARK; LINE_NUMBERS * APPENDIX_2_LINES + 5];
     let mut sums = [MARK; SUMS + 3];
-    let answer = library::settle_file(APPENDIX_2, &mut meter, &mut lines, &mut sums);
+    let answer = library::settle_file(
+        APPENDIX_2,
+        &mut meter,
+        &mut revisions,
+        &mut lines,
+        &mut sums,
+    );
     assert_eq!(answer, 256 * APPENDIX_2.len() as u64);
+    assert_eq!(revisions[1_440..], [BYTE_MARK; 5]);
     assert_eq!(lines[lines.len() - 5..], [MARK; 5]);
     assert_eq!(sums[SUMS..], [MARK; 3]);
     assert_eq!(
@@ -198,11 +276,12 @@ const TOTALS_AND_FIRST_WINDOW: [i64; 8] = [6, 1, 12_800, 384_000, 32_400, 416_40
 #[test]
 fn a_refusal_keeps_lines_and_sums() {
     let mut meter = [NO_READING; 1_440];
+    let mut revisions = [0; 1_440];
     let mut lines = [MARK; LINE_NUMBERS * (APPENDIX_2_LINES - 1)];
     let mut sums = [MARK; SUMS];
     let open = &APPENDIX_2[..APPENDIX_2.len() - 1];
     for (file, number) in [(APPENDIX_2, 26), (open, 24), (b"Z", 13)] {
-        let answer = library::settle_file(file, &mut meter, &mut lines, &mut sums);
+        let answer = library::settle_file(file, &mut meter, &mut revisions, &mut lines, &mut sums);
         assert_eq!(answer % 256, number);
         assert!(lines.iter().chain(&sums).all(|&number| number == MARK));
     }
@@ -221,7 +300,9 @@ fn too_few_sums_are_refused_last() {
         (b"Z", 1_440, 13),
     ] {
         let mut meter = vec![NO_READING; minutes];
-        let answered = library::settle_file(file, &mut meter, &mut lines, &mut sums);
+        let mut revisions = [0; 1_440];
+        let answered =
+            library::settle_file(file, &mut meter, &mut revisions, &mut lines, &mut sums);
         assert_eq!(answered, answer);
         assert!(lines.iter().chain(&sums).all(|&number| number == MARK));
     }
@@ -243,6 +324,7 @@ fn tables_with_too_few_sums_are_refused_last() {
             &tables.instructions,
             &tables.defaults,
             meter,
+            &[0; 1_440],
             &mut lines,
             &mut sums,
         );
@@ -290,6 +372,7 @@ fn contracts_of_other_lengths_are_refused() {
             &tables.instructions,
             &tables.defaults,
             appendix_2_read().meter(),
+            &[0; 1_440],
             &mut lines,
             &mut sums,
         );
@@ -334,13 +417,16 @@ fn cells_that_hold_no_reading_are_not_written() {
     meter[..2].copy_from_slice(&[500_001, -500_001]);
     // Minutes after the contract's day.
     meter[1_440..].fill(7);
+    let revisions = memory.revisions();
+    revisions[..2].fill(1);
+    revisions[1_440..].fill(1);
     let written = memory.write_tables(&appendix_2_tables());
     assert_eq!(written.as_deref(), Ok(APPENDIX_2));
 }
 
 /// Appendix 2's tables with these contract numbers, written into so many
 /// marked bytes: the answer, and the bytes after it.
-fn written(contract: &[u32], meter: &[i32], room: usize) -> (u64, Vec<u8>) {
+fn written(contract: &[u32], meter: &[i32], revisions: &[u8], room: usize) -> (u64, Vec<u8>) {
     let tables = appendix_2_tables();
     let mut file = vec![BYTE_MARK; room];
     let answer = library::write_tables(
@@ -349,6 +435,7 @@ fn written(contract: &[u32], meter: &[i32], room: usize) -> (u64, Vec<u8>) {
         &tables.instructions,
         &tables.defaults,
         meter,
+        revisions,
         &mut file,
     );
     (answer, file)
@@ -361,7 +448,7 @@ fn a_file_is_written_into_the_first_bytes() {
     let taken = 256 * APPENDIX_2.len() as u64;
     for behind in [0, 1, 100] {
         let bytes = [APPENDIX_2, &vec![BYTE_MARK; behind]].concat();
-        let written = written(&contract, memory.meter(), bytes.len());
+        let written = written(&contract, memory.meter(), &[0; 1_440], bytes.len());
         assert_eq!(written, (taken, bytes));
     }
 }
@@ -373,16 +460,18 @@ fn a_refusal_keeps_every_byte() {
     let meter = memory.meter();
     let room = APPENDIX_2.len();
     let too_long = [&contract[..], &[0]].concat();
-    for (number, contract, minutes, room) in [
-        (11, &contract[..10], 1_440, room),
-        (11, &too_long[..], 1_440, room),
-        (11, &[0; 11], 1_440, room),
-        (11, &contract[..10], 1_439, room - 1),
-        (15, &contract, 1_439, room - 1),
-        (26, &contract, 1_440, room - 1),
-        (26, &contract, 1_440, 0),
+    let revisions = [0; 1_440];
+    for (number, contract, cells, bytes, room) in [
+        (11, &contract[..10], 1_440, 1_440, room),
+        (11, &too_long[..], 1_440, 1_440, room),
+        (11, &[0; 11], 1_440, 1_440, room),
+        (11, &contract[..10], 1_439, 1_439, room - 1),
+        (15, &contract, 1_439, 1_440, room - 1),
+        (15, &contract, 1_440, 1_439, room - 1),
+        (26, &contract, 1_440, 1_440, room - 1),
+        (26, &contract, 1_440, 1_440, 0),
     ] {
-        let written = written(contract, &meter[..minutes], room);
+        let written = written(contract, &meter[..cells], &revisions[..bytes], room);
         assert_eq!(written, (number, vec![BYTE_MARK; room]));
     }
 }
@@ -412,11 +501,38 @@ fn a_full_month_is_written_and_settled_again() {
     let tables = full_tables();
     let mut memory = Memory::of_month();
     memory.meter().fill(-1);
-    let file = memory.write_tables(&tables).expect("nothing to turn down");
-    assert_eq!(file.len(), MONTH_BYTES);
-    let by_tables = memory.settle_tables(&tables);
-    assert!(by_tables.is_ok());
-    assert_eq!(Memory::of_month().settle_file(&file), by_tables);
+    // Each number makes the file a byte longer.
+    for (number, shorter) in [(0, MONTH_MINUTES), (1, 0), (255, 0)] {
+        memory.revisions().fill(number);
+        let file = memory.write_tables(&tables).expect("nothing to turn down");
+        assert_eq!(file.len(), MONTH_BYTES - shorter);
+        let by_tables = memory.settle_tables(&tables);
+        assert!(by_tables.is_ok());
+        let mut again = Memory::of_month();
+        assert_eq!(again.settle_file(&file), by_tables);
+        assert_eq!(again.meter(), memory.meter());
+        assert_eq!(again.revisions(), memory.revisions());
+    }
+}
+
+#[test]
+fn a_revised_reading_is_written_in_its_minutes_turn() {
+    let revised = with_last(&[&revision(LAST_READ, 7, 3_000)]);
+    let superseding = [
+        &APPENDIX_2[..32],
+        LAST_AS_0,
+        &revision(LAST_READ, 7, 3_000),
+        &APPENDIX_2[32..LAST_READING],
+        b"Z",
+    ];
+    let mut memory = Memory::of_month();
+    let written = memory.write_file(&superseding.concat());
+    assert_eq!(written.as_ref(), Ok(&revised));
+    let tables = appendix_2_tables();
+    assert_eq!(memory.write_tables(&tables).as_ref(), Ok(&revised));
+    memory.revisions()[LAST_READ] = 0;
+    let plain = memory.write_tables(&tables);
+    assert_eq!(plain.as_deref(), Ok(APPENDIX_2));
 }
 
 #[test]
@@ -447,15 +563,22 @@ fn a_refused_file_is_not_written() {
     let length = APPENDIX_2.len();
     let mut meter = [NO_READING; 1_440];
     let cut = &APPENDIX_2[..length - 2];
-    for (file, minutes, room, answer) in [
-        (&b"Z"[..], 1_440, length, 13),
-        (cut, 1_440, length, 2 + 256 * (length as u64 - 8)),
-        (APPENDIX_2, 1_439, length, 15),
-        (APPENDIX_2, 1_440, length - 1, 26),
-        (APPENDIX_2, 1_440, 0, 26),
+    let mut revisions = [0; 1_440];
+    for (file, cells, bytes, room, answer) in [
+        (&b"Z"[..], 1_440, 1_440, length, 13),
+        (cut, 1_440, 1_440, length, 2 + 256 * (length as u64 - 8)),
+        (APPENDIX_2, 1_439, 1_440, length, 15),
+        (APPENDIX_2, 1_440, 1_439, length, 15),
+        (APPENDIX_2, 1_440, 1_440, length - 1, 26),
+        (APPENDIX_2, 1_440, 1_440, 0, 26),
     ] {
         let mut written = vec![BYTE_MARK; room];
-        let answered = library::write_file(file, &mut meter[..minutes], &mut written);
+        let answered = library::write_file(
+            file,
+            &mut meter[..cells],
+            &mut revisions[..bytes],
+            &mut written,
+        );
         assert_eq!((answered, written), (answer, vec![BYTE_MARK; room]));
     }
 }
@@ -464,8 +587,9 @@ fn a_refused_file_is_not_written() {
 fn bytes_behind_a_written_file_are_kept() {
     let length = APPENDIX_2.len();
     let mut meter = [NO_READING; 1_440];
+    let mut revisions = [0; 1_440];
     let mut written = vec![BYTE_MARK; length + 3];
-    let answer = library::write_file(APPENDIX_2, &mut meter, &mut written);
+    let answer = library::write_file(APPENDIX_2, &mut meter, &mut revisions, &mut written);
     assert_eq!(answer, 256 * length as u64);
     assert_eq!(written, [APPENDIX_2, &[BYTE_MARK; 3]].concat());
 }

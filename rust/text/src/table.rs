@@ -79,7 +79,7 @@ const fn named(name: &'static str, width: Width, words: &'static [(&'static str,
     }
 }
 
-pub const COMMANDS: [Command; 6] = [
+pub const COMMANDS: [Command; 7] = [
     Command {
         byte: 0x43,
         name: "contract",
@@ -145,6 +145,15 @@ pub const COMMANDS: [Command; 6] = [
         byte: 0x4D,
         name: "reading",
         fields: &[place("minute", Width::Two), place("kw", Width::Signed)],
+    },
+    Command {
+        byte: 0x52,
+        name: "revision",
+        fields: &[
+            place("minute", Width::Two),
+            place("number", Width::One),
+            place("kw", Width::Signed),
+        ],
     },
     Command {
         byte: 0x5A,

@@ -22,7 +22,7 @@ fn bytes_survive() {
         let length = next(&mut state) % 80;
         let bytes: Vec<u8> = (0..length)
             .map(|_| match next(&mut state) % 3 {
-                0 => b"CWIDMZ"[next(&mut state) as usize % 6],
+                0 => b"CWIDMRZ"[next(&mut state) as usize % 7],
                 _ => next(&mut state) as u8,
             })
             .collect();
@@ -60,6 +60,17 @@ fn the_last_minute_of_two_bytes() {
 }
 
 #[test]
+fn a_revision_stands_between_readings() {
+    let text = "readings 8 1 2\nrevision 9 255 -250\nreading 10 3\n";
+    let bytes = pack(text).expect("fits");
+    assert_eq!(bytes[14..22], [0x52, 0, 9, 0xFF, 0xFF, 0xFF, 0xFF, 0x06]);
+    assert_eq!(show(&bytes), text);
+    // Out of range and yet a byte.
+    survives(&[0x52, 0, 9, 0, 0, 0, 0, 1]);
+    survives(&[0x52, 0, 9, 0, 0, 0, 0]);
+}
+
+#[test]
 fn fields_in_any_order() {
     let one = "contract days 1 kind generator service flexible kw 12000 ramp-up 2000 \
                ramp-down 2000 response 20 recovery 0 availability 900 utilisation 30000 \
@@ -85,6 +96,11 @@ fn wrong_lines_are_named() {
         "window 0 30 maybe",
         "line 1: state maybe is no number and none of accepted, rejected",
     );
+    wrong(
+        "revision 7 256 0",
+        "line 1: number 256 does not fit its bytes, which hold 0 to 255",
+    );
+    wrong("revision 7 1", "line 1: revision without kw");
     wrong("instruction issue 3 issue 4", "line 1: issue twice");
     wrong("instruction issue 3", "line 1: instruction without cease");
     wrong("instruction issue", "line 1: issue without a value");

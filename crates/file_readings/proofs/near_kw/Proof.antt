@@ -9,7 +9,7 @@ use mir.Val.{SFits, toZ, ofZ}
 use mir.Facts.{toZ-pos, toZ-ofZ}
 use Rattle.energy.proofs.Integers.{exact, diff-parts, fits-parts}
 use Rattle.rules.specs.File.{signedOf}
-use Rattle.book_memory.specs.Meter.{cellReading}
+use Rattle.file_readings.specs.Run.{ranged}
 use Rattle.file_readings.proofs.RaisedKw.{raised, near-cell}
 use Rattle.file_readings.proofs.near_kw.Statement.{statement}
 use Rattle.file_readings.proofs.near_kw.Tie as tie
@@ -23,7 +23,7 @@ module _ (n : ℕ) (h : n < 2 ^ 32) where
   fits = rw number (fits-parts w64 _ (omega (arith, exact (diff-parts (pos (raised n)) (pos 500000)))))
 
   -- lowered again, as the machine holds it
-  lowered : cellReading (toZ w64 (ofZ w64 (toZ w64 (raised n) -ℤ pos 500000))) ≡ cellReading (signedOf n)
+  lowered : ranged (toZ w64 (ofZ w64 (toZ w64 (raised n) -ℤ pos 500000))) ≡ ranged (signedOf n)
   lowered = rw (toZ-ofZ fits, number) (near-cell n h)
 
 returns : tie.Need-returns

@@ -9,5 +9,5 @@ pub whole-reading-spec : {M : Type 1} → statement M
 unfolding wholeReading
 whole-reading-spec =
     tie.close
-    (tie.spec (λ c. rw (le-ltb _ _ (c .if1 .taken))) (λ c. search needs) (λ c. search needs) (λ c. search needs)
-    (λ c. rw (lt-ltb _ _ (c .before .if1 .left))))
+    (tie.spec (λ c. rw (le-ltb _ _ (c .if1 .taken))) (λ c. search needs) (λ c κs. search needs) (λ c. search needs)
+    (λ c. rw (c .reading-length .ensures, lt-ltb _ _ (c .before .before .if1 .left))))

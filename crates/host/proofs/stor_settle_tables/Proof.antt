@@ -10,7 +10,7 @@ returns c = let e = c .before .entire-tables in not-settled _ _ (e .result) (e .
 settle-book-requires : tie.Need-settle-book-requires
 settle-book-requires c κs =
     let b = c .before .before .book-of in
-    few-windows _ (b .result) (b .ensures) (c .before .before .before .before .before .before .before .before .before .good .1 .0 .0)
+    few-windows _ (b .result) (b .ensures) (c .before .before .before .before .before .before .before .before .before .before .good .1 .0 .0)
 
 returns-2 : tie.Need-returns-2
 returns-2 c =

@@ -19,12 +19,12 @@ returns c =
 
 put-sums-requires : tie.Need-put-sums-requires
 put-sums-requires c κs =
-    let at = c .before .before .before .before .before .before .before .before .before in
+    let at = c .before .before .before .before .before .before .before .before .before .before in
     let room = c .before .before .before .before .before .before .before .before .line-room in
-    let few = few-lines (at .args .b) (lent (at .args .meter .now)) (take (room .result) (at .args .lines .now)) in
+    let few = few-lines (at .args .b) (lent (at .args .meter .now) (at .args .revisions .now)) (take (room .result) (at .args .lines .now)) in
     let same = ap (λ (z : Settlement). z .statement .lines) (c .before .before .before .before .before .before .settle-numbers .ensures .0) in
     let size = length-take-le (room .result) (at .args .lines .now) (room .ensures .1) in
-    (c .before .if1 .left, omega (arith, same, few, size, room .ensures .1, at .good .1 .1 .0 .0), at .pre)
+    (c .before .if1 .left, omega (arith, same, few, size, room .ensures .1, at .good .1 .1 .1 .0 .0), at .pre)
 
 returns-2 : tie.Need-returns-2
 returns-2 c =

@@ -13,10 +13,9 @@ sum-up-requires c κs =
 
 returns : tie.Need-returns
 returns c =
-    let p = c .before .before .before .before .before .before .before .before .prepare .ensures in
+    let p = c .before .before .before .before .before .before .before .before in
     let f = c .before .before .fill-numbers in
-    settles (c .before .before .before .before .before .before .before .before .before .args .numbers .now) p _ (f .result) _ (f .ensures .0)
-    (f .ensures .1) (c .sum-up .ensures)
+    settles (p .before .before .args .numbers .now) (p .prepare .ensures) _ (f .result) _ (f .ensures .0) (f .ensures .1) (c .sum-up .ensures)
 
 -- the table of live periods has the length that `prepare` promises
 slice-aggregate-fill-numbers-2 : tie.Need-slice-aggregate-fill-numbers-2

@@ -1,7 +1,7 @@
 -- `Book::enter_close` meets its contract: a close has no conditions of its own, so a number up to 15 decides alone.
 use borrow.Author.Needs.{needs}
 use mathlib.Core.Path.{_≡_, refl}
-use Rattle.commands.specs.Input.{lowest, inputRefusal}
+use Rattle.commands.specs.Input.{firstMet, inputRefusal}
 use Rattle.commands.specs.declared.entries.Command.the-variants.{Close as closeᶜ}
 use Rattle.book.proofs.Refusals.{anyOf, close-own}
 use Rattle.book.proofs.EnteringByNumbers.{first-number, past-any, any-refuses, own-takes}
@@ -10,7 +10,7 @@ use Rattle.book.proofs.Book.enter_close.Tie as tie
 
 -- the number up to 15
 any : (c : tie.After-first-refusal) → let at = c .before .args in c .first-refusal .result ≡ anyOf (at .self) (at .room) closeᶜ
-unfolding inputRefusal lowest
+unfolding inputRefusal firstMet
 any c = first-number _ _ closeᶜ _ 0 _ (c .first-refusal .ensures) refl (c .before .pre)
 
 returns-2 : tie.Need-returns-2

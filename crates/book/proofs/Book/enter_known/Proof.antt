@@ -5,4 +5,4 @@ use Rattle.book.proofs.Book.enter_known.Statement.{statement}
 use Rattle.book.proofs.Book.enter_known.Tie as tie
 
 pub enter-known-spec : {M : Type 1} → statement M
-enter-known-spec = tie.close (tie.spec (λ c κs. sym (c .before .pre)) (λ c. search needs) (λ c. search needs))
+enter-known-spec = tie.close (tie.spec (λ c κs. sym (c .before .before .before .pre)) (λ c. search needs) (λ c. search needs) (λ c. search needs))

@@ -6,9 +6,9 @@ use Rattle.book_refusal.proofs.readings.reading_refusal.Tie as tie
 
 returns : tie.Need-returns
 unfolding readingRefusal
-returns c = rw (c .pick2 .ensures, c .before .pick .ensures, c .before .before .has-reading .ensures)
+returns c = rw (c .pick2 .ensures, c .before .pick .ensures, c .before .before .held-refusal .ensures, c .before .before .before .not-above .ensures)
 
 pub reading-refusal-spec : {M : Type 1} → statement M
 reading-refusal-spec =
     tie.close
-    (tie.spec (λ c. search needs) (λ c κs. search needs) (λ c κs. search needs) (λ c κs. search needs) returns)
+    (tie.spec (λ c. search needs) (λ c κs. search needs) (λ c κs. search needs) (λ c κs. search needs) (λ c κs. search needs) returns)

@@ -17,45 +17,50 @@ use Rattle.file_load.proofs.file.load.Statement.{statement}
 use Rattle.file_load.proofs.file.load.Tie as tie
 
 abbrev Inv-loop : tie.InvT-loop
-Inv-loop s meter₀ l₀ going₀ span₀ meter l going span =
-    (rest s going l (lent meter) ≡ from s 0 (l₀ .book) (lent meter₀)) × Kept (l .book) × (l .at ≤ length s) × (length meter ≡ length meter₀)
-    × (span ≡ openSpan (l .book) (roomIn (lent meter)))
+Inv-loop s meter₀ revisions₀ l₀ going₀ span₀ meter revisions l going span =
+    (rest s going l (lent meter revisions) ≡ from s 0 (l₀ .book) (lent meter₀ revisions₀)) × Kept (l .book) × (l .at ≤ length s)
+    × (length meter ≡ length meter₀)
+    × (length revisions ≡ length revisions₀)
+    × (span ≡ openSpan (l .book) (roomIn (lent meter revisions)))
 
 abbrev μ-loop : tie.MeasureT-loop
-μ-loop s meter₀ l₀ going₀ span₀ meter l going span = (length s - l .at) + more going
+μ-loop s meter₀ revisions₀ l₀ going₀ span₀ meter revisions l going span = (length s - l .at) + more going
 
 -- the tables' lengths
 shaped : (c : tie.Start Inv-loop μ-loop) → Shaped (c .args .b)
 shaped c = record { windows = search (length-mapped, needs); instructions = search (length-mapped, needs); defaults = search (length-mapped, needs) }
 
 loop-holds : tie.Need-loop-holds Inv-loop μ-loop
-loop-holds c = (refl, record { sound = c .before .before .pre; shaped = shaped (c .before .before) }, omega arith, refl, c .open-span .ensures)
+loop-holds c =
+    let s = c .before .before .before .before .before .before in
+    (refl, record { sound = s .pre; shaped = shaped s }, omega arith, refl, refl, c .open-span .ensures ∙ ap (openSpan (s .args .b)) (c .before .room-of .ensures))
 
 loop-less : tie.Need-loop-less Inv-loop μ-loop
 loop-less c =
-    let d = c .before .before .before .before in
-    let r = d .before .before .before in
-    let at = r .before .before .before .before in
-    let turn = turned (at .before .before .before .args .s .now) (r .take-readings .result) (at .loop .l .book) _ (d .read-and-enter .ensures) in
+    let d = c .before .before .before .before .before .before .before .before .before in
+    let r = c .before .before .before .before .before .before .before .before .before .before .before .before .before .before .before in
+    let at = c .before .before .before .before .before .before .before .before .before .before .before .before .before .before .before .before .before .before .before .before in
+    let turn = turned (at .before .before .before .before .before .before .before .args .s .now) (r .take-readings .result) (at .loop .l .book) _ (d .read-and-enter .ensures) in
     let run = r .take-readings .ensures .0 in
-    rw (r .before .before .before .loop-test .taken) (omega (arith, run .forward, turn .less (run .inside (at .loop .inv .2))))
+    rw (c .before .before .before .before .before .before .before .before .before .before .before .before .before .before .before .before .before .before .before .loop-test .taken) (omega (arith, run .forward, turn .less (run .inside (at .loop .inv .2))))
 
 loop-again : tie.Need-loop-again Inv-loop μ-loop
 loop-again c =
-    let d = c .before .before .before .before in
-    let r = d .before .before .before in
-    let at = r .before .before .before .before in
-    let s = at .before .before .before .args .s .now in
+    let d = c .before .before .before .before .before .before .before .before .before in
+    let r = c .before .before .before .before .before .before .before .before .before .before .before .before .before .before .before in
+    let at = c .before .before .before .before .before .before .before .before .before .before .before .before .before .before .before .before .before .before .before .before in
+    let s = at .before .before .before .before .before .before .before .args .s .now in
     let turn = turned s (r .take-readings .result) (at .loop .l .book) _ (d .read-and-enter .ensures) in
     let run = r .take-readings .ensures .0 in
     let inv = at .loop .inv in (
       sym (turn .again)
-          ∙ sym (run-again s (at .loop .l .at) (at .loop .l .book) (at .loop .span) (lent (at .loop .meter)) _ _ run (inv .1) (inv .4))
-          ∙ (rw (r .before .before .before .loop-test .taken) at (inv .0)),
+          ∙ sym (run-again s (at .loop .l .at) (at .loop .l .book) (at .loop .span) (lent (at .loop .meter) (at .loop .revisions)) _ _ run (inv .1) (inv .5))
+          ∙ (rw (c .before .before .before .before .before .before .before .before .before .before .before .before .before .before .before .before .before .before .before .loop-test .taken) at (inv .0)),
       turn .keeps (inv .1),
       turn .inside (run .inside (inv .2)),
       search needs,
-      c .open-span2 .ensures,
+      search needs,
+      c .open-span2 .ensures ∙ ap (openSpan _) (c .before .room-of2 .ensures),
     )
 
 returns : tie.Need-returns Inv-loop μ-loop
@@ -68,6 +73,5 @@ returns c =
 pub load-spec : {M : Type 1} → statement M
 load-spec =
     tie.close
-    (tie.spec Inv-loop μ-loop (λ c κs. search needs) loop-holds (λ c κs. search needs)
-    (λ c κs. c .before .before .before .before .before .before .loop .inv .1 .sound) (λ c κs. search needs) loop-less loop-again
-    (λ c. c .before .loop .inv .3) returns)
+    (tie.spec Inv-loop μ-loop (λ c κs. search needs) (λ c κs. search needs) loop-holds (λ c κs. search needs) (λ c κs. c .before .before .before .before .before .before .before .before .before .before .loop .inv .1 .sound) (λ c κs. search needs)
+    (λ c κs. search needs) loop-less loop-again (λ c. c .before .loop .inv .3) (λ c. c .before .loop .inv .4) returns)

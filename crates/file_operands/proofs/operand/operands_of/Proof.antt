@@ -14,6 +14,13 @@ returns-5 c =
     let f : SFits w64 (r .0 .0 .kw .0) = search needs in
     rw (r .1, c .places4 .ensures, c .before .unsigned .ensures, toZ-ofZ f)
 
+returns-6 : tie.Need-returns-6
+unfolding padded
+returns-6 c =
+    let v = c .before .before .before .before .before .before .before .before .before .command6 .given in
+    let f : SFits w64 (v .0 .0 .reading .kw .0) = search needs in
+    rw (v .1, c .places5 .ensures, c .before .unsigned2 .ensures, toZ-ofZ f)
+
 pub operands-of-spec : {M : Type 1} → statement M
 unfolding padded
 operands-of-spec =
@@ -21,8 +28,9 @@ operands-of-spec =
     (tie.spec (λ c. search needs) (λ c κs. search needs) (λ c. search needs) (λ c. search needs) (λ c. search needs) (λ c. search needs)
     (λ c κs. search needs) (λ c. search needs) (λ c. search needs) (λ c. search needs) (λ c κs. search needs) (λ c. search needs) (λ c. search needs)
     (λ c. search needs) (λ c. search needs) (λ c κs. search needs) (λ c. search needs) (λ c. search needs) (λ c κs. search needs)
-    (λ c κs. search needs) (λ c. search needs) (λ c κs. search needs) (λ c. rw (c .before .before .command .given .1, c .contract-operands .ensures))
+    (λ c κs. search needs) (λ c. search needs) (λ c. search needs) (λ c. search needs) (λ c κs. search needs) (λ c κs. search needs)
+    (λ c. search needs) (λ c κs. search needs) (λ c. rw (c .before .before .command .given .1, c .contract-operands .ensures))
     (λ c. rw (c .before .before .before .before .before .before .before .command2 .given .1) (c .places .ensures))
     (λ c. rw (c .before .before .before .before .before .before .command3 .given .1) (c .places2 .ensures))
-    (λ c. rw (c .before .before .before .before .before .before .command4 .given .1) (c .places3 .ensures)) returns-5
-    (λ c. rw (c .before .enum-told .given .1) (c .places5 .ensures)))
+    (λ c. rw (c .before .before .before .before .before .before .command4 .given .1) (c .places3 .ensures)) returns-5 returns-6
+    (λ c. rw (c .before .enum-told .given .1) (c .places6 .ensures)))

@@ -3,7 +3,7 @@ use mathlib.Core.List.{List}
 use Prim.Native.Nat.{ℕ, _+_, _<_}
 use borrow.Author.Needs.{needs}
 use lib.Dec.{lit<}
-use Rattle.book_memory.specs.Meter.{lent}
+use Rattle.book_memory.specs.Meter.{Memory, lent}
 use Rattle.book.specs.Sound.{Shaped}
 use Rattle.rules.proofs.Folds.{length-mapped}
 use Rattle.file_write.specs.Laid.{Laid, Room, Tabled, parts}
@@ -20,28 +20,32 @@ tables s = tabled (s .args .b) shaped (s .pre .0)
     shaped : Shaped (s .args .b)
     shaped = record { windows = search (length-mapped, needs); instructions = search (length-mapped, needs); defaults = search (length-mapped, needs) }
 
+-- what is lent for readings
+abbrev memory : tie.Start → Memory
+memory s = lent (s .args .meter .now) (s .args .revisions .now)
+
 -- so many parts are laid
 record Stand (s : tie.Start) (k : ℕ) : Type 0 where
   out : List ℕ
   place : ℕ
-  laid : Laid (before (s .args .b) (lent (s .args .meter .now)) k) (s .args .out .now) 0 out place
+  laid : Laid (before (s .args .b) (memory s) k) (s .args .out .now) 0 out place
 
-all : (s : tie.Start) → Room (before (s .args .b) (lent (s .args .meter .now)) 6) (s .args .out .now) 0
+all : (s : tie.Start) → Room (before (s .args .b) (memory s) 6) (s .args .out .now) 0
 unfolding parts
 all s = s .pre .1
 
 -- room for the next one, and one more
 module _ {s : tie.Start} {k : ℕ} (at : Stand s k) (h : k < 6) where
-  next : Room (part (s .args .b) (lent (s .args .meter .now)) k) (at .out) (at .place)
-  next = room-turn (part-turns (s .args .b) (lent (s .args .meter .now))) (all s) h (at .laid)
+  next : Room (part (s .args .b) (memory s) k) (at .out) (at .place)
+  next = room-turn (part-turns (s .args .b) (memory s)) (all s) h (at .laid)
 
-  abbrev more : {after : List ℕ} {place : ℕ} → Laid (part (s .args .b) (lent (s .args .meter .now)) k) (at .out) (at .place) after place
+  abbrev more : {after : List ℕ} {place : ℕ} → Laid (part (s .args .b) (memory s) k) (at .out) (at .place) after place
       → Stand s (k + 1)
-  more l = record { out = _; place = _; laid = laid-turn (part-turns (s .args .b) (lent (s .args .meter .now))) (all s) h (at .laid) l }
+  more l = record { out = _; place = _; laid = laid-turn (part-turns (s .args .b) (memory s)) (all s) h (at .laid) l }
 
 -- the function's start, as it is found after each call; and the parts that are laid before the first call and after each
 abbrev start₁ : tie.After-put-if → tie.Start
-start₁ c = c .before .before .before .before
+start₁ c = c .before .before .before .before .before
 
 abbrev start₂ : tie.After-put-table → tie.Start
 start₂ c = start₁ (c .before .before .before .before)
@@ -83,7 +87,7 @@ returns c = more (stand₅ (c .before .before .before .before .before .before)) 
 pub put-book-spec : {M : Type 1} → statement M
 put-book-spec =
     tie.close
-    (tie.spec (λ c κs. next (stand₀ (c .before .before .before)) (lit< tt))
+    (tie.spec (λ c κs. next (stand₀ (c .before .before .before .before)) (lit< tt))
     (λ c κs. let d = c .before .before .before in (tables (start₁ d) _, next (stand₁ d) (lit< tt)))
     (λ c κs. let d = c .before .before .before in (tables (start₂ d) _, next (stand₂ d) (lit< tt)))
     (λ c κs. let d = c .before .before .before in (tables (start₃ d) _, next (stand₃ d) (lit< tt))) (λ c κs. search needs) put-readings-requires

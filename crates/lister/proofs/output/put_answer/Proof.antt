@@ -19,7 +19,7 @@ returns : tie.Need-returns
 unfolding printed
 returns c =
     let k = c .before .before .before in
-    let refused : k .before .before .before .args .e .answer ≡ Refused _ = k .ended .given .1 in
+    let refused : k .before .before .before .before .args .e .answer ≡ Refused _ = k .ended .given .1 in
     rw refused (c .put-refusal .ensures)
 
 returns-2 : tie.Need-returns-2
@@ -27,7 +27,7 @@ unfolding printed
 returns-2 c =
     let l = c .before .before in
     let k = l .before in
-    let taken : k .before .before .before .args .e .answer ≡ Taken = k .enum-told .given .1 in
+    let taken : k .before .before .before .before .args .e .answer ≡ Taken = k .enum-told .given .1 in
     rw taken (rw (l .listed .ensures) at (c .put-settlement .ensures))
 
 pub put-answer-spec : {M : Type 1} → statement M

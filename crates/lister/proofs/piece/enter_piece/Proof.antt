@@ -13,16 +13,16 @@ use Rattle.lister.proofs.piece.enter_piece.Tie as tie
 have : (s : tie.Start) → length (take (s .args .have) (s .args .buffer .now)) ≡ s .args .have
 have s = length-take-le (s .args .have) (s .args .buffer .now) (s .pre .1)
 
-stops : (c : tie.After-load) → c .load .result .at ≤ c .before .before .before .before .before .args .have
-stops c = omega (arith, c .load .ensures .3, have (c .before .before .before .before .before))
+stops : (c : tie.After-load) → c .load .result .at ≤ c .before .before .before .before .before .before .before .args .have
+stops c = omega (arith, c .load .ensures .3, have (c .before .before .before .before .before .before .before))
 
 returns : tie.Need-returns
 unfolding step
 returns c =
-    let l = c .before .before .before .before .before .before .before .load in
+    let l = c .before .before .before .before .before .before .before .before .before .load in
     let u = c .before .before .before .before .unfinished in
     let k = c .before .before .keep in
-    let s = c .before .before .before .before .before .before .before .before .before .before .before .before in
+    let s = c .before .before .before .before .before .before .before .before .before .before .before .before .before .before .before .before in
     record {
       stands = rw (← l .ensures .0, ← l .ensures .1, ← k .ensures .0);
       going = rw (u .ensures);
@@ -30,14 +30,13 @@ returns c =
       fits = omega (arith, k .ensures .1, k .kept .0, s .pre .1);
     }
 
-add-t19 : tie.Need-add-t19
-add-t19 c =
-    let l = c .before .before .before .before .before .before .before in
-    record { fits = omega (arith, stops l, l .before .before .before .before .before .pre .2) }
+add-t22 : tie.Need-add-t22
+add-t22 c =
+    let l = c .before .before .before .before .before .before .before .before .before in
+    record { fits = omega (arith, stops l, l .before .before .before .before .before .before .before .pre .2) }
 
 pub enter-piece-spec : {M : Type 1} → statement M
 enter-piece-spec =
     tie.close
-    (tie.spec (λ c. search needs) (λ c. sym (have (c .before .before .before))) (λ c κs. search needs) (λ c κs. search needs)
-    (λ c κs. let l = c .before .before .before .before in (stops l, l .before .before .before .before .before .pre .1)) add-t19 (λ c. search needs)
-    (λ c. search needs) returns)
+    (tie.spec (λ c. search needs) (λ c. sym (have (c .before .before .before .before))) (λ c κs. search needs) (λ c κs. search needs)
+    (λ c κs. let l = c .before .before .before .before .before .before in (stops l, l .before .before .before .before .before .before .before .pre .1)) add-t22 (λ c. search needs) (λ c. search needs) (λ c. search needs) returns)

@@ -1,8 +1,8 @@
 -- `settle::prepare::check_lines` meets its contract: the survey is the rules' (`SurveyRules`), so 25 and 26 are theirs; else what is laid out settles
--- (`Outcome`). Assumes nothing.
+-- (`Outcome`). Whatever revisions are lent, the cells are the same; none stand in where the survey is asked for. Assumes nothing.
 use mathlib.Core.Path.{_≡_, sym, _∙_, ap}
 use mathlib.Core.Bool.{true}
-use mathlib.Core.List.{List}
+use mathlib.Core.List.{List, []}
 use Prim.Native.Nat.{ℕ}
 use native.Mathlib.Omega.{arith}
 use lib.ListN.{length}
@@ -30,8 +30,8 @@ module _ (s : tie.Start) where
   abbrev b : Book
   b = s .args .b
 
-  abbrev readings : Memory
-  readings = lent (s .args .meter .now)
+  abbrev readings : List ℕ → Memory
+  readings revisions = lent (s .args .meter .now) revisions
 
   agreed : s .args .b .agreed ≡ true
   agreed = closed-agreed b (s .pre .0) (s .pre .1)
@@ -39,13 +39,14 @@ module _ (s : tie.Start) where
   book : SoundBook (s .args .b)
   book = sound-book b (s .pre .0) agreed
 
-  grounds : {times : List ℕ} → Timed (s .args .b .instructions) 64 times → Grounds (s .args .b) times (lent (s .args .meter .now))
-  grounds e =
+  grounds : {times : List ℕ} → Timed (s .args .b .instructions) 64 times → (revisions : List ℕ)
+      → Grounds (s .args .b) times (lent (s .args .meter .now) revisions)
+  grounds e revisions =
       record {
         sound = book;
         agreed = agreed;
         shape = search (length-mapped, needs);
-        room = s .pre .2;
+        cells = s .pre .2;
         timed = e;
       }
 
@@ -57,40 +58,40 @@ terms-of-requires c κs =
 survey-all-requires : tie.Need-survey-all-requires
 survey-all-requires c κs =
     rw (c .before .before .terms-of .ensures)
-    (surveyed (grounds (c .before .before .before .before .before) (c .before .times-of .ensures)) .laid)
+    (surveyed (grounds (c .before .before .before .before .before) (c .before .times-of .ensures) []) .laid)
 
 abbrev origin : tie.After-survey-all → tie.Start
 origin v = v .before .before .before .before .before .before
 
 -- the survey is the rules'
-record Told (v : tie.After-survey-all) : Type 0 where
-  complete : v .survey-all .result .complete ≡ complete (ledgerIn (b (origin v)) (readings (origin v)))
-  count : v .survey-all .result .count ≡ length (segments (ledgerIn (b (origin v)) (readings (origin v))))
+record Told (v : tie.After-survey-all) (revisions : List ℕ) : Type 0 where
+  complete : v .survey-all .result .complete ≡ complete (ledgerIn (b (origin v)) (readings (origin v) revisions))
+  count : v .survey-all .result .count ≡ length (segments (ledgerIn (b (origin v)) (readings (origin v) revisions)))
 
-told : (v : tie.After-survey-all) → Told v
-told v =
+told : (v : tie.After-survey-all) (revisions : List ℕ) → Told v revisions
+told v revisions =
     let x = v .before .before .times-of in
     let e = v .survey-all .ensures
     ∙ ap (λ (z : Terms). surveyTo z (x .result) (origin v .args .meter .now) (z .instructions)) (v .before .before .before .terms-of .ensures) in
-    let r = surveyed (grounds (origin v) (x .ensures)) in
+    let r = surveyed (grounds (origin v) (x .ensures) revisions) in
     record { complete = ap (λ (z : Survey). z .complete) e ∙ survey-complete r; count = ap (λ (z : Survey). z .count) e ∙ survey-count r }
 
 returns : tie.Need-returns
-returns c =
+returns c revisions room =
     let v = c .before .before .before in
     let s = origin v in
     rw (c .refuse .ensures)
-    (refused (is-25 (b s) (readings s) (s .args .room) (s .pre .0) (s .pre .2) (s .pre .1)
-    (sym (told v .complete) ∙ not-true (v .survey-all .result .complete) (c .before .if1 .taken))))
+    (refused (is-25 (b s) (readings s revisions) (s .args .room) (s .pre .0) room (s .pre .1)
+    (sym (told v revisions .complete) ∙ not-true (v .survey-all .result .complete) (c .before .if1 .taken))))
 
 returns-2 : tie.Need-returns-2
-returns-2 c =
+returns-2 c revisions room =
     let v = c .before .before .before .before in
     let s = origin v in
     rw (c .refuse2 .ensures)
-    (refused (is-26 (b s) (readings s) (s .args .room) (s .pre .0) (s .pre .2) (s .pre .1)
-    (sym (told v .complete) ∙ not-false (v .survey-all .result .complete) (c .before .before .if1 .left))
-    (omega (arith, told v .count, c .before .if2 .taken))))
+    (refused (is-26 (b s) (readings s revisions) (s .args .room) (s .pre .0) room (s .pre .1)
+    (sym (told v revisions .complete) ∙ not-false (v .survey-all .result .complete) (c .before .before .if1 .left))
+    (omega (arith, told v revisions .count, c .before .if2 .taken))))
 
 lay-out-requires : tie.Need-lay-out-requires
 lay-out-requires c κs =
@@ -98,13 +99,14 @@ lay-out-requires c κs =
     (origin v .pre .0, agreed (origin v), v .before .before .before .terms-of .ensures, v .before .before .times-of .ensures)
 
 returns-3 : tie.Need-returns-3
-returns-3 c =
+returns-3 c revisions room =
     let v = c .before .before .before .before in
     let s = origin v in
-    let done = sym (told v .complete) ∙ not-false (v .survey-all .result .complete) (c .before .before .if1 .left) in
-    prepares (grounds s (v .before .before .times-of .ensures)) (rw (v .before .before .before .terms-of .ensures) at (c .lay-out .ensures)) done
-    (told v .count)
-    (is-taken (b s) (readings s) (s .args .room) (s .pre .0) (s .pre .2) (s .pre .1) done (omega (arith, told v .count, c .before .if2 .left)))
+    let t = told v revisions in
+    let done = sym (t .complete) ∙ not-false (v .survey-all .result .complete) (c .before .before .if1 .left) in
+    prepares (grounds s (v .before .before .times-of .ensures) revisions) (rw (v .before .before .before .terms-of .ensures) at (c .lay-out .ensures)) done
+    (t .count)
+    (is-taken (b s) (readings s revisions) (s .args .room) (s .pre .0) room (s .pre .1) done (omega (arith, t .count, c .before .if2 .left)))
     (c .before .if2 .left)
 
 pub check-lines-spec : {M : Type 1} → statement M

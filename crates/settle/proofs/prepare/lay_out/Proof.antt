@@ -1,5 +1,7 @@
--- `settle::prepare::lay_out` meets its contract. What it stands on does not look at the readings, so meter memory of the span stands in. Assumes nothing.
+-- `settle::prepare::lay_out` meets its contract. What it stands on does not look at the readings, so cells for the span stand in, without revisions.
+-- Assumes nothing.
 use mathlib.Core.Path.{refl, _∙_}
+use mathlib.Core.List.{[]}
 use Prim.Native.Nat.{ℕ}
 use native.Mathlib.Omega.{arith}
 use lib.IntN.{pos}
@@ -15,13 +17,13 @@ use Rattle.settle.proofs.BookPlan.{Grounds, cleared, kw-upto, windows-f
 use Rattle.settle.proofs.prepare.lay_out.Statement.{statement}
 use Rattle.settle.proofs.prepare.lay_out.Tie as tie
 
-grounds : (s : tie.Start) → Grounds (s .args .b) (s .args .t3) (lent (replicate (bookCells (s .args .b)) (pos 0)))
+grounds : (s : tie.Start) → Grounds (s .args .b) (s .args .t3) (lent (replicate (bookCells (s .args .b)) (pos 0)) [])
 grounds s =
     record {
       sound = sound-book (s .args .b) (s .pre .0) (s .pre .1);
       agreed = s .pre .1;
       shape = search (length-mapped, needs);
-      room = omega (arith, length-replicate (bookCells (s .args .b)) (pos 0));
+      cells = omega (arith, length-replicate (bookCells (s .args .b)) (pos 0));
       timed = s .pre .3;
     }
 

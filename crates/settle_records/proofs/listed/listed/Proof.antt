@@ -19,19 +19,23 @@ use Rattle.settle_records.proofs.listed.listed.Statement.{statement}
 use Rattle.settle_records.proofs.listed.listed.Tie as tie
 
 abbrev Inv-loop : tie.InvT-loop
-Inv-loop meter settlement made lines₀ i₀ lines i = (i ≤ 719) × (length lines ≡ 719) × (take i lines ≡ take i made)
+Inv-loop meter revisions settlement made lines₀ i₀ lines i = (i ≤ 719) × (length lines ≡ 719) × (take i lines ≡ take i made)
 
 abbrev μ-loop : tie.MeasureT-loop
-μ-loop meter settlement made lines₀ i₀ lines i = 719 - i
+μ-loop meter revisions settlement made lines₀ i₀ lines i = 719 - i
+
+-- how many records are handed back
+made-size : (k : tie.After-settle-into Inv-loop μ-loop) → length (k .settle-into .result .lines) ≡ 1679
+made-size k = search (length-mapped, needs)
 
 loop-again : tie.Need-loop-again Inv-loop μ-loop
 loop-again c =
     let l = c .before .before .loop in
-    let made : List Line = c .before .before .before .before .before .before .settle-into .result .lines in
-    let long : length made ≡ 1679 = search (length-mapped, needs) in (
+    let k = c .before .before .before .before .before .before in
+    let made : List Line = k .settle-into .result .lines in (
       omega arith,
       search needs,
-      rw (add-one (l .i), take-suc-set (l .lines) (l .i) _ (omega arith), take-suc made (l .i) noLine (omega arith), l .inv .2),
+      rw (add-one (l .i), take-suc-set (l .lines) (l .i) _ (omega arith), take-suc made (l .i) noLine (omega (arith, made-size k)), l .inv .2),
     )
 
 -- the first 719 of the records handed back are those lent
@@ -51,9 +55,8 @@ returns c =
     let l = c .before .loop in
     let k = c .before .before .before .before .before in
     let end : l .i ≡ 719 = omega arith in
-    let long : length (k .settle-into .result .lines) ≡ 1679 = search (length-mapped, needs) in
     let made = rw (k .before .blank .ensures) at (k .settle-into .ensures) in
-    front _ _ (k .settle-into .result) (l .lines) made long (l .inv .1) (rw end at (l .inv .2))
+    front _ _ (k .settle-into .result) (l .lines) made (made-size k) (l .inv .1) (rw end at (l .inv .2))
 
 pub listed-spec : {M : Type 1} → statement M
 listed-spec =

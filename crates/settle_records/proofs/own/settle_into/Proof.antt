@@ -1,6 +1,6 @@
 -- `settle_records::own::settle_into` meets its contract: a walk of its MIR, by hand. The local array is filled with what the records hold before. Its
 -- first n records are lent to `settle` as a slice for a lifetime made for the call, and come back with the lines in them; joined with the rest they
--- are returned in a struct. Assumes nothing.
+-- are returned in a struct. What the revisions own is aside, twice until the call. Assumes nothing.
 use mathlib.Core.Path.{_≡_, refl, sym, _∙_, ap, subst}
 use Prim.Native.Nat.{ℕ, _<_, _≤_, _-_, _+_, _^_}
 use native.Mathlib.Nat.{lt-of-le-of-lt, mul-le-mul-right}
@@ -36,7 +36,7 @@ use borrow.Struct.Items.{is-same}
 use borrow.Table.Elements.{at, cut-app, join-app}
 use denote.Array.{Array, arrayVal, array-repeat, array-lawful}
 use denote.Plain.{uint-makes, uint-vals, uint-tells}
-use denote.Builtin.{i32, usize}
+use denote.Builtin.{i32, u8, usize}
 use denote.Ref.{RefT}
 use denote.Signature.{plain}
 use denote.Slice.{sliceVal, MutSlice, ShrSlice, Room, slice-vals, shr-slice-tells}
@@ -57,6 +57,7 @@ use Rattle.settle_records.specs.declared.own.Own.{Own}
 use Rattle.settle.specs.Settle.{settleBook}
 use Rattle.settle_records.specs.Own.{ownBook}
 use Rattle.energy.proofs.Walk.{local, gone, slice-twice, tokens, calls-says, closed}
+use Rattle.settle_records.proofs.Aside.{aside}
 use Rattle.settle_records.proofs.LentArray as whole
 use Rattle.rules.proofs.statement.Line as T
 use Rattle.rules.proofs.statement.Line.Laws as T′
@@ -81,35 +82,44 @@ R = T.the-row
 abbrev stayed : Stays (settled.ended .signature .params) (settled.ended .kept)
 stayed = (
   stay-none (λ _. B.the-row) yes,
-  (stay-none-slice (0 ∷ []) tt (plain (λ _. i32)) yes, (stay-none (λ _. usize) yes, (stay-none (λ _. R) yes, tt))),
+  (
+    stay-none-slice (0 ∷ []) tt (plain (λ _. i32)) yes,
+    (stay-none-slice (1 ∷ []) tt (plain (λ _. u8)) yes, (stay-none (λ _. usize) yes, (stay-none (λ _. R) yes, tt))),
+  ),
 )
 
 -- the machine's type of the records
 abbrev lines-ty : Ty
 lines-ty = tyArray T′.mir 1679
 
-module _ {M : Type 1} (𝓤 : URA M) (H : Heap 𝓤) (A : Atoms 𝓤) (W : Given 𝓤 H A) (at-mem : Memory → SProp 𝓤) (run : Routine → Fun 𝓤) (κ : Lft)
-    (q : Share) (bk : Book) (ms : RefT (List ℤ)) (n : ℕ) (before : Line) where
+module _ {M : Type 1} (𝓤 : URA M) (H : Heap 𝓤) (A : Atoms 𝓤) (W : Given 𝓤 H A) (at-mem : Memory → SProp 𝓤) (run : Routine → Fun 𝓤) (κ ρ : Lft)
+    (q qρ : Share) (bk : Book) (ms : RefT (List ℤ)) (rs : RefT (List ℕ)) (n : ℕ) (before : Line) where
   abbrev book : Val
   book = LL.val B.the-type B′.the-laws bk
 
   abbrev meter : Val
   meter = sliceVal (ms .ptr) (length (ms .now))
 
+  abbrev revisions : Val
+  revisions = sliceVal (rs .ptr) (length (rs .now))
+
   abbrev held : Val
   held = LL.val T.the-type T′.the-laws before
 
-  abbrev a : Args settled.signature (κ, tt)
-  a = (bk, (ms, (n, (before, tt))))
+  abbrev a : Args settled.signature (κ, (ρ, tt))
+  a = (bk, (ms, (rs, (n, (before, tt)))))
 
-  abbrev vals : Vals settled.signature (κ, tt)
-  vals = (book ∷ [], (meter ∷ [], (vint w64 n ∷ [], (held ∷ [], tt))))
+  abbrev vals : Vals settled.signature (κ, (ρ, tt))
+  vals = (book ∷ [], (meter ∷ [], (revisions ∷ [], (vint w64 n ∷ [], (held ∷ [], tt)))))
 
   abbrev Post : Val → SProp 𝓤
-  Post = walkOf 𝓤 H A settled.ended stayed (settled.clauses 𝓤 H A at-mem run) .post (((κ, tt), (q, tt), tt, a, vals), tt)
+  Post = walkOf 𝓤 H A settled.ended stayed (settled.clauses 𝓤 H A at-mem run) .post (((κ, (ρ, tt)), (q, (qρ, tt)), tt, a, vals), tt)
 
   abbrev MeterOwn : Fml
   MeterOwn = ShrSlice (named 0) κ i32 .own ms (meter ∷ [])
+
+  abbrev RevisionsOwn : Fml
+  RevisionsOwn = ShrSlice (named 1) ρ u8 .own rs (revisions ∷ [])
 
   -- the records before: all of them, those lent, and the rest; and what `settle` says of those lent
   abbrev all : List Line
@@ -122,7 +132,7 @@ module _ {M : Type 1} (𝓤 : URA M) (H : Heap 𝓤) (A : Atoms 𝓤) (W : Given
   rest = replicate (1679 - n) before
 
   abbrev Said : Settlement → List Line → Type 0
-  Said r zs = (r ≡ settleBook bk (lent (ms .now)) bs .settlement) × (zs ≡ settleBook bk (lent (ms .now)) bs .memory)
+  Said r zs = (r ≡ settleBook bk (lent (ms .now) (rs .now)) bs .settlement) × (zs ≡ settleBook bk (lent (ms .now) (rs .now)) bs .memory)
 
   room : n ≤ 1679 → Room R (length bs)
   room most =
@@ -160,97 +170,109 @@ module _ {M : Type 1} (𝓤 : URA M) (H : Heap 𝓤) (A : Atoms 𝓤) (W : Given
       (refl, (is, (is-same (T.the-field .row) Line (T.the-field .into) (T.the-field .into-one) 1679 (zs ++ rest) (v ∷ []) is-lines, tt))),
     )
 
-    right : (r : Settlement) (zs : List Line) → Said r zs → got r zs ≡ ownBook bk (lent (ms .now)) n before
+    right : (r : Settlement) (zs : List Line) → Said r zs → got r zs ≡ ownBook bk (lent (ms .now) (rs .now)) n before
     unfolding ownBook
     right r zs e = λ i. record { settlement = e .0 i; lines = e .1 i ++ rest }
 
     exits : (r : Settlement) (zs : List Line) (v : Val) → Said r zs → Is L.the-row (got r zs) (mach r v ∷ []) →
-        ent 𝓤 (⋆ 𝓤 H A (‵ (flft κ q) ∷ ‵ MeterOwn ∷ [])) (Post (mach r v))
+        ent 𝓤 (⋆ 𝓤 H A (‵ (flft κ q) ∷ ‵ MeterOwn ∷ ‵ RevisionsOwn ∷ ‵ (flft ρ qρ) ∷ [])) (Post (mach r v))
     exits r zs v e is =
-        qed W (‵ (flft κ q) ∷ ‵ MeterOwn ∷ []) ∵
-        suffices ! _ (ends-at 𝓤 H A settled.ended stayed (settled.clauses 𝓤 H A at-mem run) W (((κ, tt), (q, tt), tt, a, vals), tt) (mach r v)
-        (got r zs) (tt, (tt, (tt, (tt, tt)))) (tt, (tt, (tt, (tt, tt))))) $ says ! (right r zs e) $
-        nothing ! $ move ! (1 ∷ 0 ∷ []) $ join ! $ frame ! $ nothing ! $
+        qed W (‵ (flft κ q) ∷ ‵ MeterOwn ∷ ‵ RevisionsOwn ∷ ‵ (flft ρ qρ) ∷ []) ∵
+        suffices ! _ (ends-at 𝓤 H A settled.ended stayed (settled.clauses 𝓤 H A at-mem run) W (((κ, (ρ, tt)), (q, (qρ, tt)), tt, a, vals), tt)
+        (mach r v) (got r zs) (tt, (tt, (tt, (tt, (tt, tt))))) (tt, (tt, (tt, (tt, (tt, tt)))))) $ says ! (right r zs e) $
+        nothing ! $ move ! (4 ∷ 0 ∷ []) $ join ! $ move ! (1 ∷ 0 ∷ []) $ join ! $ frame ! $ nothing ! $
         owned ! R (Is R) ((LL.makes T.the-type T′.the-plain) 𝓤 H A) before _ is-held $ fjoin ! $
-        owned ! usize (Is usize) (uint-makes 𝓤 H A W w64) n _ (refl, n-fits) $ fjoin ! $ move ! (1 ∷ 0 ∷ []) $ fjoin ! $
+        owned ! usize (Is usize) (uint-makes 𝓤 H A W w64) n _ (refl, n-fits) $ fjoin ! $ move ! (2 ∷ 0 ∷ []) $ fjoin ! $ move ! (1 ∷ 0 ∷ []) $ fjoin ! $
         owned ! B.the-row (Is B.the-row) ((LL.makes B.the-type B′.the-plain) 𝓤 H A) bk _ is-book $ fjoin ! $
         owned ! L.the-row (Is L.the-row) ((LL.makes L.the-type L′.the-plain) 𝓤 H A) (got r zs) _ is $ move ! (1 ∷ 0 ∷ []) $ done !
 
     module _ (C : Calls 𝓤 H) (Λ : Loops 𝓤 H) (fm : FmC 𝓤 H (W .laws) C)
         (known-settle : Triple 𝓤 (C #settle) (tripleOf 𝓤 H A settle.signature (settle.spec 𝓤 H A at-mem run))) where
-      walk : Is (ShrSlice (named 0) κ i32) ms (meter ∷ []) →
-          ent 𝓤 (onEntry 𝓤 H A settled.signature (κ, tt) (q, tt) a vals) (WpFn 𝓤 H C Λ code.function (book ∷ meter ∷ vint w64 n ∷ held ∷ []) Post)
-      walk is-meter =
-          qed W (tokens 1 (κ, tt) (q, tt) ∷ ‵ (owns (B.the-row ∷ ShrSlice (named 0) κ i32 ∷ usize ∷ R ∷ []) a vals) ∷ []) ∵
-          enter ! C Λ code.function (book ∷ meter ∷ vint w64 n ∷ held ∷ []) _ $
+      walk : Is (ShrSlice (named 0) κ i32) ms (meter ∷ []) → Is (ShrSlice (named 1) ρ u8) rs (revisions ∷ []) →
+          ent 𝓤 (onEntry 𝓤 H A settled.signature (κ, (ρ, tt)) (q, (qρ, tt)) a vals)
+          (WpFn 𝓤 H C Λ code.function (book ∷ meter ∷ revisions ∷ vint w64 n ∷ held ∷ []) Post)
+      walk is-meter is-revisions =
+          qed W (tokens 2 (κ, (ρ, tt)) (q, (qρ, tt)) ∷
+          ‵ (owns (B.the-row ∷ ShrSlice (named 0) κ i32 ∷ ShrSlice (named 1) ρ u8 ∷ usize ∷ R ∷ []) a vals) ∷ []) ∵
+          enter ! C Λ code.function (book ∷ meter ∷ revisions ∷ vint w64 n ∷ held ∷ []) _ $
           alloc1 ! (λ l₀. alloc1 ! (λ l₁. alloc1 ! (λ l₂. alloc1 ! (λ l₃. alloc1 ! (λ l₄. alloc1 ! (λ l₅. alloc1 ! (λ l₆. alloc1 ! (λ l₇.
-          alloc1 ! (λ l₈. alloc1 ! (λ l₉. alloc0 ! $ params1 ! $
-          pass1 ! (init ! 16 {τ = B′.mir} refl (LL.lawful B.the-type B′.the-laws 𝓤 H A W .typed bk _ is-book .0)) $
-          pass1 ! (init ! 14 refl (tt, (tt, (record { fits = is-meter .0 .1 .0 }, tt)))) $ pass1 ! (init ! 12 refl (tt, record { fits = n-fits })) $
+          alloc1 ! (λ l₈. alloc1 ! (λ l₉. alloc1 ! (λ l₁₀. alloc0 ! $ params1 ! $
+          pass1 ! (init ! 18 {τ = B′.mir} refl (LL.lawful B.the-type B′.the-laws 𝓤 H A W .typed bk _ is-book .0)) $
+          pass1 ! (init ! 16 refl (tt, (tt, (record { fits = is-meter .0 .1 .0 }, tt)))) $
+          pass1 ! (init ! 14 refl (tt, (tt, (record { fits = is-revisions .0 .1 .0 }, tt)))) $ pass1 ! (init ! 12 refl (tt, record { fits = n-fits })) $
           pass1 ! (init ! 10 {τ = T′.mir} refl (LL.lawful T.the-type T′.the-laws 𝓤 H A W .typed before _ is-held .0)) $ pass0 ! $
-          -- [_9; …; _0; …; the token; what the parameters own]
-          move ! (21 ∷ []) $ fsplit ! $ drop ! $ fsplit ! $ move ! (1 ∷ []) $ drop ! $
-          slice-twice ! (named 0) κ i32 ms (meter ∷ []) $
-          -- [what meter owns, twice; _9 at 2; …; the token]
+          -- [_10; …; _0; …; the tokens; what the parameters own]
+          move ! (23 ∷ []) $ fsplit ! $ drop ! $ fsplit ! $ move ! (1 ∷ []) $ fsplit ! $ move ! (1 ∷ []) $ drop ! $
+          slice-twice ! (named 1) ρ u8 rs (revisions ∷ []) $ aside ! $ aside ! $ slice-twice ! (named 0) κ i32 ms (meter ∷ []) $
+          -- [what meter owns, twice; _10 at 2; …; the tokens; what revisions owns, twice]
           owned ! R (Is R) ((LL.makes T.the-type T′.the-plain) 𝓤 H A) before _ is-held $
           -- the array
           use1 W (‵ (Array R 1679 .own all (arrayVal (replicate 1679 held) ∷ [])))
           (array-repeat 𝓤 H A W R (LL.copy T.the-type T′.the-copy 𝓤 H A W) 1679 before held) $
           peeks ! (Array R 1679) (Is (Array R 1679)) (shows 𝓤 H A (Array R 1679)) all (arrayVal (replicate 1679 held) ∷ []) (λ is-bs.
-          -- [what the array owns; what meter owns, twice; _9 at 3; …; n, which is _3, at 15; …; the token at 23]
+          -- [what the array owns; what meter owns, twice; _10 at 3; …; n, which is _4, at 15; …; the tokens at 25; …]
           assigns ! (rep ! 1679 (local ! 13 refl)) (from ! (stop !))
           (init ! 11 {τ = lines-ty} refl (array-lawful 𝓤 H A W R (LL.lawful T.the-type T′.the-laws 𝓤 H A W) 1679 .typed all _ is-bs .0)) $
           assigns ! (addr ! (from ! (stop !))) (from ! (stop !)) (init ! 7 refl (tt, tt)) $
           assigns ! (agg ! (and-then ! (local ! 7 refl) (and-then ! (local ! 15 refl) (no-more !)))) (from ! (stop !))
           (init ! 5 refl (tt, (tt, (record { fits = n-fits }, tt)))) $
           move ! (11 ∷ 0 ∷ []) $
-          use2 W (‵ (Arr (mem R) 1679 .lies all l₅ 0)) (whole.out 𝓤 H A W R 1679 all l₅ 0 tt (arrayVal (replicate 1679 held))) $ fsplit ! $ drop ! $
+          use2 W (‵ (Arr (mem R) 1679 .lies all l₆ 0)) (whole.out 𝓤 H A W R 1679 all l₆ 0 tt (arrayVal (replicate 1679 held))) $ fsplit ! $ drop ! $
           -- its first n records, and the rest, which waits with what meter owns
-          rewrite ! 0 (λ (ys : List Line). ‵ (cells (mem R) ys l₅ 0)) (sym (parted most)) refl $
-          use1 W (‵ (cells (mem R) bs l₅ 0) ⊛ ‵ (cells (mem R) rest l₅ (at 0 (mem R .size) (length bs)))) (cut-app 𝓤 H A (mem R) bs rest l₅ 0) $
+          rewrite ! 0 (λ (ys : List Line). ‵ (cells (mem R) ys l₆ 0)) (sym (parted most)) refl $
+          use1 W (‵ (cells (mem R) bs l₆ 0) ⊛ ‵ (cells (mem R) rest l₆ (at 0 (mem R .size) (length bs)))) (cut-app 𝓤 H A (mem R) bs rest l₆ 0) $
           split ! $ move ! (1 ∷ 2 ∷ []) $ join ! $ move ! (1 ∷ 0 ∷ []) $
           -- they are lent for a lifetime made for the call
           lft-new ! tt (λ α. move ! (1 ∷ []) $
-          use1 W (later (some (λ (γ : GName). ‵ (MutSlice erased (α ∷ []) R .own (x l₅ γ) (sliceVal (l₅, 0) (length bs) ∷ [])) ⊛
-          ‵ (flent (α ∷ []) (Held R (length bs) l₅ 0 γ)))))
-          (lends-slice 𝓤 H A W R erased (α ∷ []) bs l₅ 0 (room most)) $ await ! tt $ pick ! (λ γ. split ! $
-          rewrite ! 0 (λ (k : ℕ). ‵ (MutSlice erased (α ∷ []) R .own (x l₅ γ) (sliceVal (l₅, 0) k ∷ []))) (length-replicate n before) refl $
-          -- [the slice; the lender's part; its token; the rest with what meter owns; what meter owns; _9 at 5; …; _5's end at 13; …; the token]
-          move ! (24 ∷ 2 ∷ []) $ split ! $ move ! (2 ∷ 1 ∷ []) $ join ! $ move ! (1 ∷ 0 ∷ []) $ join ! $
-          nothing ! $ move ! (2 ∷ 0 ∷ []) $ fjoin ! $ move ! (4 ∷ 0 ∷ []) $ fjoin ! $
+          use1 W (later (some (λ (γ : GName). ‵ (MutSlice erased (α ∷ []) R .own (x l₆ γ) (sliceVal (l₆, 0) (length bs) ∷ [])) ⊛
+          ‵ (flent (α ∷ []) (Held R (length bs) l₆ 0 γ)))))
+          (lends-slice 𝓤 H A W R erased (α ∷ []) bs l₆ 0 (room most)) $ await ! tt $ pick ! (λ γ. split ! $
+          rewrite ! 0 (λ (k : ℕ). ‵ (MutSlice erased (α ∷ []) R .own (x l₆ γ) (sliceVal (l₆, 0) k ∷ []))) (length-replicate n before) refl $
+          -- [the slice; the lender's part; its token; the rest with what meter owns; what meter owns; _10 at 5; …; _6's end at 13; …; the
+          -- tokens at 26; what revisions owns, twice]
+          move ! (26 ∷ 27 ∷ 2 ∷ []) $ split ! $ move ! (1 ∷ []) $ split ! $ move ! (4 ∷ 1 ∷ []) $ join ! $ move ! (1 ∷ 0 ∷ []) $ join ! $
+          move ! (1 ∷ 0 ∷ []) $ join ! $
+          -- [the tokens; what revisions owns; the slice; the lender's part; the rest with what meter owns; what meter owns; _10 at 6; …]
+          nothing ! $ move ! (3 ∷ 0 ∷ []) $ fjoin ! $ move ! (2 ∷ 0 ∷ []) $ fjoin ! $ move ! (4 ∷ 0 ∷ []) $ fjoin ! $
           owned ! B.the-row (Is B.the-row) ((LL.makes B.the-type B′.the-plain) 𝓤 H A) bk _ is-book $ fjoin ! $
-          calls-says ! fm settle.ended (settle.clauses 𝓤 H A at-mem run) known-settle
-          ((κ, (α ∷ [], tt)), (q, (fullShare, tt)), tt, (bk, (ms, (x l₅ γ, tt))), (book ∷ [], (meter ∷ [], (sliceVal (l₅, 0) n ∷ [], tt)))) tt
-          (id⊢ 𝓤 _) settled-val (LL.tells N.the-type N′.the-laws) (λ r zs. Said r (zs .1 .1 .0)) (λ r zs. refl)
-          (and-then ! (local ! 18 refl) (and-then ! (local ! 16 refl) (and-then ! (local ! 5 refl) (no-more !)))) (λ r zs e is.
-          move ! (1 ∷ []) $ fsplit ! $ drop ! $ fsplit ! $ drop ! $ fsplit ! $ fsplit ! $ move ! (1 ∷ []) $ feqL ! (λ l.
-          -- [the last list; …; the result; the tokens; the lender's part; the rest with what meter owns; _9 at 6; …]
-          move ! (3 ∷ []) $ split ! $ move ! (1 ∷ []) $ split ! $ lft-end ! tt $ move ! (0 ∷ 1 ∷ 2 ∷ 5 ∷ []) $
-          -- [the lifetime is over; true; the token; the result; the last list; …; the lender's part; the rest with what meter owns; _9 at 8; …]
+          calls-says ! fm settle.ended (settle.clauses 𝓤 H A at-mem run) known-settle (
+            (κ, (ρ, (α ∷ [], tt))),
+            (q, (qρ, (fullShare, tt))),
+            tt,
+            (bk, (ms, (rs, (x l₆ γ, tt)))),
+            (book ∷ [], (meter ∷ [], (revisions ∷ [], (sliceVal (l₆, 0) n ∷ [], tt)))),
+          ) tt (id⊢ 𝓤 _) settled-val (LL.tells N.the-type N′.the-laws) (λ r zs. Said r (zs .1 .1 .1 .0)) (λ r zs. refl)
+          (and-then ! (local ! 20 refl) (and-then ! (local ! 18 refl) (and-then ! (local ! 16 refl) (and-then ! (local ! 5 refl) (no-more !)))))
+          (λ r zs e is.
+          move ! (1 ∷ []) $ fsplit ! $ drop ! $ fsplit ! $ drop ! $ fsplit ! $ drop ! $ fsplit ! $ fsplit ! $ move ! (1 ∷ []) $ feqL ! (λ l.
+          -- [the last list; …; the result; the tokens; the lender's part; the rest with what meter owns; _10 at 6; …]
+          move ! (3 ∷ []) $ split ! $ move ! (1 ∷ []) $ split ! $ aside ! $ split ! $ lft-end ! tt $ move ! (0 ∷ 1 ∷ 2 ∷ 5 ∷ []) $
+          -- [the lifetime is over; true; the token; the result; the last list; …; the lender's part; the rest with what meter owns; _10 at 8; …]
           move ! (0 ∷ 6 ∷ 4 ∷ []) $
-          use3 W (later (‵ (Arr (mem R) (length bs) .lies (zs .1 .1 .0) l₅ 0))) (slice-back 𝓤 H A W R (α ∷ []) γ (zs .1 .1 .0) (length bs) l₅ 0) $
+          use3 W (later (‵ (Arr (mem R) (length bs) .lies (zs .1 .1 .1 .0) l₆ 0))) (slice-back 𝓤 H A W R (α ∷ []) γ (zs .1 .1 .1 .0) (length bs) l₆ 0) $
           await ! tt $
           -- the array is whole again
           fsplit ! $ feqL ! (λ len. move ! (5 ∷ []) $ split ! $
-          rewrite ! 0 (λ (k : ℕ). ‵ (cells (mem R) rest l₅ (at 0 (mem R .size) k))) (sym len) refl $
-          move ! (2 ∷ 0 ∷ []) $ use2 W (‵ (cells (mem R) (zs .1 .1 .0 ++ rest) l₅ 0)) (join-app 𝓤 H A (mem R) (zs .1 .1 .0) rest l₅ 0) $
-          feqI ! ℕ (length (zs .1 .1 .0 ++ rest)) 1679 (whole-length most (zs .1 .1 .0) len) $ fjoin ! $ move ! (0 ∷ 2 ∷ 3 ∷ 4 ∷ 5 ∷ 1 ∷ []) $
-          use1 W (‵ (fex Val (λ u. fsep (whole.Cell 𝓤 H A W R 1679 (zs .1 .1 .0 ++ rest) l₅ 0 u)
-          (whole.Own 𝓤 H A W R 1679 (zs .1 .1 .0 ++ rest) l₅ 0 u))))
-          (whole.back 𝓤 H A W R 1679 (zs .1 .1 .0 ++ rest) l₅ 0) $ fpick ! (λ u. fsplit ! $
-          -- [_5; what the array owns; true; the token; the result; …; what meter owns; _9 at 7; …]
+          rewrite ! 0 (λ (k : ℕ). ‵ (cells (mem R) rest l₆ (at 0 (mem R .size) k))) (sym len) refl $
+          move ! (2 ∷ 0 ∷ []) $ use2 W (‵ (cells (mem R) (zs .1 .1 .1 .0 ++ rest) l₆ 0)) (join-app 𝓤 H A (mem R) (zs .1 .1 .1 .0) rest l₆ 0) $
+          feqI ! ℕ (length (zs .1 .1 .1 .0 ++ rest)) 1679 (whole-length most (zs .1 .1 .1 .0) len) $ fjoin ! $ move ! (0 ∷ 2 ∷ 3 ∷ 4 ∷ 5 ∷ 1 ∷ []) $
+          use1 W (‵ (fex Val (λ u. fsep (whole.Cell 𝓤 H A W R 1679 (zs .1 .1 .1 .0 ++ rest) l₆ 0 u)
+          (whole.Own 𝓤 H A W R 1679 (zs .1 .1 .1 .0 ++ rest) l₆ 0 u))))
+          (whole.back 𝓤 H A W R 1679 (zs .1 .1 .1 .0 ++ rest) l₆ 0) $ fpick ! (λ u. fsplit ! $
+          -- [_6; what the array owns; true; the token; the result; …; what meter owns; _10 at 7; …]
           move ! (4 ∷ []) $ land ! (from ! (stop !)) (init ! 13 {τ = N′.mir} refl (LL.lawful N.the-type N′.the-laws 𝓤 H A W .typed r _ is .0)) $
-          move ! (2 ∷ []) $ peeks ! (Array R 1679) (Is (Array R 1679)) (shows 𝓤 H A (Array R 1679)) (zs .1 .1 .0 ++ rest) (u ∷ []) (λ is-lines.
-          -- [what the array owns; the result; _5; true; the token; …; what meter owns; _9 at 7; …]
+          move ! (2 ∷ []) $ peeks ! (Array R 1679) (Is (Array R 1679)) (shows 𝓤 H A (Array R 1679)) (zs .1 .1 .1 .0 ++ rest) (u ∷ []) (λ is-lines.
+          -- [what the array owns; the result; _6; true; the token; …; what meter owns; _10 at 7; …]
           assigns ! (of-opd ! (local ! 2 refl)) (from ! (stop !))
           (init ! 7 {τ = lines-ty} refl
-          (array-lawful 𝓤 H A W R (LL.lawful T.the-type T′.the-laws 𝓤 H A W) 1679 .typed (zs .1 .1 .0 ++ rest) _ is-lines .0)) $
+          (array-lawful 𝓤 H A W R (LL.lawful T.the-type T′.the-laws 𝓤 H A W) 1679 .typed (zs .1 .1 .1 .0 ++ rest) _ is-lines .0)) $
           assigns ! (agg ! (and-then ! (local ! 13 refl) (and-then ! (local ! 7 refl) (no-more !)))) (from ! (stop !))
-          (init ! 24 {τ = L′.mir} refl
-          (LL.lawful L.the-type L′.the-laws 𝓤 H A W .typed (got r (zs .1 .1 .0)) _ (is-got r (zs .1 .1 .0) u is is-lines) .0)) $
-          returns ! (look ! 24 refl) $ gone ! 24 refl refl $ gone ! 22 refl refl $ gone ! 20 refl refl $ gone ! 18 refl refl $ gone ! 16 refl refl $
-          forget ! 2 refl $ move ! (2 ∷ 15 ∷ []) $ free1 ! $ gone ! 12 refl refl $ gone ! 10 refl refl $ gone ! 8 refl refl $ gone ! 6 refl refl $
-          free0 ! $ keep ! (3 ∷ 5 ∷ []) $ by ! (exits r (zs .1 .1 .0) u e (is-got r (zs .1 .1 .0) u is is-lines))))))))))))))))))))
+          (init ! 26 {τ = L′.mir} refl
+          (LL.lawful L.the-type L′.the-laws 𝓤 H A W .typed (got r (zs .1 .1 .1 .0)) _ (is-got r (zs .1 .1 .1 .0) u is is-lines) .0)) $
+          returns ! (look ! 26 refl) $ gone ! 26 refl refl $ gone ! 24 refl refl $ gone ! 22 refl refl $ gone ! 20 refl refl $ gone ! 18 refl refl $
+          gone ! 16 refl refl $ forget ! 2 refl $ move ! (2 ∷ 15 ∷ []) $ free1 ! $ gone ! 12 refl refl $ gone ! 10 refl refl $ gone ! 8 refl refl $
+          gone ! 6 refl refl $ free0 ! $ keep ! (3 ∷ 5 ∷ 6 ∷ 7 ∷ []) $
+          by ! (exits r (zs .1 .1 .1 .0) u e (is-got r (zs .1 .1 .1 .0) u is is-lines)))))))))))))))))))))
 
 pub settle-into-spec : {M : Type 1} → stated.statement M
 unfolding code.routine tablesOf
@@ -258,15 +280,25 @@ settle-into-spec 𝓤 H 𝓜 𝓖 𝓡 =
     let W = givenOf 𝓤 H 𝓜 𝓖 in
     let 𝓣 = tablesOf 𝓤 H 𝓜 (tables 𝓤 H 𝓜 𝓡 code.env) in
     closed 𝓤 H 𝓜 𝓖 𝓡 code.env #settle-into code.function settled.ended stayed (settled.clauses 𝓤 H (𝓖 .A) (𝓜 .mem) (𝓡 .run)) (code.unfolded 𝓤 H 𝓜 𝓡) (
-      goes-none 𝓤 H (𝓖 .A) W 1 (λ _. B.the-row) yes (λ κs x f. refl),
+      goes-none 𝓤 H (𝓖 .A) W 2 (λ _. B.the-row) yes (λ κs x f. refl),
       (
-        goes-none-slice 𝓤 H (𝓖 .A) W 1 (0 ∷ []) tt (plain (λ _. i32)) yes,
-        (goes-none 𝓤 H (𝓖 .A) W 1 (λ _. usize) yes (λ κs x f. refl), (goes-none 𝓤 H (𝓖 .A) W 1 (λ _. R) yes (λ κs x f. refl), tt)),
+        goes-none-slice 𝓤 H (𝓖 .A) W 2 (0 ∷ []) tt (plain (λ _. i32)) yes,
+        (
+          goes-none-slice 𝓤 H (𝓖 .A) W 2 (1 ∷ []) tt (plain (λ _. u8)) yes,
+          (goes-none 𝓤 H (𝓖 .A) W 2 (λ _. usize) yes (λ κs x f. refl), (goes-none 𝓤 H (𝓖 .A) W 2 (λ _. R) yes (λ κs x f. refl), tt)),
+        ),
       ),
     )
-    (λ κs. (LL.vals B.the-type B′.the-laws, (slice-vals, (uint-vals w64, (LL.vals T.the-type T′.the-laws, tt)))))
-    (λ κs. (LL.tells B.the-type B′.the-laws, (shr-slice-tells (named 0) (κs .0) i32, (uint-tells w64, (LL.tells T.the-type T′.the-laws, tt)))))
-    (λ κs qs bounds a g are. needs 𝓤 (a .1 .1 .0 ≤ 1679) _ (λ most.
-    walk 𝓤 H (𝓖 .A) W (𝓜 .mem) (𝓡 .run) (κs .0) (qs .0) (a .0) (a .1 .0) (a .1 .1 .0) (a .1 .1 .1 .0) most (are .1 .1 .0 .1) (are .0)
-    (are .1 .1 .1 .0) (𝓣 .C) (𝓣 .Λ) (fmOf 𝓤 H (W .laws) 𝓣)
-    (cited 𝓤 H _ 𝓜 𝓡 code.env #settle settle-def.routine code.calls-settle-records·lent·settle (settle-thm.met 𝓤 H 𝓜 𝓖 𝓡)) (are .1 .0)))
+    (λ κs. (LL.vals B.the-type B′.the-laws, (slice-vals, (slice-vals, (uint-vals w64, (LL.vals T.the-type T′.the-laws, tt))))))
+    (λ κs. (
+      LL.tells B.the-type B′.the-laws,
+      (
+        shr-slice-tells (named 0) (κs .0) i32,
+        (shr-slice-tells (named 1) (κs .1 .0) u8, (uint-tells w64, (LL.tells T.the-type T′.the-laws, tt))),
+      ),
+    ))
+    (λ κs qs bounds a g are. needs 𝓤 (a .1 .1 .1 .0 ≤ 1679) _ (λ most.
+    walk 𝓤 H (𝓖 .A) W (𝓜 .mem) (𝓡 .run) (κs .0) (κs .1 .0) (qs .0) (qs .1 .0) (a .0) (a .1 .0) (a .1 .1 .0) (a .1 .1 .1 .0) (a .1 .1 .1 .1 .0)
+    most (are .1 .1 .1 .0 .1) (are .0) (are .1 .1 .1 .1 .0) (𝓣 .C) (𝓣 .Λ) (fmOf 𝓤 H (W .laws) 𝓣)
+    (cited 𝓤 H _ 𝓜 𝓡 code.env #settle settle-def.routine code.calls-settle-records·lent·settle (settle-thm.met 𝓤 H 𝓜 𝓖 𝓡)) (are .1 .0)
+    (are .1 .1 .0)))

@@ -7,10 +7,10 @@ use Rattle.test_script.proofs.month.settle_listed.Statement.{statement}
 use Rattle.test_script.proofs.month.settle_listed.Tie as tie
 
 abbrev Inv-loop : tie.InvT-loop
-Inv-loop meter made settlement lines₀ i₀ lines i = length lines ≡ 1679
+Inv-loop meter revisions made settlement lines₀ i₀ lines i = length lines ≡ 1679
 
 abbrev μ-loop : tie.MeasureT-loop
-μ-loop meter made settlement lines₀ i₀ lines i = 719 - i
+μ-loop meter revisions made settlement lines₀ i₀ lines i = 719 - i
 
 pub settle-listed-spec : {M : Type 1} → statement M
 settle-listed-spec =
