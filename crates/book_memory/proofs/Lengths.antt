@@ -1,9 +1,13 @@
 -- The room in lent memory: no more than either length, and the same in memory of the same lengths.
 use mathlib.Core.Path.{_≡_, sym, ap₂, _∙_}
-use Prim.Native.Nat.{ℕ, _≤_, _<_, min}
-use native.Mathlib.Nat.{min-le-left, min-le-right, min-eq-left, min-eq-right, le-refl}
+use mathlib.Core.Bool.{_&&_}
+use Prim.Native.Nat.{ℕ, suc, _≤_, _<_, min}
+use native.Mathlib.Nat.{min-le-left, min-le-right, min-eq-left, min-eq-right, le-min, le-refl}
 use native.Mathlib.Omega.{arith}
 use lib.IntN.{ℤ}
+use lib.Dec.{ltb}
+use borrow.Author.Tests.{ltb-true, ltb-false, lt-ltb, le-ltb}
+use Rattle.energy.proofs.Tests.{either}
 use lib.ListN.{length, replicate, length-replicate, length-append, length-drop, length-set}
 use Rattle.book_memory.specs.Meter.{Memory, missing, lent, roomIn, markedTo, writtenAt}
 
@@ -31,6 +35,20 @@ room-same m n c r = ap₂ min c r
 -- a minute that there is room for has a cell and a byte
 pub room-holds : (m : Memory) (i : ℕ) → i < roomIn m → (i < length (m .cells)) × (i < length (m .revisions))
 room-holds m i h = (omega (arith, h, room-cells m), omega (arith, h, room-revisions m))
+
+-- there is room for it where both have a place for it
+pub room-test : (m : Memory) (i : ℕ) → (ltb i (length (m .cells)) && ltb i (length (m .revisions))) ≡ ltb i (roomIn m)
+unfolding roomIn
+room-test m i =
+    either (ltb i (length (m .cells)))
+    (λ c.
+    either (ltb i (length (m .revisions)))
+    (λ r.
+    let both : suc i ≤ min (length (m .cells)) (length (m .revisions)) =
+    le-min (omega (arith, ltb-true i (length (m .cells)) c)) (omega (arith, ltb-true i (length (m .revisions)) r)) in
+    rw (c, r, lt-ltb i (min (length (m .cells)) (length (m .revisions))) (omega arith)))
+    (λ r. rw (c, r, le-ltb i (min (length (m .cells)) (length (m .revisions))) (omega (arith, room-revisions m, ltb-false i (length (m .revisions)) r)))))
+    (λ c. rw (c, le-ltb i (min (length (m .cells)) (length (m .revisions))) (omega (arith, room-cells m, ltb-false i (length (m .cells)) c))))
 
 -- ---- what commands put leaves the room
 

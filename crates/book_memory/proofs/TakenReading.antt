@@ -1,7 +1,7 @@
 -- A reading that is taken into lent memory: what is known of it, by its revision.
 use mathlib.Core.Path.{_≡_, refl, sym, _∙_}
 use mathlib.Core.Logic.{_≢_}
-use mathlib.Core.Bool.{Bool, true, false, not, _&&_}
+use mathlib.Core.Bool.{Bool, true, false, not, _&&_, and-true, and-false}
 use Prim.Native.Nat.{ℕ, _<_, zero, suc}
 use lib.Dec.{T, eqb, ltb}
 use borrow.Author.Tests.{ltb-true, not-true, eq-eqb, ne-eqb, eqb-true}
@@ -27,6 +27,15 @@ takes span m input n r = input && ltb (r .minute .0) span && ltb (r .minute .0) 
 pub takes-revised : (span : ℕ) (m : Memory) (n : ℕ) (r : Reading) → takesReading span m (revisedAs n r) ≡ takes span m (eqb (inputRefusal (revisedAs n r)) 0) n r
 unfolding takesReading
 takes-revised span m n r = on-revised (takes span m (eqb (inputRefusal (revisedAs n r)) 0)) (always false) n r
+
+-- without room it is not taken; with it, and its operands in range, the others decide
+module _ (span : ℕ) (m : Memory) (n : ℕ) (r : Reading) where
+  pub no-room : ltb (r .minute .0) (roomIn m) ≡ false → false ≡ takesReading span m (revisedAs n r)
+  no-room e = sym (takes-revised span m n r ∙ rw (e, and-false))
+
+  pub by-others : inputRefusal (revisedAs n r) ≡ 0 → ltb (r .minute .0) (roomIn m) ≡ true
+      → (ltb (r .minute .0) span && not (notAbove n (meteredAt m (r .minute .0)))) ≡ takesReading span m (revisedAs n r)
+  by-others i e = sym (takes-revised span m n r ∙ rw (eq-eqb (inputRefusal (revisedAs n r)) 0 i, e, and-true))
 
 pub record Tests (span : ℕ) (m : Memory) (fits : Bool) (n : ℕ) (r : Reading) : Type 0 where
   pub input : fits ≡ true

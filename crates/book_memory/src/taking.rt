@@ -10,7 +10,7 @@ ghost use Rattle.commands.specs.Input.{isReading, inputRefusal};
 ghost use Rattle.book_memory.specs.Meter.{lent, writtenAt, putMeter, takesReading};
 use crate::revisions::not_above;
 use crate::revisions::put_revision;
-use crate::room::room_of;
+use crate::room::has_room;
 use commands::contract::Contract;
 use commands::entries::Command;
 use commands::entries::Reading;
@@ -68,7 +68,10 @@ fn is_taken(span: usize, number: u8, r: Reading, meter: &[i32], revisions: &[u8]
 {
     let minute = r.minute;
     let at = minute.0 as usize;
-    (at < span) & (at < room_of(meter, revisions)) & !not_above(number, meter, revisions, minute)
+    if !has_room(meter, revisions, at) {
+        return false;
+    }
+    (at < span) & !not_above(number, meter, revisions, minute)
 }
 
 // Puts a reading into its minute's cell, and its revision into the minute's byte.

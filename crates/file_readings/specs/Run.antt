@@ -3,7 +3,7 @@ use mathlib.Core.Path.{_≡_}
 use mathlib.Core.Bool.{Bool, cond, _&&_}
 use mathlib.Core.List.{List}
 use mathlib.Core.Option.{Option, none, some}
-use Prim.Native.Nat.{ℕ, zero, suc, _-_, _≤_}
+use Prim.Native.Nat.{ℕ, zero, suc, _-_, _≤_, _<_}
 use lib.IntN.{ℤ}
 use lib.Dec.{eqb, leb, ltb}
 use lib.ListN.{length, getD}
@@ -32,15 +32,15 @@ standBy span at meter End = record { at = at; meter = meter }
 unfoldable pub standAt : ℕ → List ℕ → ℕ → Memory → Stand
 standAt span s at meter = standBy span at meter (readAt s at)
 
+-- nothing is taken at a position
+abbrev pub Still : ℕ → List ℕ → ℕ → Memory → Type 0
+Still span s at meter = standAt span s at meter ≡ record { at = at; meter = meter }
+
 -- ---- many of them
 
--- how long a reading is that starts with a byte: a plain one, or one sent again; 0 where none does
-unfoldable pub readingLength : ℕ → ℕ
-readingLength b = cond (eqb b 0x4D) 7 (cond (eqb b 0x52) 8 0)
-
--- a whole reading stands at a position
-unfoldable pub wholeReading : List ℕ → ℕ → Bool
-wholeReading s at = ltb at (length s) && (ltb 0 (readingLength (getD s at 0)) && leb (readingLength (getD s at 0)) (length s - at))
+-- a command with this byte stands at a position with all of its bytes
+unfoldable pub standsWhole : List ℕ → ℕ → ℕ → ℕ → Bool
+standsWhole s at byte n = ltb at (length s) && eqb (getD s at 0) byte && leb n (length s - at)
 
 -- so many positions on
 unfoldable pub stands : ℕ → ℕ → List ℕ → Stand → Stand
@@ -52,4 +52,4 @@ pub record Run (span : ℕ) (s : List ℕ) (at : ℕ) (meter : Memory) (next : �
   pub turns : ℕ
   pub reached : stands turns span s (record { at = at; meter = meter }) ≡ record { at = next; meter = after }
   pub forward : at ≤ next
-  pub inside : at ≤ length s → next ≤ length s
+  pub inside : at < next → next ≤ length s

@@ -5,7 +5,7 @@ ghost use Prim.Native.Nat.{_+_, _≤_, _<_, _^_};
 ghost use lib.ListN.{length, getD, take, drop};
 ghost use Rattle.rules.specs.File.{wordFrom, signedOf};
 ghost use Rattle.book_memory.specs.Meter.{lent};
-ghost use Rattle.file_readings.specs.Run.{ranged, readingLength, wholeReading, standAt, Run};
+ghost use Rattle.file_readings.specs.Run.{ranged, standsWhole, standAt, Still, Run};
 use book_memory::taking::take_reading;
 use book_memory::taking::take_revision;
 use commands::contract::Contract;
@@ -22,26 +22,14 @@ use file_table::table::READING_LENGTH;
 use file_table::table::REVISION_BYTE;
 use file_table::table::REVISION_LENGTH;
 
-// How long a reading is that starts with a byte; 0 where none does.
-fn reading_length(byte: u8) -> usize
-    ensures { λ r. ⌜ r ≡ readingLength byte ⌝ }
-{
-    match byte {
-        READING_BYTE => READING_LENGTH as usize,
-        REVISION_BYTE => REVISION_LENGTH as usize,
-        _ => 0,
-    }
-}
-
-// Whether a whole reading stands at a position.
-fn whole_reading(s: &[u8], at: usize) -> bool
-    ensures { λ r. ⌜ r ≡ wholeReading (now (s .entry)) at ⌝ }
+// Whether a command with this byte stands at a position with all of its bytes.
+fn stands_whole(s: &[u8], at: usize, byte: u8, length: u8) -> bool
+    ensures { λ r. ⌜ r ≡ standsWhole (now (s .entry)) at byte length ⌝ }
 {
     if s.len() <= at {
         return false;
     }
-    let n = reading_length(s[at]);
-    (0 < n) & (n <= s.len() - at)
+    (s[at] == byte) & (length as usize <= s.len() - at)
 }
 
 // The kW that four bytes say, where it is in a reading's range; where it is not, some number that is not either. Raised by as much as a reading
@@ -108,20 +96,46 @@ fn take_revised(span: usize, s: &[u8], at: usize, meter: &mut [i32], revisions: 
     }
 }
 
-// Either of them.
+// Either of them, where one stands; the position itself where none does.
 fn take_at(span: usize, s: &[u8], at: usize, meter: &mut [i32], revisions: &mut [u8]) -> usize
-    requires { ⌜ wholeReading (now s) at ≡ true ⌝ }
     ensures { λ r. ⌜ (r ≡ standAt span (now (s .entry)) at (lent (now (meter .entry)) (now (revisions .entry))) .at)
         × (lent (now (meter .exit)) (now (revisions .exit)) ≡ standAt span (now (s .entry)) at (lent (now (meter .entry)) (now (revisions .entry))) .meter) ⌝ }
 {
-    if s[at] == READING_BYTE {
-        take_plain(span, s, at, meter, revisions)
-    } else {
-        take_revised(span, s, at, meter, revisions)
+    if stands_whole(s, at, READING_BYTE, READING_LENGTH) {
+        return take_plain(span, s, at, meter, revisions);
     }
+    if stands_whole(s, at, REVISION_BYTE, REVISION_LENGTH) {
+        return take_revised(span, s, at, meter, revisions);
+    }
+    at
 }
 
-// Takes the readings from a position on, and says where the first command stands that is none or is not taken in the span.
+// Takes the readings of one kind from a position on, and says where the first command stands that is none of them or is not taken. A loop for each
+// kind, so that the compiler has each reading's length and its place for the kW as numbers.
+fn take_run(
+    span: usize,
+    s: &[u8],
+    start: usize,
+    byte: u8,
+    length: u8,
+    meter: &mut [i32],
+    revisions: &mut [u8],
+) -> usize
+    ensures { λ r. ⌜ Run span (now (s .entry)) start (lent (now (meter .entry)) (now (revisions .entry))) r (lent (now (meter .exit)) (now (revisions .exit))) ⌝ }
+    ensures { λ r. ⌜ (standsWhole (now (s .entry)) r byte length ≡ true → Still span (now (s .entry)) r (lent (now (meter .exit)) (now (revisions .exit)))) ⌝ }
+{
+    let mut at = start;
+    while stands_whole(s, at, byte, length) {
+        let next = take_at(span, s, at, meter, revisions);
+        if next == at {
+            return at;
+        }
+        at = next;
+    }
+    at
+}
+
+// Takes the readings of either kind from a position on, and says where the first command stands that is none or is not taken in the span.
 pub fn take_readings(
     span: usize,
     s: &[u8],
@@ -130,16 +144,31 @@ pub fn take_readings(
     revisions: &mut [u8],
 ) -> usize
     ensures { λ r. ⌜ Run span (now (s .entry)) start (lent (now (meter .entry)) (now (revisions .entry))) r (lent (now (meter .exit)) (now (revisions .exit))) ⌝ }
-    ensures { λ r. ⌜ standAt span (now (s .entry)) r (lent (now (meter .exit)) (now (revisions .exit)))
-        ≡ record { at = r; meter = lent (now (meter .exit)) (now (revisions .exit)) } ⌝ }
+    ensures { λ r. ⌜ Still span (now (s .entry)) r (lent (now (meter .exit)) (now (revisions .exit))) ⌝ }
 {
-    let mut at = start;
-    while whole_reading(s, at) {
-        let next = take_at(span, s, at, meter, revisions);
-        if next == at {
-            return at;
+    let mut from = start;
+    loop {
+        let plain = take_run(
+            span,
+            s,
+            from,
+            READING_BYTE,
+            READING_LENGTH,
+            meter,
+            revisions,
+        );
+        let both = take_run(
+            span,
+            s,
+            plain,
+            REVISION_BYTE,
+            REVISION_LENGTH,
+            meter,
+            revisions,
+        );
+        if both == from {
+            return from;
         }
-        at = next;
+        from = both;
     }
-    at
 }

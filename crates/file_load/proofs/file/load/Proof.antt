@@ -10,6 +10,7 @@ use Rattle.book.specs.Readings.{openSpan}
 use Rattle.book.specs.Sound.{Shaped}
 use Rattle.book.proofs.StaysSound.{Kept}
 use Rattle.rules.proofs.Folds.{length-mapped}
+use Rattle.file_readings.proofs.Runs.{stays-inside}
 use Rattle.file_load.specs.Load.{load}
 use Rattle.file_load.proofs.From.{from}
 use Rattle.file_load.proofs.Turns.{rest, more, turned, run-again}
@@ -42,7 +43,7 @@ loop-less c =
     let at = c .before .before .before .before .before .before .before .before .before .before .before .before .before .before .before .before .before .before .before .before in
     let turn = turned (at .before .before .before .before .before .before .before .args .s .now) (r .take-readings .result) (at .loop .l .book) _ (d .read-and-enter .ensures) in
     let run = r .take-readings .ensures .0 in
-    rw (c .before .before .before .before .before .before .before .before .before .before .before .before .before .before .before .before .before .before .before .loop-test .taken) (omega (arith, run .forward, turn .less (run .inside (at .loop .inv .2))))
+    rw (c .before .before .before .before .before .before .before .before .before .before .before .before .before .before .before .before .before .before .before .loop-test .taken) (omega (arith, run .forward, turn .less (stays-inside run (at .loop .inv .2))))
 
 loop-again : tie.Need-loop-again Inv-loop μ-loop
 loop-again c =
@@ -57,7 +58,7 @@ loop-again c =
           ∙ sym (run-again s (at .loop .l .at) (at .loop .l .book) (at .loop .span) (lent (at .loop .meter) (at .loop .revisions)) _ _ run (inv .1) (inv .5))
           ∙ (rw (c .before .before .before .before .before .before .before .before .before .before .before .before .before .before .before .before .before .before .before .loop-test .taken) at (inv .0)),
       turn .keeps (inv .1),
-      turn .inside (run .inside (inv .2)),
+      turn .inside (stays-inside run (inv .2)),
       search needs,
       search needs,
       c .open-span2 .ensures ∙ ap (openSpan _) (c .before .room-of2 .ensures),
