@@ -80,5 +80,6 @@ pub reading-enters : (b : Book) (meter : Memory) (c : Command) → sound b ≡ t
 unfolding Entering
 reading-enters b meter =
     metered-or-not (Entering b meter) (λ r s t. enters b meter s 0 r t)
-    (λ v s t. subst (Entering b meter) (revision-is v (taken-input (openSpan b (roomIn meter)) meter v t)) (λ s t. enters b meter s (v .number) (v .reading) t) s t)
+    (λ v s t. subst (Entering b meter) (revision-is v (taken-input (openSpan b (roomIn meter)) meter v t))
+    (λ s t. enters b meter s (v .number) (v .reading) t) s t)
     (λ c o q s t. absurd (false≢true (unfold takesReading in sym (o _ _ _ ∙ q _ _ (always false)) ∙ t)))

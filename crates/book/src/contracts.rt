@@ -18,7 +18,8 @@ use commands::entries::Command;
 impl Book {
     // Enters a contract.
     pub fn contract(mut self, k: Contract, meter: &mut [i32], revisions: &mut [u8]) -> Entry
-        ensures { λ r. ⌜ Enters self (lent (now (meter .entry)) (now (revisions .entry))) (Command.Contract k) r (lent (now (meter .exit)) (now (revisions .exit))) ⌝ }
+        ensures { λ r. ⌜ Enters self (lent (now (meter .entry)) (now (revisions .entry))) (Command.Contract k) r
+            (lent (now (meter .exit)) (now (revisions .exit))) ⌝ }
     {
         let sound = self.sound();
         self.enter_contract(sound, k, meter, revisions)
@@ -33,7 +34,8 @@ impl Book {
         revisions: &mut [u8],
     ) -> Entry
         requires { ⌜ sound ≡ soundOf self ⌝ }
-        ensures { λ r. ⌜ Enters self (lent (now (meter .entry)) (now (revisions .entry))) (Command.Contract k) r (lent (now (meter .exit)) (now (revisions .exit))) ⌝ }
+        ensures { λ r. ⌜ Enters self (lent (now (meter .entry)) (now (revisions .entry))) (Command.Contract k) r
+            (lent (now (meter .exit)) (now (revisions .exit))) ⌝ }
     {
         match k.offer() {
             Offer::Agreed(agreed) => self.agree(sound, agreed, meter, revisions),
@@ -44,7 +46,8 @@ impl Book {
     // The same of a contract whose operands are not turned down. Its span is marked, and cleared of revisions.
     fn agree(mut self, sound: bool, k: Contract, meter: &mut [i32], revisions: &mut [u8]) -> Entry
         requires { ⌜ (sound ≡ soundOf self) × (inputRefusal (Command.Contract k) ≡ 0) ⌝ }
-        ensures { λ r. ⌜ Enters self (lent (now (meter .entry)) (now (revisions .entry))) (Command.Contract k) r (lent (now (meter .exit)) (now (revisions .exit))) ⌝ }
+        ensures { λ r. ⌜ Enters self (lent (now (meter .entry)) (now (revisions .entry))) (Command.Contract k) r
+            (lent (now (meter .exit)) (now (revisions .exit))) ⌝ }
     {
         let span = span_of(k);
         let short = room_of(meter, revisions) < span;

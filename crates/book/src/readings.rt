@@ -18,7 +18,8 @@ use commands::entries::Revision;
 impl Book {
     // Enters a reading.
     pub fn reading(mut self, r: Reading, meter: &mut [i32], revisions: &mut [u8]) -> Entry
-        ensures { λ e. ⌜ Enters self (lent (now (meter .entry)) (now (revisions .entry))) (Command.Reading r) e (lent (now (meter .exit)) (now (revisions .exit))) ⌝ }
+        ensures { λ e. ⌜ Enters self (lent (now (meter .entry)) (now (revisions .entry))) (Command.Reading r) e
+            (lent (now (meter .exit)) (now (revisions .exit))) ⌝ }
     {
         let sound = self.sound();
         self.enter_reading(sound, r, meter, revisions)
@@ -26,7 +27,8 @@ impl Book {
 
     // Enters a reading that was sent again.
     pub fn revision(mut self, v: Revision, meter: &mut [i32], revisions: &mut [u8]) -> Entry
-        ensures { λ e. ⌜ Enters self (lent (now (meter .entry)) (now (revisions .entry))) (Command.Revision v) e (lent (now (meter .exit)) (now (revisions .exit))) ⌝ }
+        ensures { λ e. ⌜ Enters self (lent (now (meter .entry)) (now (revisions .entry))) (Command.Revision v) e
+            (lent (now (meter .exit)) (now (revisions .exit))) ⌝ }
     {
         let sound = self.sound();
         self.enter_revision(sound, v, meter, revisions)
@@ -41,7 +43,8 @@ impl Book {
         revisions: &mut [u8],
     ) -> Entry
         requires { ⌜ sound ≡ soundOf self ⌝ }
-        ensures { λ e. ⌜ Enters self (lent (now (meter .entry)) (now (revisions .entry))) (Command.Reading r) e (lent (now (meter .exit)) (now (revisions .exit))) ⌝ }
+        ensures { λ e. ⌜ Enters self (lent (now (meter .entry)) (now (revisions .entry))) (Command.Reading r) e
+            (lent (now (meter .exit)) (now (revisions .exit))) ⌝ }
     {
         let input = r.input_refusal();
         if input != 0 {
@@ -58,7 +61,8 @@ impl Book {
         revisions: &mut [u8],
     ) -> Entry
         requires { ⌜ sound ≡ soundOf self ⌝ }
-        ensures { λ e. ⌜ Enters self (lent (now (meter .entry)) (now (revisions .entry))) (Command.Revision v) e (lent (now (meter .exit)) (now (revisions .exit))) ⌝ }
+        ensures { λ e. ⌜ Enters self (lent (now (meter .entry)) (now (revisions .entry))) (Command.Revision v) e
+            (lent (now (meter .exit)) (now (revisions .exit))) ⌝ }
     {
         let input = v.input_refusal();
         if input != 0 {
@@ -78,7 +82,8 @@ impl Book {
         revisions: &mut [u8],
     ) -> Entry
         requires { ⌜ (sound ≡ soundOf self) × (inputRefusal (revisedAs number r) ≡ 0) ⌝ }
-        ensures { λ e. ⌜ Enters self (lent (now (meter .entry)) (now (revisions .entry))) (revisedAs number r) e (lent (now (meter .exit)) (now (revisions .exit))) ⌝ }
+        ensures { λ e. ⌜ Enters self (lent (now (meter .entry)) (now (revisions .entry))) (revisedAs number r) e
+            (lent (now (meter .exit)) (now (revisions .exit))) ⌝ }
     {
         let room = room_of(meter, revisions);
         let met = self.first_refusal(0, sound, room);

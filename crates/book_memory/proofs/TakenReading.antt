@@ -24,7 +24,8 @@ use Rattle.book_memory.specs.Meter.{Memory, roomIn, meteredAt, writtenAt
 abbrev pub takes : ℕ → Memory → Bool → ℕ → Reading → Bool
 takes span m input n r = input && ltb (r .minute .0) span && ltb (r .minute .0) (roomIn m) && not (notAbove n (meteredAt m (r .minute .0)))
 
-pub takes-revised : (span : ℕ) (m : Memory) (n : ℕ) (r : Reading) → takesReading span m (revisedAs n r) ≡ takes span m (eqb (inputRefusal (revisedAs n r)) 0) n r
+pub takes-revised : (span : ℕ) (m : Memory) (n : ℕ) (r : Reading) → takesReading span m (revisedAs n r) ≡ takes span m
+    (eqb (inputRefusal (revisedAs n r)) 0) n r
 unfolding takesReading
 takes-revised span m n r = on-revised (takes span m (eqb (inputRefusal (revisedAs n r)) 0)) (always false) n r
 

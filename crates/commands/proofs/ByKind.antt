@@ -33,37 +33,45 @@ Not {X} on c = (A : Type 0) (f : X → A) (g : Command → A) → on A f g c ≡
 module _ (P : Command → Type 0) where
   pub contract-or-not : ((k : Contract) → P (contractᶜ k)) → ((c : Command) → Not (λ A. onContract) c → P c) → (c : Command) → P c
   contract-or-not f g =
-      by-kind P f (λ w. g _ (λ A p q. refl)) (λ i. g _ (λ A p q. refl)) (λ d. g _ (λ A p q. refl)) (λ r. g _ (λ A p q. refl)) (λ v. g _ (λ A p q. refl)) (g _ (λ A p q. refl))
+      by-kind P f (λ w. g _ (λ A p q. refl)) (λ i. g _ (λ A p q. refl)) (λ d. g _ (λ A p q. refl)) (λ r. g _ (λ A p q. refl)) (λ v. g _ (λ A p q. refl))
+      (g _ (λ A p q. refl))
 
   pub window-or-not : ((w : Window) → P (windowᶜ w)) → ((c : Command) → Not (λ A. onWindow) c → P c) → (c : Command) → P c
   window-or-not f g =
-      by-kind P (λ k. g _ (λ A p q. refl)) f (λ i. g _ (λ A p q. refl)) (λ d. g _ (λ A p q. refl)) (λ r. g _ (λ A p q. refl)) (λ v. g _ (λ A p q. refl)) (g _ (λ A p q. refl))
+      by-kind P (λ k. g _ (λ A p q. refl)) f (λ i. g _ (λ A p q. refl)) (λ d. g _ (λ A p q. refl)) (λ r. g _ (λ A p q. refl)) (λ v. g _ (λ A p q. refl))
+      (g _ (λ A p q. refl))
 
   pub instruction-or-not : ((i : Instruction) → P (instructionᶜ i)) → ((c : Command) → Not (λ A. onInstruction) c → P c) → (c : Command) → P c
   instruction-or-not f g =
-      by-kind P (λ k. g _ (λ A p q. refl)) (λ w. g _ (λ A p q. refl)) f (λ d. g _ (λ A p q. refl)) (λ r. g _ (λ A p q. refl)) (λ v. g _ (λ A p q. refl)) (g _ (λ A p q. refl))
+      by-kind P (λ k. g _ (λ A p q. refl)) (λ w. g _ (λ A p q. refl)) f (λ d. g _ (λ A p q. refl)) (λ r. g _ (λ A p q. refl)) (λ v. g _ (λ A p q. refl))
+      (g _ (λ A p q. refl))
 
   pub default-or-not : ((d : Default) → P (defaultᶜ d)) → ((c : Command) → Not (λ A. onDefault) c → P c) → (c : Command) → P c
   default-or-not f g =
-      by-kind P (λ k. g _ (λ A p q. refl)) (λ w. g _ (λ A p q. refl)) (λ i. g _ (λ A p q. refl)) f (λ r. g _ (λ A p q. refl)) (λ v. g _ (λ A p q. refl)) (g _ (λ A p q. refl))
+      by-kind P (λ k. g _ (λ A p q. refl)) (λ w. g _ (λ A p q. refl)) (λ i. g _ (λ A p q. refl)) f (λ r. g _ (λ A p q. refl)) (λ v. g _ (λ A p q. refl))
+      (g _ (λ A p q. refl))
 
   pub reading-or-not : ((r : Reading) → P (readingᶜ r)) → ((c : Command) → Not (λ A. onReading) c → P c) → (c : Command) → P c
   reading-or-not f g =
-      by-kind P (λ k. g _ (λ A p q. refl)) (λ w. g _ (λ A p q. refl)) (λ i. g _ (λ A p q. refl)) (λ d. g _ (λ A p q. refl)) f (λ v. g _ (λ A p q. refl)) (g _ (λ A p q. refl))
+      by-kind P (λ k. g _ (λ A p q. refl)) (λ w. g _ (λ A p q. refl)) (λ i. g _ (λ A p q. refl)) (λ d. g _ (λ A p q. refl)) f (λ v. g _ (λ A p q. refl))
+      (g _ (λ A p q. refl))
 
   pub revision-or-not : ((v : Revision) → P (revisionᶜ v)) → ((c : Command) → Not (λ A. onRevision) c → P c) → (c : Command) → P c
   revision-or-not f g =
-      by-kind P (λ k. g _ (λ A p q. refl)) (λ w. g _ (λ A p q. refl)) (λ i. g _ (λ A p q. refl)) (λ d. g _ (λ A p q. refl)) (λ r. g _ (λ A p q. refl)) f (g _ (λ A p q. refl))
+      by-kind P (λ k. g _ (λ A p q. refl)) (λ w. g _ (λ A p q. refl)) (λ i. g _ (λ A p q. refl)) (λ d. g _ (λ A p q. refl)) (λ r. g _ (λ A p q. refl)) f
+      (g _ (λ A p q. refl))
 
   pub close-or-not : P closeᶜ → ((c : Command) → Not {X = Unit} (λ A f. onClose (f tt)) c → P c) → (c : Command) → P c
   close-or-not f g =
-      by-kind P (λ k. g _ (λ A p q. refl)) (λ w. g _ (λ A p q. refl)) (λ i. g _ (λ A p q. refl)) (λ d. g _ (λ A p q. refl)) (λ r. g _ (λ A p q. refl)) (λ v. g _ (λ A p q. refl)) f
+      by-kind P (λ k. g _ (λ A p q. refl)) (λ w. g _ (λ A p q. refl)) (λ i. g _ (λ A p q. refl)) (λ d. g _ (λ A p q. refl)) (λ r. g _ (λ A p q. refl))
+      (λ v. g _ (λ A p q. refl)) f
 
   -- a reading of either kind, or neither
   pub metered-or-not : ((r : Reading) → P (readingᶜ r)) → ((v : Revision) → P (revisionᶜ v))
       → ((c : Command) → Not (λ A. onReading) c → Not (λ A. onRevision) c → P c) → (c : Command) → P c
   metered-or-not f h g =
-      by-kind P (λ k. g _ (λ A p q. refl) (λ A p q. refl)) (λ w. g _ (λ A p q. refl) (λ A p q. refl)) (λ i. g _ (λ A p q. refl) (λ A p q. refl)) (λ d. g _ (λ A p q. refl) (λ A p q. refl)) f h (g _ (λ A p q. refl) (λ A p q. refl))
+      by-kind P (λ k. g _ (λ A p q. refl) (λ A p q. refl)) (λ w. g _ (λ A p q. refl) (λ A p q. refl)) (λ i. g _ (λ A p q. refl) (λ A p q. refl))
+      (λ d. g _ (λ A p q. refl) (λ A p q. refl)) f h (g _ (λ A p q. refl) (λ A p q. refl))
 
 -- ---- a reading by its revision
 

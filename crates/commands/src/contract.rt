@@ -135,7 +135,7 @@ impl Contract {
 
     pub const DAY: Minutes = Minutes(1440);
 
-    // The contract of these operands, or the lowest refusal that they meet.
+    // The contract of these operands, or the first refusal that they meet.
     pub fn new(
         days: u8,
         kind: u8,
@@ -205,7 +205,7 @@ impl Contract {
         )
     }
 
-    // The lowest refusal that its own operands meet, 0 for none. Ramps are asked only of operands in range, as 3 comes before 4.
+    // The first refusal that its own operands meet, 0 for none. Ramps are asked only of operands in range, as 3 comes before 4.
     pub fn input_refusal(self) -> u8
         ensures { λ r. ⌜ r ≡ inputRefusal (contractᶜ self) ⌝ }
     {

@@ -3,7 +3,8 @@
 ghost use mathlib.Core.Path.{_≡_};
 ghost use Prim.Native.Nat.{_+_, _<_, _^_};
 ghost use Rattle.commands.specs.Input.{from-to, inputRefusal, meterable};
-ghost use Rattle.commands.specs.declared.entries.Command.the-variants.{Window as windowᶜ, Instruction as instructionᶜ, Default as defaultᶜ, Reading as readingᶜ, Revision as revisionᶜ};
+ghost use Rattle.commands.specs.declared.entries.Command.the-variants.{Window as windowᶜ, Instruction as instructionᶜ, Default as defaultᶜ};
+ghost use Rattle.commands.specs.declared.entries.Command.the-variants.{Reading as readingᶜ, Revision as revisionᶜ};
 use crate::checks::byte_from_to;
 use crate::checks::kw_from_to;
 use crate::checks::minutes_from_to;
@@ -57,7 +58,7 @@ pub enum Command {
 }
 
 impl Window {
-    // The lowest refusal that its own operands meet, 0 for none; so for each entry below.
+    // The first refusal that its own operands meet, 0 for none; so for each entry below.
     pub fn input_refusal(self) -> u8
         ensures { λ r. ⌜ r ≡ inputRefusal (windowᶜ self) ⌝ }
     {

@@ -59,7 +59,8 @@ module _ {memory : Memory} {t : List Command} {b : Book} {m : Memory} (a : Along
   unfolding enterBook
   enters c =
       let f : Follows size t b m = a .follows in
-      let same : refusal (not (sound b)) (roomIn m) (ledgerIn b m) c ≡ refusal false size (ledgerOf t) c = rw (f .stands .sound, f .stands .memory, f .ledger) in
+      let same : refusal (not (sound b)) (roomIn m) (ledgerIn b m) c ≡ refusal false size
+      (ledgerOf t) c = rw (f .stands .sound, f .stands .memory, f .ledger) in
       subst⁻¹ (λ o. Along memory (joined (refusal false size (ledgerOf t) c) t c) (enteredBy o b m c .entry .book) (enteredBy o b m c .meter)) same
       (go (refusal false size (ledgerOf t) c) refl)
     where
@@ -78,7 +79,8 @@ pub book-left : {memory : Memory} {b : Book} {m : Memory} (cs : List Command) �
 book-left {memory} {b} {m} cs a =
     let f : Follows (roomIn memory) (taken (roomIn memory) cs) b m = a .follows in
     let l : Leads (roomIn memory) (taken (roomIn memory) cs) = leads (roomIn memory) cs in
-    same-book b (putAll emptyBook (taken (roomIn memory) cs)) m (l .meter) (f .stands .shaped) (l .follows .stands .shaped) (f .stands .sound) (l .follows .stands .sound)
+    same-book b (putAll emptyBook (taken (roomIn memory) cs)) m (l .meter) (f .stands .shaped) (l .follows .stands .shaped) (f .stands .sound)
+    (l .follows .stands .sound)
     (f .ledger ∙ sym (l .follows .ledger))
 
 -- ---- at a place of a list

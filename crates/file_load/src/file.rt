@@ -67,7 +67,8 @@ fn entered(e: Entry, at: usize, next: usize) -> Turn
 fn read_and_enter(b: Book, s: &[u8], at: usize, meter: &mut [i32], revisions: &mut [u8]) -> Turn
     requires { ⌜ sound b ≡ true ⌝ }
     ensures { λ r. ⌜ r ≡ turnAt (now (s .entry)) at b (lent (now (meter .entry)) (now (revisions .entry))) .turn ⌝ }
-    ensures { λ r. ⌜ lent (now (meter .exit)) (now (revisions .exit)) ≡ turnAt (now (s .entry)) at b (lent (now (meter .entry)) (now (revisions .entry))) .meter ⌝ }
+    ensures { λ r. ⌜ lent (now (meter .exit)) (now (revisions .exit)) ≡ turnAt (now (s .entry)) at b
+        (lent (now (meter .entry)) (now (revisions .entry))) .meter ⌝ }
 {
     let step = read_from(s, at);
     let read = step.read;

@@ -139,7 +139,8 @@ unfolding total operands commandOf
 reads-revised s at room byte =
     let known : widthsOf (getD s at 0) table ≡ some (2 ∷ 1 ∷ 4 ∷ []) = unfold table widthsOf in rw byte in
     let one : wordFrom 0 (take 1 (drop (at + 1 + 2) s)) ≡ getD s (at + 1 + 2) 0 = one-byte s (at + 1 + 2) (omega arith) in
-    let found : commandOf (getD s at 0) (operands (2 ∷ 1 ∷ 4 ∷ []) (drop (at + 1) s)) ≡ some (again (getD s (at + 1 + 2) 0) (said s (at + 1) (at + 1 + 2 + 1))) =
+    let found : commandOf (getD s at 0) (operands (2 ∷ 1 ∷ 4 ∷ []) (drop (at + 1) s)) ≡ some
+    (again (getD s (at + 1 + 2) 0) (said s (at + 1) (at + 1 + 2 + 1))) =
     rw (byte, drop-drop 2 (at + 1) s, drop-drop 1 (at + 1 + 2) s, one) in
     found-reads {s = s} {at = at} (entire (omega arith) known (omega arith) found)
 

@@ -121,7 +121,8 @@ fn take_run(
     meter: &mut [i32],
     revisions: &mut [u8],
 ) -> usize
-    ensures { λ r. ⌜ Run span (now (s .entry)) start (lent (now (meter .entry)) (now (revisions .entry))) r (lent (now (meter .exit)) (now (revisions .exit))) ⌝ }
+    ensures { λ r. ⌜ Run span (now (s .entry)) start (lent (now (meter .entry)) (now (revisions .entry))) r
+        (lent (now (meter .exit)) (now (revisions .exit))) ⌝ }
     ensures { λ r. ⌜ (standsWhole (now (s .entry)) r byte length ≡ true → Still span (now (s .entry)) r (lent (now (meter .exit)) (now (revisions .exit)))) ⌝ }
 {
     let mut at = start;
@@ -143,7 +144,8 @@ pub fn take_readings(
     meter: &mut [i32],
     revisions: &mut [u8],
 ) -> usize
-    ensures { λ r. ⌜ Run span (now (s .entry)) start (lent (now (meter .entry)) (now (revisions .entry))) r (lent (now (meter .exit)) (now (revisions .exit))) ⌝ }
+    ensures { λ r. ⌜ Run span (now (s .entry)) start (lent (now (meter .entry)) (now (revisions .entry))) r
+        (lent (now (meter .exit)) (now (revisions .exit))) ⌝ }
     ensures { λ r. ⌜ Still span (now (s .entry)) r (lent (now (meter .exit)) (now (revisions .exit))) ⌝ }
 {
     let mut from = start;

@@ -59,7 +59,8 @@ pub fn enter_piece(
     revisions: &mut [u8],
 ) -> Piece
     requires { ⌜ (sound (e .book) ≡ true) × (have ≤ length (now buffer)) × (e .offset + have < 2 ^ 64) ⌝ }
-    ensures { λ r. ⌜ EntersPiece e (lent (now (meter .entry)) (now (revisions .entry))) (now (buffer .entry)) have r (lent (now (meter .exit)) (now (revisions .exit))) (now (buffer .exit)) ⌝ }
+    ensures { λ r. ⌜ EntersPiece e (lent (now (meter .entry)) (now (revisions .entry))) (now (buffer .entry)) have r
+        (lent (now (meter .exit)) (now (revisions .exit))) (now (buffer .exit)) ⌝ }
 {
     let start = e.offset;
     let book = e.book;

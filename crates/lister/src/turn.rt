@@ -29,7 +29,8 @@ pub fn list_piece(
     rows: &mut [u8; BYTES],
 ) -> Turn
     requires { ⌜ (sound (e .book) ≡ true) × (have ≤ length (now buffer)) × (e .offset + have < 2 ^ 64) ⌝ }
-    ensures { λ r. ⌜ EntersPiece e (lent (now (meter .entry)) (now (revisions .entry))) (now (buffer .entry)) have (r .piece) (lent (now (meter .exit)) (now (revisions .exit))) (now (buffer .exit)) ⌝ }
+    ensures { λ r. ⌜ EntersPiece e (lent (now (meter .entry)) (now (revisions .entry))) (now (buffer .entry)) have (r .piece)
+        (lent (now (meter .exit)) (now (revisions .exit))) (now (buffer .exit)) ⌝ }
     ensures { λ r. ⌜ Laid (rowsAfter (r .piece) (lent (now (meter .exit)) (now (revisions .exit)))) (now (rows .entry)) 0 (now (rows .exit)) (r .rows) ⌝ }
 {
     let piece = enter_piece(e, have, buffer, meter, revisions);

@@ -94,11 +94,13 @@ module _ {size : ℕ} {g : Ledger} (a : Agreed size g) (bytes : Revised g) where
   unfolding refusal conditions firstMet spanIn cellsIn contractOf first isEmpty isSome later
   metered-replay m kw zero e =
       let x : Metered = record { kw = kw; revision = zero } in let t = tests m x e in
-      replay-cons (rw (t .least, t .most, t .range, t .cells, t .inside, t .bare)) (tables-kept g false (with-next (g .reading) m (some x) e)) (replay-none refl)
+      replay-cons (rw (t .least, t .most, t .range, t .cells, t .inside, t .bare)) (tables-kept g false (with-next (g .reading) m (some x) e))
+      (replay-none refl)
   metered-replay m kw (suc n) e =
       let x : Metered = record { kw = kw; revision = suc n } in let t = tests m x e in
       let sent : suc n ≤ 255 = bytes m x e in
-      replay-cons (rw (le-leb 1 (suc n) (omega arith), le-leb (suc n) 255 sent, t .least, t .most, t .range, t .cells, t .inside, t .bare)) (tables-kept g false (with-next (g .reading) m (some x) e))
+      replay-cons (rw (le-leb 1 (suc n) (omega arith), le-leb (suc n) 255 sent, t .least, t .most, t .range, t .cells, t .inside, t .bare))
+      (tables-kept g false (with-next (g .reading) m (some x) e))
       (replay-none refl)
 
   -- the reading of a minute, if it has one

@@ -14,7 +14,8 @@ use Rattle.rules.specs.declared.statement.Line.{Line}
 -- a ramp up of 6 minutes and a ramp down of 6, all in the first period, with a base load of a quarter kW and 5,001 kW in each active minute
 abbrev pub brief : List Command
 brief =
-    agree guide ∷ offer 0 30 accepted ∷ instructed 3 23 ∷ (readingsFrom 0 (pos 1 ∷ replicate 3 (pos 0)) ++ readingsFrom 17 (replicate 12 (pos 5001)) ++ (closeᶜ ∷ []))
+    agree guide ∷ offer 0 30 accepted ∷ instructed 3 23 ∷ (readingsFrom 0 (pos 1 ∷ replicate 3 (pos 0)) ++ readingsFrom 17
+    (replicate 12 (pos 5001)) ++ (closeᶜ ∷ []))
 
 -- a contract under which a period is paid 1.5005 pence before rounding, and windows
 abbrev pub halfPence : List Command → Ledger

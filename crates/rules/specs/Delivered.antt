@@ -26,7 +26,8 @@ ramping read = delivering (ledger (agree guide ∷ instructed 3 23 ∷ read))
 -- two instructions: the second one's base minutes 26 to 29 are minutes of the first one's ramp down, but for the last
 abbrev pub touching : List Command
 touching =
-    agree guide ∷ instructed 3 23 ∷ instructed 29 49 ∷ (readingsFrom 0 (replicate 4 (pos 0)) ++ readingsFrom 17 (replicate 13 (pos 1000)) ++ readingsFrom 43 (replicate 12 (pos 3000)))
+    agree guide ∷ instructed 3 23 ∷ instructed 29 49 ∷ (readingsFrom 0 (replicate 4 (pos 0)) ++ readingsFrom 17 (replicate 13 (pos 1000)) ++ readingsFrom 43
+    (replicate 12 (pos 3000)))
 
 -- the kWh of segments
 pub record Delivered : Type 0 where

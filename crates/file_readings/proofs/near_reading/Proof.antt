@@ -39,6 +39,8 @@ returns c = (
 pub near-reading-spec : {M : Type 1} → statement M
 near-reading-spec =
     tie.close
-    (tie.spec (λ c. search needs) (λ c. search needs) (λ c. search needs) (λ c. search needs) (λ c. search needs) (λ c. search needs) (λ c. search needs) (λ c κs. search needs)
+    (tie.spec (λ c. search needs) (λ c. search needs) (λ c. search needs) (λ c. search needs) (λ c. search needs) (λ c. search needs) (λ c. search needs)
+    (λ c κs. search needs)
     (λ c. record { fits = rw (minute c) (below 2 (c .before .before) (c .before .before .before .args .minute)) }) (λ c. search needs)
-    (λ c. search needs) (λ c. search needs) (λ c κs. search needs) (λ c κs. rw (kw c) (below 4 (c .before .before .before .before) (c .before .before .before .before .before .args .kw))) returns)
+    (λ c. search needs) (λ c. search needs) (λ c κs. search needs) (λ c κs. rw (kw c) (below 4 (c .before .before .before .before)
+    (c .before .before .before .before .before .args .kw))) returns)

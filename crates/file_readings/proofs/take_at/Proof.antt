@@ -28,5 +28,6 @@ returns-3 c =
 pub take-at-spec : {M : Type 1} → statement M
 take-at-spec =
     tie.close
-    (tie.spec (λ c κs. search needs) take-plain-requires (λ c. search needs) (λ c. search needs) (λ c. c .before .before .before .take-plain .ensures) (λ c κs. search needs) take-revised-requires (λ c. search needs)
+    (tie.spec (λ c κs. search needs) take-plain-requires (λ c. search needs) (λ c. search needs) (λ c. c .before .before .before .take-plain .ensures)
+    (λ c κs. search needs) take-revised-requires (λ c. search needs)
     (λ c. search needs) (λ c. c .before .before .before .take-revised .ensures) returns-3)

@@ -43,7 +43,12 @@ loop-less c =
     omega (arith, t .forward, c .if1 .left, t .inside (omega (arith, t .forward, c .if1 .left)))
 
 loop-again : tie.Need-loop-again Inv-loop μ-loop
-loop-again c = (run-join _ _ _ _ _ _ _ _ (c .before .before .before .before .before .before .before .before .before .before .before .before .before .loop .inv .0) (turned (c .before .before .before .before)), search needs, search needs)
+loop-again c = (
+  run-join _ _ _ _ _ _ _ _ (c .before .before .before .before .before .before .before .before .before .before .before .before .before .loop .inv .0)
+      (turned (c .before .before .before .before)),
+  search needs,
+  search needs,
+)
 
 pub take-readings-spec : {M : Type 1} → statement M
 take-readings-spec =

@@ -54,5 +54,6 @@ returns-2 c = (c .before .before .loop .inv .0, λ w. absurd (true≢false (sym 
 pub take-run-spec : {M : Type 1} → statement M
 take-run-spec =
     tie.close
-    (tie.spec Inv-loop μ-loop loop-holds (λ c κs. search needs) (λ c κs. search needs) (λ c. search needs) (λ c. search needs) returns loop-less loop-again (λ c. c .before .before .loop .inv .1)
+    (tie.spec Inv-loop μ-loop loop-holds (λ c κs. search needs) (λ c κs. search needs) (λ c. search needs) (λ c. search needs) returns loop-less loop-again
+    (λ c. c .before .before .loop .inv .1)
     (λ c. c .before .before .loop .inv .2) returns-2)

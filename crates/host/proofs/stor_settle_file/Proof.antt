@@ -24,5 +24,6 @@ returns-2 c =
 pub stor-settle-file-spec : {M : Type 1} → statement M
 stor-settle-file-spec =
     tie.close
-    (tie.spec (λ c κs. search needs) (λ c. search needs) settle-book-requires (λ c κs. search needs) (λ c. search needs) (λ c κs. search needs) (λ c. search needs) (λ c. search needs) (λ c. search needs) (λ c. search needs) returns
+    (tie.spec (λ c κs. search needs) (λ c. search needs) settle-book-requires (λ c κs. search needs) (λ c. search needs) (λ c κs. search needs)
+    (λ c. search needs) (λ c. search needs) (λ c. search needs) (λ c. search needs) returns
     (λ c. search needs) (λ c. search needs) returns-2)

@@ -34,4 +34,5 @@ returns-2 c =
 pub enter-contract-spec : {M : Type 1} → statement M
 enter-contract-spec =
     tie.close
-    (tie.spec (λ c κs. search needs) (λ c. search needs) agree-requires (λ c. search needs) (λ c κs. search needs) (λ c. search needs) (λ c. search needs) returns returns-2)
+    (tie.spec (λ c κs. search needs) (λ c. search needs) agree-requires (λ c. search needs) (λ c κs. search needs) (λ c. search needs)
+    (λ c. search needs) returns returns-2)

@@ -11,7 +11,8 @@ returns : tie.Need-returns
 returns c =
     let at = c .before .before .before .before .args in
     rw (c .refused .ensures)
-    (input-refuses (at .self) (lent (at .meter .now) (at .revisions .now)) (readingᶜ (at .r)) _ (sym (c .before .before .input-refusal .ensures)) (c .before .if1 .taken))
+    (input-refuses (at .self) (lent (at .meter .now) (at .revisions .now)) (readingᶜ (at .r)) _ (sym (c .before .before .input-refusal .ensures))
+    (c .before .if1 .taken))
 
 meter-requires : tie.Need-meter-requires
 meter-requires c κs = (c .before .before .before .before .before .pre, sym (c .before .before .before .input-refusal .ensures) ∙ c .before .before .if1 .left)
@@ -19,4 +20,5 @@ meter-requires c κs = (c .before .before .before .before .before .pre, sym (c .
 pub enter-reading-spec : {M : Type 1} → statement M
 enter-reading-spec =
     tie.close
-    (tie.spec (λ c κs. search needs) (λ c κs. search needs) returns meter-requires (λ c. search needs) (λ c. search needs) (λ c. c .before .before .before .meter .ensures))
+    (tie.spec (λ c κs. search needs) (λ c κs. search needs) returns meter-requires (λ c. search needs) (λ c. search needs)
+    (λ c. c .before .before .before .meter .ensures))

@@ -13,17 +13,23 @@ returns : tie.Need-returns
 returns c =
     let at = c .before .before .before .before .args in
     rw (c .refused .ensures)
-    (input-refuses (at .self) (lent (at .meter .now) (at .revisions .now)) (revisionᶜ (at .v)) _ (sym (c .before .before .input-refusal .ensures)) (c .before .if1 .taken))
+    (input-refuses (at .self) (lent (at .meter .now) (at .revisions .now)) (revisionᶜ (at .v)) _ (sym (c .before .before .input-refusal .ensures))
+    (c .before .if1 .taken))
 
 meter-requires : tie.Need-meter-requires
 meter-requires c κs =
-    let fits = sym (c .before .before .before .before .input-refusal .ensures) ∙ c .before .before .before .if1 .left in
-    (c .before .before .before .before .before .before .pre, subst (λ x. inputRefusal x ≡ 0) (sym (revision-is (c .before .before .before .before .before .before .args .v) fits)) fits)
+    let fits = sym (c .before .before .before .before .input-refusal .ensures) ∙ c .before .before .before .if1 .left in (
+      c .before .before .before .before .before .before .pre,
+      subst (λ x. inputRefusal x ≡ 0)
+          (sym (revision-is (c .before .before .before .before .before .before .args .v) fits)) fits,
+    )
 
 returns-2 : tie.Need-returns-2
 returns-2 c =
-    let fits = sym (c .before .before .before .before .before .before .before .before .input-refusal .ensures) ∙ c .before .before .before .before .before .before .before .if1 .left in
-    rw (revision-is (c .before .before .before .before .before .before .before .before .before .before .args .v) fits) at (c .before .before .before .meter .ensures)
+    let fits = sym (c .before .before .before .before .before .before .before .before .input-refusal .ensures)
+    ∙ c .before .before .before .before .before .before .before .if1 .left in
+    let v = c .before .before .before .before .before .before .before .before .before .before .args .v in
+    rw (revision-is v fits) at (c .before .before .before .meter .ensures)
 
 pub enter-revision-spec : {M : Type 1} → statement M
 enter-revision-spec =

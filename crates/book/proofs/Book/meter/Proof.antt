@@ -21,33 +21,43 @@ any c =
     let at = s .args in
     first-revised (at .self) (roomIn (memory s)) (at .number) (at .r) _ _ _ (c .first-refusal .ensures) (c .before .room-of .ensures) (s .pre .0) (s .pre .1)
 
-past : (c : tie.Else1) → let s = c .before .before .before .before .before .before in Past (s .args .self) (roomIn (memory s)) (revisedAs (s .args .number) (s .args .r))
+past : (c : tie.Else1) → let s = c .before .before .before .before .before .before in Past (s .args .self) (roomIn (memory s))
+    (revisedAs (s .args .number) (s .args .r))
 past c = past-any _ _ _ _ (any (c .before)) (c .if1 .left)
 
 put-reading-requires : tie.Need-put-reading-requires
 put-reading-requires c κs =
     let s = c .before .before .before .before .before .before .before .before .before .before .before .before .before in
     let at = s .args in
-    place (at .self) (memory s) (at .number) (at .r) (past (c .before .before .before .before .before .before .before)) _ _ (c .before .before .before .reading-refusal .ensures) (c .before .before .before .before .before .before .span .ensures) (c .before .before .if2 .left) (c .before .before .before .before .before .before .before .before .before .before .before .before .before .pre .1)
+    place (at .self) (memory s) (at .number) (at .r) (past (c .before .before .before .before .before .before .before)) _ _
+    (c .before .before .before .reading-refusal .ensures) (c .before .before .before .before .before .before .span .ensures) (c .before .before .if2 .left)
+    (c .before .before .before .before .before .before .before .before .before .before .before .before .before .pre .1)
 
 returns-2 : tie.Need-returns-2
 returns-2 c =
     let s = c .before .before .before .before .before .before .before .before .before .before .before .before in
     let at = s .args in
     rw (c .refused2 .ensures)
-    (refuses (at .self) (memory s) (at .number) (at .r) (past (c .before .before .before .before .before .before)) _ _ (c .before .before .reading-refusal .ensures) (c .before .before .before .before .before .span .ensures) (c .before .if2 .taken))
+    (refuses (at .self) (memory s) (at .number) (at .r) (past (c .before .before .before .before .before .before)) _ _
+    (c .before .before .reading-refusal .ensures) (c .before .before .before .before .before .span .ensures) (c .before .if2 .taken))
 
 returns-3 : tie.Need-returns-3
 returns-3 c =
     let s = c .before .before .before .before .before .before .before .before .before .before .before .before .before .before .before .before .before .before in
     let at = s .args in
     rw (c .taken .ensures, c .before .before .before .before .put-reading .ensures)
-    (takes (at .self) (memory s) (at .number) (at .r) (past (c .before .before .before .before .before .before .before .before .before .before .before .before)) _ _ (c .before .before .before .before .before .before .before .before .reading-refusal .ensures) (c .before .before .before .before .before .before .before .before .before .before .before .span .ensures) (c .before .before .before .before .before .before .before .if2 .left))
+    (takes (at .self) (memory s) (at .number) (at .r)
+    (past (c .before .before .before .before .before .before .before .before .before .before .before .before)) _ _
+    (c .before .before .before .before .before .before .before .before .reading-refusal .ensures)
+    (c .before .before .before .before .before .before .before .before .before .before .before .span .ensures)
+    (c .before .before .before .before .before .before .before .if2 .left))
 
 pub meter-spec : {M : Type 1} → statement M
 meter-spec =
     tie.close
     (tie.spec (λ c κs. search needs) (λ c κs. search needs) (λ c κs. search needs) (λ c. search needs) (λ c. search needs)
-    (λ c. rw (c .refused .ensures) (any-refuses _ _ _ _ (any (c .before .before)) (c .before .if1 .taken) (memory (c .before .before .before .before .before .before .before)) refl))
-    (λ c κs. search needs) (λ c κs. search needs) (λ c κs. search needs) (λ c. search needs) (λ c. search needs) returns-2 put-reading-requires (λ c κs. search needs)
+    (λ c. rw (c .refused .ensures) (any-refuses _ _ _ _ (any (c .before .before)) (c .before .if1 .taken)
+    (memory (c .before .before .before .before .before .before .before)) refl))
+    (λ c κs. search needs) (λ c κs. search needs) (λ c κs. search needs) (λ c. search needs) (λ c. search needs) returns-2 put-reading-requires
+    (λ c κs. search needs)
     (λ c. search needs) (λ c. search needs) returns-3)

@@ -29,7 +29,8 @@ returns c =
     let at = c .before .before .before .before .args in
     let cell : SFits w32 (c .before .before .cell-at .result) = search needs in
     let reads = c .before .holds-reading .ensures ∙ ap isReading (toZ-ofZ cell ∙ c .before .before .cell-at .ensures) in
-    (λ i. reads i && leb (at .number) (c .revision-at .ensures i)) ∙ held (at .number) (getD (at .meter .now) (at .m .0) missing) (getD (at .revisions .now) (at .m .0) 0)
+    (λ i. reads i && leb (at .number) (c .revision-at .ensures i)) ∙ held (at .number) (getD (at .meter .now) (at .m .0) missing)
+    (getD (at .revisions .now) (at .m .0) 0)
 
 pub not-above-spec : {M : Type 1} → statement M
 not-above-spec = tie.close (tie.spec (λ c κs. search needs) (λ c κs. search needs) (λ c κs. search needs) returns)

@@ -15,12 +15,14 @@ returns c =
 take-metered-requires : tie.Need-take-metered-requires
 take-metered-requires c κs =
     let at = c .before .before .before .before .before .before .args in
-    rw (revision-is (at .v) (sym (c .before .before .before .before .input-refusal .ensures) ∙ c .before .before .before .if1 .left)) (sym (c .before .before .before .before .input-refusal .ensures) ∙ c .before .before .before .if1 .left)
+    rw (revision-is (at .v) (sym (c .before .before .before .before .input-refusal .ensures) ∙ c .before .before .before .if1 .left))
+    (sym (c .before .before .before .before .input-refusal .ensures) ∙ c .before .before .before .if1 .left)
 
 returns-2 : tie.Need-returns-2
 returns-2 c =
     let at = c .before .before .before .before .before .before .before .before .before .before .args in
-    rw (revision-is (at .v) (sym (c .before .before .before .before .before .before .before .before .input-refusal .ensures) ∙ c .before .before .before .before .before .before .before .if1 .left)) at (c .before .before .before .take-metered .ensures)
+    rw (revision-is (at .v) (sym (c .before .before .before .before .before .before .before .before .input-refusal .ensures)
+    ∙ c .before .before .before .before .before .before .before .if1 .left)) at (c .before .before .before .take-metered .ensures)
 
 pub take-revision-spec : {M : Type 1} → statement M
 take-revision-spec =

@@ -33,30 +33,38 @@ shaped c = record { windows = search (length-mapped, needs); instructions = sear
 
 loop-holds : tie.Need-loop-holds Inv-loop μ-loop
 loop-holds c =
-    let s = c .before .before .before .before .before .before in
-    (refl, record { sound = s .pre; shaped = shaped s }, omega arith, refl, refl, c .open-span .ensures ∙ ap (openSpan (s .args .b)) (c .before .room-of .ensures))
+    let s = c .before .before .before .before .before .before in (
+      refl,
+      record { sound = s .pre; shaped = shaped s },
+      omega arith,
+      refl,
+      refl,
+      c .open-span .ensures ∙ ap (openSpan (s .args .b))
+          (c .before .room-of .ensures),
+    )
 
 loop-less : tie.Need-loop-less Inv-loop μ-loop
 loop-less c =
     let d = c .before .before .before .before .before .before .before .before .before in
     let r = c .before .before .before .before .before .before .before .before .before .before .before .before .before .before .before in
-    let at = c .before .before .before .before .before .before .before .before .before .before .before .before .before .before .before .before .before .before .before .before in
-    let turn = turned (at .before .before .before .before .before .before .before .args .s .now) (r .take-readings .result) (at .loop .l .book) _ (d .read-and-enter .ensures) in
+    let at = r .before .before .before .before .before in
+    let turn = turned (at .before .before .before .before .before .before .before .args .s .now) (r .take-readings .result) (at .loop .l .book) _
+    (d .read-and-enter .ensures) in
     let run = r .take-readings .ensures .0 in
-    rw (c .before .before .before .before .before .before .before .before .before .before .before .before .before .before .before .before .before .before .before .loop-test .taken) (omega (arith, run .forward, turn .less (stays-inside run (at .loop .inv .2))))
+    rw (r .before .before .before .before .loop-test .taken) (omega (arith, run .forward, turn .less (stays-inside run (at .loop .inv .2))))
 
 loop-again : tie.Need-loop-again Inv-loop μ-loop
 loop-again c =
     let d = c .before .before .before .before .before .before .before .before .before in
     let r = c .before .before .before .before .before .before .before .before .before .before .before .before .before .before .before in
-    let at = c .before .before .before .before .before .before .before .before .before .before .before .before .before .before .before .before .before .before .before .before in
+    let at = r .before .before .before .before .before in
     let s = at .before .before .before .before .before .before .before .args .s .now in
     let turn = turned s (r .take-readings .result) (at .loop .l .book) _ (d .read-and-enter .ensures) in
     let run = r .take-readings .ensures .0 in
     let inv = at .loop .inv in (
       sym (turn .again)
           ∙ sym (run-again s (at .loop .l .at) (at .loop .l .book) (at .loop .span) (lent (at .loop .meter) (at .loop .revisions)) _ _ run (inv .1) (inv .5))
-          ∙ (rw (c .before .before .before .before .before .before .before .before .before .before .before .before .before .before .before .before .before .before .before .loop-test .taken) at (inv .0)),
+          ∙ (rw (r .before .before .before .before .loop-test .taken) at (inv .0)),
       turn .keeps (inv .1),
       turn .inside (stays-inside run (inv .2)),
       search needs,
@@ -74,5 +82,6 @@ returns c =
 pub load-spec : {M : Type 1} → statement M
 load-spec =
     tie.close
-    (tie.spec Inv-loop μ-loop (λ c κs. search needs) (λ c κs. search needs) loop-holds (λ c κs. search needs) (λ c κs. c .before .before .before .before .before .before .before .before .before .before .loop .inv .1 .sound) (λ c κs. search needs)
+    (tie.spec Inv-loop μ-loop (λ c κs. search needs) (λ c κs. search needs) loop-holds (λ c κs. search needs)
+    (λ c κs. c .before .before .before .before .before .before .before .before .before .before .loop .inv .1 .sound) (λ c κs. search needs)
     (λ c κs. search needs) loop-less loop-again (λ c. c .before .loop .inv .3) (λ c. c .before .loop .inv .4) returns)

@@ -13,7 +13,8 @@ unfolding stepAt
 found c = ap (λ x. x .read) (c .read-from .ensures)
 
 moved : (c : tie.After-read-from)
-    → c .read-from .result .at ≡ positionAfter (readAt (c .before .before .before .args .s .now) (c .before .before .before .args .at)) (c .before .before .before .args .at)
+    → c .read-from .result .at ≡ positionAfter (readAt (c .before .before .before .args .s .now) (c .before .before .before .args .at))
+    (c .before .before .before .args .at)
 unfolding stepAt
 moved c = ap (λ x. x .at) (c .read-from .ensures)
 
@@ -38,5 +39,6 @@ returns-3 c =
 pub read-and-enter-spec : {M : Type 1} → statement M
 read-and-enter-spec =
     tie.close
-    (tie.spec (λ c κs. search needs) (λ c. search needs) (λ c κs. search needs) (λ c. search needs) (λ c κs. search needs) (λ c. search needs) (λ c κs. search needs) (λ c κs. search needs) returns returns-2 (λ c. search needs)
+    (tie.spec (λ c κs. search needs) (λ c. search needs) (λ c κs. search needs) (λ c. search needs) (λ c κs. search needs) (λ c. search needs)
+    (λ c κs. search needs) (λ c κs. search needs) returns returns-2 (λ c. search needs)
     (λ c. search needs) returns-3)

@@ -94,16 +94,21 @@ loop-again c =
 
 -- memory keeps its length
 same-length : tie.Need-same-length Inv-loop μ-loop
-same-length c = let d = c .before .before .before .before .before .before .before .before in d .list-piece .kept .1 .1 .0 ∙ d .before .before .before .before .before .before .before .fill .kept .0 ∙ d .before .before .before .before .before .before .before .before .before .loop .inv .2
+same-length c = let d = c .before .before .before .before .before .before .before .before in d .list-piece .kept .1 .1 .0
+    ∙ d .before .before .before .before .before .before .before .fill .kept .0
+    ∙ d .before .before .before .before .before .before .before .before .before .loop .inv .2
 
 same-length-2 : tie.Need-same-length-2 Inv-loop μ-loop
-same-length-2 c = let d = c .before .before .before .before .before .before .before .before in d .list-piece .kept .1 .1 .1 .0 ∙ d .before .before .before .before .before .before .before .before .before .loop .inv .3
+same-length-2 c = let d = c .before .before .before .before .before .before .before .before in d .list-piece .kept .1 .1 .1 .0
+    ∙ d .before .before .before .before .before .before .before .before .before .loop .inv .3
 
 same-length-3 : tie.Need-same-length-3 Inv-loop μ-loop
-same-length-3 c = let d = c .before .before .before .before .before .before .before .before in d .list-piece .kept .1 .1 .1 .1 .0 ∙ d .before .before .before .before .before .before .before .before .before .loop .inv .4
+same-length-3 c = let d = c .before .before .before .before .before .before .before .before in d .list-piece .kept .1 .1 .1 .1 .0
+    ∙ d .before .before .before .before .before .before .before .before .before .loop .inv .4
 
 pub list-input-spec : {M : Type 1} → statement M
 list-input-spec =
     tie.close
-    (tie.spec Inv-loop μ-loop (λ c κs. search needs) loop-holds (λ c κs. search needs) list-piece-requires same-length same-length-2 same-length-3 returns loop-less
+    (tie.spec Inv-loop μ-loop (λ c κs. search needs) loop-holds
+    (λ c κs. search needs) list-piece-requires same-length same-length-2 same-length-3 returns loop-less
     loop-again)

@@ -39,4 +39,5 @@ pub enter-piece-spec : {M : Type 1} → statement M
 enter-piece-spec =
     tie.close
     (tie.spec (λ c. search needs) (λ c. sym (have (c .before .before .before .before))) (λ c κs. search needs) (λ c κs. search needs)
-    (λ c κs. let l = c .before .before .before .before .before .before in (stops l, l .before .before .before .before .before .before .before .pre .1)) add-t22 (λ c. search needs) (λ c. search needs) (λ c. search needs) returns)
+    (λ c κs. let l = c .before .before .before .before .before .before in (stops l, l .before .before .before .before .before .before .before .pre .1))
+    add-t22 (λ c. search needs) (λ c. search needs) (λ c. search needs) returns)

@@ -12,5 +12,6 @@ returns-2 c =
 pub list-piece-spec : {M : Type 1} → statement M
 list-piece-spec =
     tie.close
-    (tie.spec (λ c κs. search needs) (λ c. search needs) (λ c. search needs) (λ c. search needs) (λ c. (c .before .before .before .before .before .before .enter-piece .ensures, rw (c .if1 .taken) (laid-none _ 0))) (λ c κs. search needs)
+    (tie.spec (λ c κs. search needs) (λ c. search needs) (λ c. search needs) (λ c. search needs)
+    (λ c. (c .before .before .before .before .before .before .enter-piece .ensures, rw (c .if1 .taken) (laid-none _ 0))) (λ c κs. search needs)
     (λ c. search needs) (λ c. search needs) (λ c. search needs) returns-2)
