@@ -1,9 +1,12 @@
 -- The examples of cells and bytes, computed.
 use mathlib.Core.Path.{refl}
 use Rattle.book_memory.specs.Meter.{roomIn}
-use Rattle.book_memory.specs.Examples.{CellExamples}
+use Rattle.book_memory.specs.Examples.{CellExamples, PutExamples}
 
 pub cell-examples : CellExamples
 unfolding roomIn
 cell-examples =
     record { mark = refl; above = refl; below = refl; most = refl; least = refl; pastEnd = refl; fewBytes = refl; fewCells = refl }
+
+pub put-examples : PutExamples
+put-examples = record { contract = refl; plain = refl; again = refl }

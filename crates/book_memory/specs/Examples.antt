@@ -1,9 +1,10 @@
--- Proved of the rules: which cells hold a reading, and which revision counts, by example.
+-- Proved of the rules: which cells hold a reading, which revision counts, and what commands put, by example.
 use mathlib.Core.Path.{_≡_}
 use mathlib.Core.List.{[], _∷_}
 use mathlib.Core.Option.{none, some}
 use lib.IntN.{pos, negsuc}
-use Rattle.book_memory.specs.Meter.{missing, cellReading, lent, roomIn, meteredAt}
+use Rattle.rules.specs.Examples.{metered, revised}
+use Rattle.book_memory.specs.Meter.{missing, cellReading, Memory, lent, roomIn, meteredAt, markedTo, putMeter}
 
 -- a cell counts by its range, not by its mark, and a byte where its cell counts
 pub record CellExamples : Type 0 where
@@ -20,3 +21,16 @@ pub record CellExamples : Type 0 where
   -- the shorter of the two decides how much room there is
   pub fewBytes : roomIn (lent (pos 7 ∷ pos 8 ∷ []) (1 ∷ [])) ≡ 1
   pub fewCells : roomIn (lent (pos 7 ∷ []) (1 ∷ 2 ∷ [])) ≡ 1
+
+-- three minutes, each read and sent again
+abbrev pub three : Memory
+three = lent (pos 7 ∷ pos 8 ∷ pos 9 ∷ []) (1 ∷ 2 ∷ 3 ∷ [])
+
+-- what is written, and what is not
+pub record PutExamples : Type 0 where
+  -- a contract marks the cells of its span and clears their bytes, and leaves those after it
+  pub contract : markedTo 2 three ≡ lent (missing ∷ missing ∷ pos 9 ∷ []) (0 ∷ 0 ∷ 3 ∷ [])
+  -- a plain reading writes its cell and a 0, whatever the byte held
+  pub plain : putMeter three (metered 1 (pos 5)) ≡ lent (pos 7 ∷ pos 5 ∷ pos 9 ∷ []) (1 ∷ 0 ∷ 3 ∷ [])
+  -- a revision writes its cell and its number
+  pub again : putMeter three (revised 1 9 (pos 5)) ≡ lent (pos 7 ∷ pos 5 ∷ pos 9 ∷ []) (1 ∷ 9 ∷ 3 ∷ [])

@@ -1,5 +1,5 @@
 -- A reading of either kind as the bytes say it, its kW raised and lowered again: the same reading where a cell takes it, and none where none does.
-use mathlib.Core.Path.{_≡_, refl, sym, ap, _∙_}
+use mathlib.Core.Path.{_≡_, refl, sym, ap, _∙_, subst}
 use mathlib.Core.Bool.{Bool, true, false, not, _&&_, cond}
 use mathlib.Core.List.{List, [], _∷_}
 use mathlib.Core.Option.{none, some, Option·none-ne-some}
@@ -144,18 +144,31 @@ reads-revised s at room byte =
     rw (byte, drop-drop 2 (at + 1) s, drop-drop 1 (at + 1 + 2) s, one) in
     found-reads {s = s} {at = at} (entire (omega arith) known (omega arith) found)
 
+-- a turn at a position stands at x then, with lent memory `after`
+abbrev pub Turned : ℕ → List ℕ → ℕ → Memory → ℕ → Memory → Type 0
+Turned span s at meter x after = (x ≡ standAt span s at meter .at) × (after ≡ standAt span s at meter .meter)
+
+-- by whether a reading was taken there
+module _ (span : ℕ) (s : List ℕ) (at next : ℕ) (meter : Memory) (t : Bool) (after : Memory) (turned : Turned span s at meter (cond t next at) after) where
+  pub when-taken : t ≡ true → Turned span s at meter next after
+  when-taken e = subst (λ t. Turned span s at meter (cond t next at) after) e turned
+
+  pub when-left : t ≡ false → Turned span s at meter at after
+  when-left e = subst (λ t. Turned span s at meter (cond t next at) after) e turned
+
 -- a turn at a whole reading of a kind, as the code takes it
 module _ {n : ℕ} {kind : Reading → Command} (k : Kind n kind) (span : ℕ) (s : List ℕ) (at next : ℕ) (meter : Memory) (r o : Reading)
     (reads : readAt s at ≡ Got (kind o) next) (minute : r .minute .0 ≡ o .minute .0) (kw : ranged (r .kw .0) ≡ ranged (o .kw .0)) where
   -- where it stands then, and lent memory after it
-  abbrev Turned : ℕ → Memory → Type 0
-  Turned x after = (x ≡ standAt span s at meter .at) × (after ≡ standAt span s at meter .meter)
-
-  pub near-taken : (after : Memory) → true ≡ takesReading span meter (kind r) → after ≡ putMeter meter (kind r) → Turned next after
+  pub near-turn : (t : Bool) (after : Memory) → t ≡ takesReading span meter (kind r) → after ≡ cond t (putMeter meter (kind r)) meter
+      → Turned span s at meter (cond t next at) after
   unfolding standAt
-  near-taken after e f =
-      rw (reads, ← taken-alike k span meter r o minute kw, ← e) (refl, f ∙ put-alike k span meter r o minute kw (sym e))
+  near-turn t after e f = rw (reads, ← taken-alike k span meter r o minute kw, ← e) (go t e f)
+    where
+      left : Bool → Stand
+      left t = cond t (record { at = next; meter = putMeter meter (kind o) }) (record { at = at; meter = meter })
 
-  pub near-left : (after : Memory) → false ≡ takesReading span meter (kind r) → after ≡ meter → Turned at after
-  unfolding standAt
-  near-left after e f = rw (reads, ← taken-alike k span meter r o minute kw, ← e) (refl, f)
+      go : (t : Bool) → t ≡ takesReading span meter (kind r) → after ≡ cond t (putMeter meter (kind r)) meter
+          → (cond t next at ≡ left t .at) × (after ≡ left t .meter)
+      go true e f = (refl, f ∙ put-alike k span meter r o minute kw (sym e))
+      go false e f = (refl, f)
