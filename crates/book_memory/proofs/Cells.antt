@@ -1,4 +1,4 @@
--- Laws of meter memory: the cells' numbers, and cells that are marked.
+-- Laws of lent memory: the cells' numbers, and a list that is filled from the front.
 use mathlib.Core.Path.{_≡_, refl, ap, _∙_}
 use mathlib.Core.List.{List, [], _∷_, _++_}
 use Prim.Native.Nat.{ℕ, zero, suc, _+_, _≤_, _<_}

@@ -4,7 +4,7 @@ ghost use Rattle.book_refusal.specs.Refusals.{anyRefusal};
 use commands::checks::pick;
 
 // The number from a command's input, then 11 to 15.
-// sound: some list of commands leaves the book; contract: the command is one; short: meter memory has too few cells.
+// sound: some list of commands leaves the book; contract: the command is one; short: lent memory has too little room.
 pub fn any_refusal(
     input: u8,
     sound: bool,

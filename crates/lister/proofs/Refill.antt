@@ -55,7 +55,7 @@ known file before =
 
 -- ---- the loop
 
--- the bytes so far, entered as one file from meter memory `before`, stand like this, and more bytes can change it
+-- the bytes so far, entered as one file from lent memory `before`, stand like this, and more bytes can change it
 pub record SoFar (before : Memory) (e : Ended) (meter : Memory) (kept : List ℕ) : Type 0 where
   pub file : List ℕ
   pub stands : standing file before ≡ record { ended = e; meter = meter; kept = kept }

@@ -13,7 +13,7 @@ use Rattle.rules.specs.Examples.{appendix2File}
 use Rattle.lister_rows.specs.Rows.{listing}
 use Rattle.lister_rows.specs.Text.{text}
 
--- what is taken of the commands of a file, with meter memory of a day
+-- what is taken of the commands of a file, with lent memory of a day
 unfoldable pub takenOf : List ℕ → Ledger
 takenOf s = ledgerOf (taken 1440 (commandsIn s))
 

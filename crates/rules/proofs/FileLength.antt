@@ -132,7 +132,7 @@ step size g closeᶜ s a = simp append-nil (rw (a .book .notClosed) (omega (arit
 
 -- ---- a list
 
--- meter memory has the cells for the span
+-- lent memory has room for the span
 pub cells-fit : {size : ℕ} {g : Ledger} → Reached size g → cellsIn g ≤ size
 cells-fit {g = g} (untouched u) = omega (arith, cells-none g (u .contracts))
 cells-fit (agreed a) = a .cells

@@ -22,7 +22,7 @@ revisions-taken =
 
 pub revisions-held : RevisionsHeld
 unfolding opened ledger
-revisions-held = record { none = refl; plain = refl; greater = refl; refused = refl }
+revisions-held = record { bare = refl; plain = refl; greater = refl; refused = refl }
 
 pub revisions-written : RevisionsWritten
 unfolding opened ledger

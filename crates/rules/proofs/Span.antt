@@ -1,4 +1,4 @@
--- The span of a ledger, and the cells that meter memory must have for it.
+-- The span of a ledger, and the minutes that lent memory must have room for.
 use mathlib.Core.Path.{_≡_, ap, _∙_}
 use mathlib.Core.List.{[], _∷_, _++_, append-nil}
 use Prim.Native.Nat.{_≤_}

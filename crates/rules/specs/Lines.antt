@@ -99,7 +99,7 @@ pub record LineBound (g : Ledger) : Type 0 where
 abbrev pub LineBound·theorem : Type 0
 LineBound·theorem = (size : ℕ) (cs : List Command) → LineBound (ledgerOf (taken size cs))
 
--- commands, and meter memory of some size, that give a month of so many days so many lines
+-- commands, and lent memory of some size, that give a month of so many days so many lines
 pub record MonthWithLines (days most : ℕ) : Type 0 where
   pub size : ℕ
   pub commands : List Command

@@ -73,6 +73,6 @@ pub data Reached (size : ℕ) (g : Ledger) : Type 0 where
   untouched : Untouched g → Reached size g
   agreed : Agreed size g → Reached size g
 
--- commands of any number and kind leave no other, whatever the size of meter memory
+-- commands of any number and kind leave no other, whatever the room of lent memory
 abbrev pub Reached·theorem : Type 0
 Reached·theorem = (size : ℕ) (cs : List Command) → Reached size (ledgerOf (taken size cs))

@@ -49,7 +49,7 @@ pub record RevisionsTaken : Type 0 where
 
 -- what a minute holds: value and revision of the last command taken
 pub record RevisionsHeld : Type 0 where
-  pub none : holds [] 7 ≡ none
+  pub bare : holds [] 7 ≡ none
   pub plain : holds (metered 7 (pos 1) ∷ []) 7 ≡ holding (pos 1) 0
   pub greater : holds (metered 7 (pos 1) ∷ revised 7 9 (pos 2) ∷ revised 7 10 (minus 3) ∷ []) 7 ≡ holding (minus 3) 10
   pub refused : holds (revised 7 9 (pos 2) ∷ revised 7 9 (pos 3) ∷ metered 7 (pos 4) ∷ []) 7 ≡ holding (pos 2) 9

@@ -25,7 +25,7 @@ use Rattle.rules.specs.declared.file.Read.the-variants.{Got, End, Refused as St
 
 -- ---- what is asked, and the answer
 
--- commands entered into the empty book, all taken, with meter memory of some size; what follows is lent meter memory of the size now
+-- commands entered into the empty book, all taken, with lent memory of some size; what follows is lent memory of the size now
 pub record Setting : Type 0 where
   pub size : ℕ
   pub commands : List Command
@@ -72,15 +72,15 @@ module _ {A B : Type 0} where
 
 -- ---- settings
 
--- with meter memory of a day
+-- with lent memory of a day
 abbrev pub day : List Command → Setting
 day cs = record { size = 1440; commands = cs; now = 1440 }
 
--- Appendix 2's contract over n days and commands after it, with meter memory of its span
+-- Appendix 2's contract over n days and commands after it, with lent memory of its span
 abbrev pub over : ℕ → List Command → Setting
 over n cs = record { size = 1440 * n; commands = agree (set guide days n) ∷ cs; now = 1440 * n }
 
--- the same, and then meter memory of another size
+-- the same, and then lent memory of another size
 abbrev pub lending : ℕ → Setting → Setting
 lending n s = record { size = s .size; commands = s .commands; now = n }
 
