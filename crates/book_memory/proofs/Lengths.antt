@@ -28,7 +28,7 @@ pub few-revisions : (m : Memory) → length (m .revisions) ≤ length (m .cells)
 unfolding roomIn
 few-revisions m h = sym (min-eq-right h)
 
-pub room-same : (m n : Memory) → length (m .cells) ≡ length (n .cells) → length (m .revisions) ≡ length (n .revisions) → roomIn m ≡ roomIn n
+room-same : (m n : Memory) → length (m .cells) ≡ length (n .cells) → length (m .revisions) ≡ length (n .revisions) → roomIn m ≡ roomIn n
 unfolding roomIn
 room-same m n c r = ap₂ min c r
 

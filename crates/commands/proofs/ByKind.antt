@@ -51,16 +51,6 @@ module _ (P : Command → Type 0) where
       by-kind P (λ k. g _ (λ A p q. refl)) (λ w. g _ (λ A p q. refl)) (λ i. g _ (λ A p q. refl)) f (λ r. g _ (λ A p q. refl)) (λ v. g _ (λ A p q. refl))
       (g _ (λ A p q. refl))
 
-  pub reading-or-not : ((r : Reading) → P (readingᶜ r)) → ((c : Command) → Not (λ A. onReading) c → P c) → (c : Command) → P c
-  reading-or-not f g =
-      by-kind P (λ k. g _ (λ A p q. refl)) (λ w. g _ (λ A p q. refl)) (λ i. g _ (λ A p q. refl)) (λ d. g _ (λ A p q. refl)) f (λ v. g _ (λ A p q. refl))
-      (g _ (λ A p q. refl))
-
-  pub revision-or-not : ((v : Revision) → P (revisionᶜ v)) → ((c : Command) → Not (λ A. onRevision) c → P c) → (c : Command) → P c
-  revision-or-not f g =
-      by-kind P (λ k. g _ (λ A p q. refl)) (λ w. g _ (λ A p q. refl)) (λ i. g _ (λ A p q. refl)) (λ d. g _ (λ A p q. refl)) (λ r. g _ (λ A p q. refl)) f
-      (g _ (λ A p q. refl))
-
   pub close-or-not : P closeᶜ → ((c : Command) → Not {X = Unit} (λ A f. onClose (f tt)) c → P c) → (c : Command) → P c
   close-or-not f g =
       by-kind P (λ k. g _ (λ A p q. refl)) (λ w. g _ (λ A p q. refl)) (λ i. g _ (λ A p q. refl)) (λ d. g _ (λ A p q. refl)) (λ r. g _ (λ A p q. refl))
@@ -88,7 +78,7 @@ revised-is v l = go (v .number) l
     go zero l = absurd (omega arith)
     go (suc n) l = refl
 
--- made of a reading, it is none of the other kinds
+-- a command made of a reading is no contract
 pub revised-not : {A : Type 0} (f : Contract → A) (g : Command → A) (n : ℕ) (r : Reading) → onContract f g (revisedAs n r) ≡ g (revisedAs n r)
 revised-not f g zero r = refl
 revised-not f g (suc n) r = refl
