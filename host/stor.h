@@ -10,7 +10,7 @@
  * - Memory that a call may write does not overlap any other memory lent to that call.
  * - Nothing else writes lent memory, and nothing reads what a call may write, until the call returns. Calls on different memory may run at once.
  * - All memory stays the caller's. A call holds it only until it returns.
- * - Input elements hold values: meter, revision, line, sum and file memory have been written once, if only with zeros.
+ * - Input elements hold values: meter, revision, line, sum, month and file memory have been written once, if only with zeros.
  * - A call has STOR_STACK bytes of stack left.
  */
 #ifndef STOR_H
@@ -74,6 +74,49 @@ enum {
 #define STOR_SUM_PERIODS(w) (6 + 2 * (w))
 #define STOR_SUM_PENCE(w) (7 + 2 * (w))
 
+/* Month memory: what watching a month needs of it, worked out once. Five numbers, the times of 64 instructions, and a number for each period. */
+#define STOR_INSTRUCTIONS_MOST 64
+#define STOR_PERIODS_MOST 1490
+enum {
+    STOR_MONTH_KW = 0,           /* contracted kW */
+    STOR_MONTH_KIND = 1,         /* 0 generator, 1 demand reducer */
+    STOR_MONTH_UTILISATION = 2,  /* rate, pence per MWh */
+    STOR_MONTH_OPTIONAL = 3,     /* rate, pence per MWh */
+    STOR_MONTH_INSTRUCTIONS = 4, /* how many there are */
+    STOR_MONTH_NUMBERS = 1815
+};
+/* The minutes of an instruction; n counts from 1. It is active from START to the minute before END, and its base minutes are ISSUE - 3 to ISSUE. */
+#define STOR_MONTH_ISSUE(n) (4 + (n))
+#define STOR_MONTH_START(n) (68 + (n))   /* e - U */
+#define STOR_MONTH_EXPIRY(n) (132 + (n)) /* e */
+#define STOR_MONTH_CEASE(n) (196 + (n))
+#define STOR_MONTH_END(n) (260 + (n)) /* f */
+/* 1 where a period is in a live window, else 0; p counts from 0. */
+#define STOR_MONTH_LIVE(p) (325 + (p))
+
+/* Totals: what is shown after an active minute; zeros before the first. */
+enum {
+    STOR_TOTAL_INSTRUCTION = 0, /* from 1 */
+    STOR_TOTAL_MINUTE = 1,
+    STOR_TOTAL_BASE = 2,      /* the four base readings together: quarter kW */
+    STOR_TOTAL_EXPECTED = 3,  /* of the segment so far, quarter kW-minutes */
+    STOR_TOTAL_DELIVERED = 4, /* of the segment so far, quarter kW-minutes */
+    STOR_TOTAL_CAPPED = 5,    /* of the lines complete, kWh */
+    STOR_TOTAL_PENCE = 6,     /* of the lines complete */
+    STOR_TOTAL_NUMBERS = 7
+};
+/* With an instruction's first active minute so many base readings are given. */
+#define STOR_BASE_READINGS 4
+
+/* What a step answers. */
+enum {
+    STOR_STEP_TAKEN = 0,
+    STOR_STEP_UNFIT = 101,          /* month or totals that are none: too few numbers, or one too large for so many minutes */
+    STOR_STEP_NO_INSTRUCTION = 102, /* the month has no such instruction */
+    STOR_STEP_NOT_NEXT = 103,       /* not the next active minute */
+    STOR_STEP_NO_READING = 104      /* a reading outside its range, or other than four base readings in theirs where they are due */
+};
+
 /* Reads and enters a whole unit file, from the empty book. Meter and revision memory after it hold what the commands taken left; a contract longer
  * than either is refused (15). */
 uint64_t stor_enter_file(const uint8_t *file, size_t file_length, int32_t *meter, size_t meter_length, uint8_t *revisions, size_t revisions_length);
@@ -120,6 +163,23 @@ uint64_t stor_write_tables(const uint32_t *contract, size_t contract_length, con
  * room for every month). Meter and revision memory hold what the commands taken left. */
 uint64_t stor_write_file(const uint8_t *file, size_t file_length, int32_t *meter, size_t meter_length, uint8_t *revisions, size_t revisions_length,
                          uint8_t *written, size_t written_length);
+
+/* Reads and enters a whole unit file, from the empty book, and works out its month, open, empty or closed, into the first STOR_MONTH_NUMBERS numbers of
+ * month memory; those after them are as they were. On a refusal all of month memory is exactly as it was; fewer numbers than STOR_MONTH_NUMBERS are
+ * refused last (26, and the offset is the file's length). Meter and revision memory hold what the commands taken left. */
+uint64_t stor_watch_file(const uint8_t *file, size_t file_length, int32_t *meter, size_t meter_length, uint8_t *revisions, size_t revisions_length,
+                         uint32_t *month, size_t month_length);
+
+/* The same for the book that tables say, as above: 11, 26 or 0. No reading is looked at. */
+uint8_t stor_watch_tables(const uint32_t *contract, size_t contract_length, const uint32_t *windows, size_t windows_length,
+                          const uint32_t *instructions, size_t instructions_length, const uint32_t *defaults, size_t defaults_length, uint32_t *month,
+                          size_t month_length);
+
+/* One step: the next active minute of a month, with its reading, takes the totals of the minutes before it to those after it. The base readings are given
+ * with an instruction's first active minute, and are not looked at with any other. Where the answer is not STOR_STEP_TAKEN the totals are exactly as they
+ * were; of several the first in the order of their numbers is given. Numbers after the first STOR_TOTAL_NUMBERS are never written. */
+uint8_t stor_watch_step(const uint32_t *month, size_t month_length, int64_t *totals, size_t totals_length, uint32_t instruction, uint16_t minute,
+                        int32_t kw, const int32_t *base, size_t base_length);
 
 #ifdef __cplusplus
 }

@@ -59,6 +59,29 @@ static void *writes(void *p)
     return p;
 }
 
+static uint32_t month[STOR_MONTH_NUMBERS];
+static int64_t totals[STOR_TOTAL_NUMBERS];
+
+static void *watches(void *p)
+{
+    answer = stor_watch_file(file, length, meter, STOR_MINUTES_MOST, revisions, STOR_MINUTES_MOST, month, STOR_MONTH_NUMBERS);
+    return p;
+}
+
+static void *watches_tables(void *p)
+{
+    answer = stor_watch_tables(contract, STOR_CONTRACT_NUMBERS, windows, STOR_WINDOW_NUMBERS, instructions, STOR_INSTRUCTION_NUMBERS, defaults,
+                               STOR_DEFAULT_NUMBERS, month, STOR_MONTH_NUMBERS);
+    return p;
+}
+
+/* The day's first active minute, which is its segment's last too. */
+static void *steps(void *p)
+{
+    answer = stor_watch_step(month, STOR_MONTH_NUMBERS, totals, STOR_TOTAL_NUMBERS, 1, (uint16_t)month[STOR_MONTH_START(1)], 0, meter, STOR_BASE_READINGS);
+    return p;
+}
+
 /* How far down a thread's stack was written. */
 static size_t depth(void *(*run)(void *))
 {
@@ -78,13 +101,15 @@ static size_t depth(void *(*run)(void *))
 
 static size_t most;
 
-static void hold(const char *what, void *(*run)(void *), size_t own)
+/* A call that hands on a book hands on 2.5 KB: less than that was not measured. A step hands on a few numbers. */
+enum { A_BOOK = 2048, NUMBERS = 16 };
+
+static void hold(const char *what, void *(*run)(void *), size_t own, size_t least)
 {
     size_t took = depth(run) - own;
     if (took > most)
         most = took;
-    /* a call hands on a book of 2.5 KB, so less than that was not measured */
-    if (took < 2048 || took > STOR_STACK) {
+    if (took < least || took > STOR_STACK) {
         fprintf(stderr, "stack: %s took %zu bytes, stor.h says at most %d\n", what, took, STOR_STACK);
         exit(1);
     }
@@ -93,7 +118,7 @@ static void hold(const char *what, void *(*run)(void *), size_t own)
 int main(int count, char **words)
 {
     size_t own = depth(nothing);
-    int settled = 0, rewritten = 0;
+    int settled = 0, rewritten = 0, watched = 0;
     for (int i = 1; i < count; i++) {
         FILE *from = fopen(words[i], "rb");
         if (from == NULL) {
@@ -102,21 +127,33 @@ int main(int count, char **words)
         }
         length = fread(file, 1, sizeof file, from);
         fclose(from);
-        hold(words[i], enters, own);
-        hold(words[i], settles, own);
+        hold(words[i], enters, own, A_BOOK);
+        hold(words[i], settles, own, A_BOOK);
         settled += answer % 256 == 0;
-        hold(words[i], writes, own);
+        hold(words[i], writes, own, A_BOOK);
         rewritten += answer % 256 == 0;
+        hold(words[i], watches, own, A_BOOK);
+        watched += answer % 256 == 0;
     }
     memset(meter, 0, sizeof meter);
-    hold("tables", settles_tables, own);
+    hold("tables", settles_tables, own, A_BOOK);
     if (settled == 0 || answer != 0) {
         fprintf(stderr, "stack: nothing was settled\n");
         return 1;
     }
-    hold("tables, written", writes_tables, own);
+    hold("tables, written", writes_tables, own, A_BOOK);
     if (rewritten == 0 || answer % 256 != 0) {
         fprintf(stderr, "stack: nothing was written\n");
+        return 1;
+    }
+    hold("tables, watched", watches_tables, own, A_BOOK);
+    if (watched == 0 || answer != 0) {
+        fprintf(stderr, "stack: no month was worked out\n");
+        return 1;
+    }
+    hold("a step", steps, own, NUMBERS);
+    if (answer != STOR_STEP_TAKEN) {
+        fprintf(stderr, "stack: no step was taken\n");
         return 1;
     }
     printf("stack: %zu bytes at most, stor.h says %d\n", most, STOR_STACK);

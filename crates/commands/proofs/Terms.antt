@@ -1,16 +1,18 @@
 -- What the ranges and ramps of a contract come to as numbers.
 use mathlib.Core.Path.{_≡_, refl, ap}
-use mathlib.Core.Bool.{not}
+use mathlib.Core.Bool.{true, not}
 use mathlib.Core.List.{[], _∷_}
 use Prim.Native.Nat.{ℕ, _≤_}
 use lib.Dec.{T, leb, ltb, leb→le}
 use native.Mathlib.Nat.{le-div-iff-mul-le}
 use native.Mathlib.Omega.{arith}
 use lib.IntN.{ℤ, pos, negsuc, natAbs}
+use lib.Signed.{leZ}
 use borrow.Author.Tests.{ltb-false}
-use Rattle.energy.specs.Number.{ceiling, down, Upto}
-use Rattle.energy.proofs.Tests.{T-and, off-or}
-use Rattle.commands.specs.Input.{kwOf, upMinutes, downMinutes, from-to, from-toℤ, inRange, rampTooLong}
+use Rattle.energy.specs.Number.{ceiling, down, Upto, Within}
+use Rattle.energy.proofs.Integers.{leZ-true}
+use Rattle.energy.proofs.Tests.{T-and, off-or, on-and}
+use Rattle.commands.specs.Input.{kwOf, upMinutes, downMinutes, from-to, from-toℤ, inRange, isReading, rampTooLong}
 use Rattle.commands.specs.declared.contract.Contract.{Contract}
 use Rattle.commands.specs.declared.entries.Command.the-variants.{Contract as contractᶜ}
 use Rattle.commands.proofs.Chain.{apart, not-on}
@@ -38,6 +40,12 @@ bounds a b n t = let q = T-and (leb a n) (leb n b) t in (leb→le a n (q .0), le
 boundsℤ : (a b : ℕ) (z : ℤ) → T (from-toℤ (pos a) (pos b) z) → (z ≡ pos (natAbs z)) × (a ≤ natAbs z) × (natAbs z ≤ b)
 boundsℤ a b (pos n) t = let q = bounds a b n t in (refl, q .0, q .1)
 boundsℤ a b (negsuc n) t = absurd t
+
+-- a reading
+pub reading-within : (x : ℤ) → isReading x ≡ true → Within 500000 x
+reading-within x e =
+    let (l, h) = on-and (leZ (negsuc 499999) x) (leZ x (pos 500000)) e in
+    omega (arith, leZ-true (negsuc 499999) x l, leZ-true x (pos 500000) h)
 
 pub ranges : (k : Contract) → T (inRange (contractᶜ k)) → Ranges k
 ranges k t =

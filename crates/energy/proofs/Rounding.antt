@@ -4,10 +4,12 @@ use mathlib.Core.Path.{_≡_, sym, ap, subst}
 use mathlib.Core.Logic.{_⊎_, inl, inr, ⊎-elim}
 use Prim.Native.Nat.{ℕ, suc, _+_, _*_, _-_, _/_, _≤_, _<_}
 use native.Mathlib.Nat.{mul-add, mul-comm, suc-mul, div-add-mod', div-lt-iff-lt-mul, mod-lt, mul-le-mul-left, lt-of-mul-lt-mul-left}
-use native.Mathlib.Nat.{le-of-lt, le-of-eq}
+use native.Mathlib.Nat.{le-of-lt, le-of-eq, mul-le-mul}
 use native.Mathlib.Omega.{arith}
+use lib.Dec.{lit<}
 use lib.IntN.{ℤ, pos, negsuc, natAbs, _+ℤ_, _-ℤ_, _*ℤ_}
 use lib.Signed.{shrZ, leZ, _≤ℤ_, _<ℤ_}
+use Rattle.energy.specs.Energy.{capped, kwh, payment}
 use Rattle.energy.specs.Number.{lesser, nearest, up, down, Within}
 use Rattle.energy.specs.Rounding.{Nearest, Rounding·theorem, distance}
 use Rattle.energy.proofs.Tests.{either}
@@ -146,6 +148,17 @@ nearest-bound n d K p b =
     let a : ℕ = natAbs (n +ℤ pos (d * K)) in
     let l = raised n d K p b .lowered ((a + d / 2) / d) (half-up a d p) in
     subst (Within K) (l .value) (l .within)
+
+-- ---- how large a segment's kWh and its pence can be
+pub lesser-within : (b : ℕ) (x y : ℤ) → Within b x → Within b y → Within b (lesser x y)
+lesser-within b x y h k = ⊎-elim (λ e. rw (e .0) h) (λ e. rw (e .0) k) (lesser-cases x y)
+
+pub capped-within : (x d : ℤ) → Within 120000000 x → Within 120000000 d → Within 500000 (capped (kwh x) (kwh d))
+capped-within x d h k = lesser-within 500000 (kwh x) (kwh d) (nearest-bound x 240 500000 (lit< tt) h) (nearest-bound d 240 500000 (lit< tt) k)
+
+pub payment-within : (c : ℤ) (rate : ℕ) → Within 500000 c → rate ≤ 1000000 → Within 500000000 (payment c rate)
+payment-within c rate h k =
+    nearest-bound (c *ℤ pos rate) 1000 500000000 (lit< tt) (omega (arith, mul-parts c (pos rate), mul-le-mul (h .0) k, mul-le-mul (h .1) k))
 
 -- ---- a quotient taken up to a whole number: what is added first is less than d, so it is at most what is divided
 pub raised-most : (n y d : ℕ) → y < d → (n + y) / d ≤ n

@@ -12,6 +12,7 @@ use lib.ListN.{length}
 use Rattle.energy.specs.Lists.{sum, all, run, between}
 use Rattle.energy.specs.Energy.{delivers}
 use Rattle.energy.specs.Number.{Within}
+use Rattle.energy.proofs.Tests.{on-and, either-eq}
 pub use Rattle.energy.proofs.Tests.{all-append}
 use Rattle.energy.proofs.Integers.{distrib, add-parts, diff-parts, mul-parts, arithℤ}
 
@@ -88,6 +89,18 @@ pub all-ext : (f h : ℕ → Bool) (a b : ℕ) → ((m : ℕ) → a ≤ m → m 
 unfolding all
 all-ext f h a b e = between-ind (λ l. all f l ≡ all h l) a b refl (λ m l i k r. ap₂ _&&_ (e m i k) r)
 
+-- where all minutes pass a test, each does
+all-go : (f : ℕ → Bool) (a n : ℕ) → all f (run a n) ≡ true → (m : ℕ) → a ≤ m → m < a + n → f m ≡ true
+unfolding all run
+all-go f a zero e m h l = absurd (omega arith)
+all-go f a (suc n) e m h l =
+    let (x, y) = on-and (f a) (all f (run (suc a) n)) e in
+    either-eq a m (λ d. ap f (sym d) ∙ x) (λ d. all-go f (suc a) n y m (omega (arith, d)) (omega arith))
+
+pub all-in : (f : ℕ → Bool) (a b : ℕ) → all f (between a b) ≡ true → (m : ℕ) → a ≤ m → m < b → f m ≡ true
+unfolding between
+all-in f a b e m h l = all-go f a (b - a) e m h (omega arith)
+
 module _ (f : ℕ → ℤ) where
   -- at most b in each minute
   pub sum-within : (b a c : ℕ) → ((m : ℕ) → a ≤ m → m < c → Within b (f m)) → Within (b * (c - a)) (sum f (between a c))
@@ -133,6 +146,14 @@ module _ (f : ℕ → ℤ) where
 
   abbrev pub aboveOf : ℤ → ℕ → ℕ → ℤ
   aboveOf S a b = pos 4 *ℤ sum f (between a b) -ℤ pos (b - a) *ℤ S
+
+-- how much a minute delivers at most, either way
+pub delivers-within : (kind : ℕ) (S x : ℤ) → Within 2000000 S → Within 500000 x → Within 4000000 (delivers kind S x)
+delivers-within kind S x h k =
+    elim (eqb kind 0) as (λ t. Within 4000000 (cond t (pos 4 *ℤ x -ℤ S) (S -ℤ pos 4 *ℤ x))) [
+      | true ↦ omega (arith, mul-parts (pos 4) x, diff-parts (pos 4 *ℤ x) S)
+      | false ↦ omega (arith, mul-parts (pos 4) x, diff-parts S (pos 4 *ℤ x))
+    ]
 
 -- what is delivered: that, or as much below the base load
 pub sum-delivers : (f : ℕ → ℤ) (kind : ℕ) (S : ℤ) (a b : ℕ)

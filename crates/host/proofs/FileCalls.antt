@@ -6,6 +6,7 @@ use Prim.Native.Nat.{ℕ, _^_, _<_}
 use native.Mathlib.Omega.{arith}
 use lib.IntN.{ℤ}
 use Rattle.book_memory.specs.Meter.{Memory}
+use Rattle.rules.specs.declared.answer.Answer.{Answer}
 use Rattle.rules.specs.declared.answer.Answer.the-variants.{Taken, Refused}
 use Rattle.book.specs.Book.{emptyBook}
 use Rattle.book.specs.Sound.{sound}
@@ -15,8 +16,9 @@ use Rattle.file_load.specs.Load.{load}
 use Rattle.file_load.specs.declared.file.Loaded.{Loaded}
 use Rattle.file_write.specs.Write.{writeBook}
 use Rattle.file_write.specs.declared.Written.{Written}
+use Rattle.watch_month.specs.MonthOf.{monthBook, monthLaid}
 use Rattle.host_settle.specs.Answers.{numberOf, packed}
-use Rattle.host.specs.Calls.{enteredFile, enterFile, rewrittenFile, settledFile, settleFile, writeFile}
+use Rattle.host.specs.Calls.{enteredFile, enterFile, rewrittenFile, settledFile, settleFile, watchedFile, watchFile, writeFile}
 use Rattle.host_settle.specs.SettleInto.{settledBook, settleInto}
 
 -- the windows of a sound book are few
@@ -63,3 +65,17 @@ module _
       → rewrittenFile r meter′ memory ≡ writeFile file meter memory
   unfolding writeFile
   not-written memory n r e er = rw (ended, e, er)
+
+  -- taken, and its month worked out
+  pub watched : (month month′ : List ℕ) (a : Answer) (n r : ℕ) → l .answer ≡ Taken → monthLaid a month′ ≡ monthBook (l .book) month
+      → n ≡ numberOf a
+      → r ≡ packed n (l .at)
+      → watchedFile r meter′ month′ ≡ watchFile file meter month
+  unfolding watchFile
+  watched month month′ a n r e em′ en er = rw (ended, e, ← em′, er, en)
+
+  -- refused, and no month worked out
+  pub not-watched : (month : List ℕ) (n r : ℕ) → l .answer ≡ Refused n → r ≡ packed n (l .at)
+      → watchedFile r meter′ month ≡ watchFile file meter month
+  unfolding watchFile
+  not-watched month n r e er = rw (ended, e, er)

@@ -12,9 +12,11 @@ use Rattle.book_memory.specs.Meter.{Memory}
 use Rattle.book.specs.declared.Book.{Book}
 use Rattle.file_write.specs.Write.{writeBook}
 use Rattle.file_write.specs.declared.Written.{Written}
+use Rattle.rules.specs.declared.answer.Answer.{Answer}
+use Rattle.watch_month.specs.MonthOf.{monthBook, monthLaid}
 use Rattle.host_tables.specs.Tables.{Tables, bookOf, entire}
 use Rattle.host_settle.specs.Answers.{numberOf, packed}
-use Rattle.host.specs.Calls.{settleTables, writeTables, writtenFile}
+use Rattle.host.specs.Calls.{settleTables, watchedBook, watchTables, writeTables, writtenFile}
 use Rattle.host_settle.specs.SettleInto.{settledBook, settleInto}
 
 -- the windows that a table says are few
@@ -49,3 +51,16 @@ module _ (t : Tables) (meter : Memory) (whole : Bool) (et : whole ≡ entire t) 
       → writtenFile r file′ ≡ writeTables t meter file
   unfolding writeTables
   written file file′ b w n r h eb ew ef en er = rw (← et, not-false whole h, ← eb, ← ew, ← ef, er, en)
+
+module _ (t : Tables) (whole : Bool) (et : whole ≡ entire t) where
+  -- a row cut short: no month worked out
+  pub not-watched : (month : List ℕ) → whole ≡ false → watchedBook 11 month ≡ watchTables t month
+  unfolding watchTables
+  not-watched month h = rw (← et, h)
+
+  -- whole rows, and their month worked out
+  pub watched : (month month′ : List ℕ) (b : Book) (a : Answer) (r : ℕ) → whole ≡ true → b ≡ bookOf t → monthLaid a month′ ≡ monthBook b month
+      → r ≡ numberOf a
+      → watchedBook r month′ ≡ watchTables t month
+  unfolding watchTables
+  watched month month′ b a r h eb em er = rw (← et, h, ← eb, ← em, er)

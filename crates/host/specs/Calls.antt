@@ -12,6 +12,7 @@ use Rattle.host_settle.specs.Answers.{numberOf, packed}
 use Rattle.host_settle.specs.SettleInto.{SettledBook, settledBook, settleInto}
 use Rattle.host_tables.specs.Tables.{Tables, bookOf, entire}
 use Rattle.file_write.specs.Write.{WrittenBytes, writeBook}
+use Rattle.watch_month.specs.MonthOf.{MonthLaid, monthBook}
 
 -- ---- a file entered
 
@@ -104,3 +105,45 @@ writesBy (Refused n) l memory = rewrittenFile (packed n (l .loaded .at)) (l .met
 -- a whole file, entered and written
 unfoldable pub writeFile : List ℕ → Memory → List ℕ → RewrittenFile
 writeFile file meter memory = let l : LoadedFile = load file emptyBook meter in writesBy (l .loaded .answer) l memory
+
+-- ---- a book's month worked out
+
+-- the answer, and the memory for the month after it
+pub record WatchedBook : Type 0 where
+  pub answer : ℕ
+  pub month : List ℕ
+
+-- what a call answers and leaves, as one
+abbrev pub watchedBook : ℕ → List ℕ → WatchedBook
+watchedBook answer month = record { answer = answer; month = month }
+
+-- the month of the book that tables say. Tables with a row cut short say no book: 11
+unfoldable pub watchTables : Tables → List ℕ → WatchedBook
+watchTables t month =
+    cond (entire t)
+    (let m : MonthLaid = monthBook (bookOf t) month in watchedBook (numberOf (m .answer)) (m .month))
+    (watchedBook 11 month)
+
+-- ---- a file entered, and its month worked out
+
+-- the answer, meter and revision memory after it, and the memory for the month
+pub record WatchedFile : Type 0 where
+  pub answer : ℕ
+  pub meter : Memory
+  pub month : List ℕ
+
+-- what a call answers and leaves, as one
+abbrev pub watchedFile : ℕ → Memory → List ℕ → WatchedFile
+watchedFile answer meter month = record { answer = answer; meter = meter; month = month }
+
+-- the month of a file that was entered whole is worked out, open or closed, and the offset is the file's length, also where the month has no room; a
+-- file with a refusal is answered that, and no number is put
+abbrev pub watchesBy : Answer → LoadedFile → List ℕ → WatchedFile
+watchesBy Taken l month =
+    let m : MonthLaid = monthBook (l .loaded .book) month in
+    watchedFile (packed (numberOf (m .answer)) (l .loaded .at)) (l .meter) (m .month)
+watchesBy (Refused n) l month = watchedFile (packed n (l .loaded .at)) (l .meter) month
+
+-- a whole file, entered, and its month worked out
+unfoldable pub watchFile : List ℕ → Memory → List ℕ → WatchedFile
+watchFile file meter month = let l : LoadedFile = load file emptyBook meter in watchesBy (l .loaded .answer) l month

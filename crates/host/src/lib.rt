@@ -1,12 +1,15 @@
-// The package for hosts in C or Rust: whole unit files, and tables of numbers, entered and settled into numbers, or written as a unit file.
+// The package for hosts in C or Rust: whole unit files, and tables of numbers, entered and settled into numbers, or written as a unit file; and running
+// totals, by the numbers of a month and one step for each active minute.
 // Every call is total: it answers for every length and every contents of what is lent. Each promise is one equation: the answer and all lent memory
 // after the call are what the definition of the call gives for what was lent.
 ghost use mathlib.Core.Path.{_≡_};
 ghost use Rattle.book_memory.specs.Meter.{lent};
 ghost use Rattle.host.specs.Calls.{enterFile, settleFile, settleTables, writeFile, writeTables};
 ghost use Rattle.host.specs.Calls.{enteredFile, rewrittenFile, settledFile, writtenFile};
+ghost use Rattle.host.specs.Calls.{watchFile, watchTables, watchedBook, watchedFile};
 ghost use Rattle.host_settle.specs.SettleInto.{settledBook};
 ghost use Rattle.host_tables.specs.Tables.{tables};
+ghost use Rattle.host_watch.specs.StepNumbers.{stepNumbers, steppedNumbers};
 use file_load::file::load_file;
 use file_write::write_book;
 use host_settle::answers::number_of;
@@ -14,7 +17,9 @@ use host_settle::answers::pack;
 use host_settle::settle_book;
 use host_tables::book_of;
 use host_tables::entire_tables;
+use host_watch::step_numbers;
 use rules::answer::Answer;
+use watch_month::month_of;
 
 // Enters a whole unit file. The answer is the refusal's number, or 0, and 256 times the offset of the refused command, or the file's length.
 #[no_mangle]
@@ -136,4 +141,73 @@ pub extern "C" fn stor_write_file(
         }
         Answer::Refused(n) => pack(n, stopped),
     }
+}
+
+// Enters a whole unit file and works out the month of its book, open or closed, as numbers that steps read. The answer is the refusal's number, or 0,
+// and 256 times the offset of the refused command, or the file's length, also where the month has no room.
+#[no_mangle]
+pub extern "C" fn stor_watch_file(
+    file: &[u8],
+    meter: &mut [i32],
+    revisions: &mut [u8],
+    month: &mut [u32],
+) -> u64
+    ensures { λ r.
+        ⌜ watchedFile r (lent (now (meter .exit)) (now (revisions .exit))) (now (month .exit))
+        ≡ watchFile (now (file .entry)) (lent (now (meter .entry)) (now (revisions .entry))) (now (month .entry)) ⌝ }
+{
+    let l = load_file(file, meter, revisions);
+    let loading = l.answer;
+    let book = l.book;
+    let reached = l.at;
+    match loading {
+        Answer::Taken => {
+            let laid = month_of(book, month);
+            let number = number_of(laid);
+            pack(number, reached)
+        }
+        Answer::Refused(n) => pack(n, reached),
+    }
+}
+
+// Works out the month of the book that tables say. The answer is the refusal's number, or 0.
+#[no_mangle]
+pub extern "C" fn stor_watch_tables(
+    contract: &[u32],
+    windows: &[u32],
+    instructions: &[u32],
+    defaults: &[u32],
+    month: &mut [u32],
+) -> u8
+    ensures { λ r.
+        ⌜ watchedBook r (now (month .exit))
+        ≡ watchTables
+        (tables (now (contract .entry)) (now (windows .entry)) (now (instructions .entry)) (now (defaults .entry)))
+        (now (month .entry)) ⌝ }
+{
+    let entire = entire_tables(contract, windows, instructions, defaults);
+    if entire {
+        let b = book_of(contract, windows, instructions, defaults);
+        let laid = month_of(b, month);
+        return number_of(laid);
+    }
+    11
+}
+
+// One step of the running totals, by a month's numbers and the reading of its minute. The answer is 0, or from 101 on why the totals are as they were.
+#[no_mangle]
+pub extern "C" fn stor_watch_step(
+    month: &[u32],
+    totals: &mut [i64],
+    instruction: u32,
+    minute: u16,
+    kw: i32,
+    base: &[i32],
+) -> u8
+    ensures { λ r.
+        ⌜ steppedNumbers r (now (totals .exit))
+        ≡ stepNumbers (now (month .entry)) (now (totals .entry)) instruction (record { minute = record { 0 = minute }; kw = record { 0 = kw } })
+        (now (base .entry)) ⌝ }
+{
+    step_numbers(month, totals, instruction, minute, kw, base)
 }

@@ -5,6 +5,7 @@ pub mod Span
 pub mod Reached
 pub mod Replay
 pub mod Cuts
+pub mod Stages
 pub mod Count
 pub mod Partition
 pub mod LineOrder

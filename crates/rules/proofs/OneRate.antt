@@ -45,7 +45,7 @@ module _ (m n : ℕ) (e : periodOf m ≡ periodOf n) where
   same-any f (w ∷ ws) h =
       ap₂ _||_ (ap (λ x. x && f w) (ap₂ _&&_ (same-leb (w .start .0) (h .0)) (same-ltb (w .end .0) (h .1)))) (same-any f ws (h .2))
 
-  same-live : (g : Ledger) → Whole (g .windows) → inLive g m ≡ inLive g n
+  pub same-live : (g : Ledger) → Whole (g .windows) → inLive g m ≡ inLive g n
   unfolding inLive
   same-live g h = same-any (live g) (g .windows) h
 
@@ -57,7 +57,7 @@ anchored g i Up m n e = refl
 anchored g i Steady m n e = e
 anchored g i Down m n e = refl
 
-same-rate : (g : Ledger) (i : Instruction) (m n : ℕ) → Whole (g .windows) → T (alike (contractOf g) i m n) → rateAt g i n ≡ rateAt g i m
+pub same-rate : (g : Ledger) (i : Instruction) (m n : ℕ) → Whole (g .windows) → T (alike (contractOf g) i m n) → rateAt g i n ≡ rateAt g i m
 unfolding alike rateAt
 same-rate g i m n w h =
     let k : Contract = contractOf g in

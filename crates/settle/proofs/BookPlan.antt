@@ -15,7 +15,9 @@ use Rattle.energy.specs.Energy.{cell}
 use Rattle.energy.specs.Lists.{all, first, isSome, run, between}
 use Rattle.energy.specs.Number.{down, Upto, Within}
 use Rattle.energy.proofs.Integers.{leZ-true, leZ-yes}
+use Rattle.energy.proofs.Sums.{all-in}
 use Rattle.energy.proofs.Tests.{on-and}
+use Rattle.commands.proofs.Terms.{reading-within}
 use Rattle.rules.specs.Ledger.{Ledger, contractOf, spanIn}
 use Rattle.commands.specs.Input.{upMinutes, downMinutes, isReading, mostMinute}
 use Rattle.rules.specs.Segment.{complete}
@@ -43,23 +45,6 @@ use Rattle.settle.proofs.Availability.{Priced, own-window, Inside, reac
 use Rattle.settle.proofs.CursorLine.{Tied}
 
 -- ---- readings
--- each of a row passes, if all do
-all-go : (f : ℕ → Bool) (a n : ℕ) → all f (run a n) ≡ true → (m : ℕ) → a ≤ m → m < a + n → f m ≡ true
-unfolding all run
-all-go f a zero e m h l = absurd (omega arith)
-all-go f a (suc n) e m h l =
-    let (x, y) = on-and (f a) (all f (run (suc a) n)) e in
-    elim (ℕ-discrete a m) [ yes d ↦ ap f (sym d) ∙ x | no d ↦ all-go f (suc a) n y m (omega (arith, d)) (omega arith) ]
-
-all-in : (f : ℕ → Bool) (a b : ℕ) → all f (between a b) ≡ true → (m : ℕ) → a ≤ m → m < b → f m ≡ true
-unfolding between
-all-in f a b e m h l = all-go f a (b - a) e m h (omega arith)
-
-reading-within : (x : ℤ) → isReading x ≡ true → Within 500000 x
-reading-within x e =
-    let (l, h) = on-and (leZ (negsuc 499999) x) (leZ x (pos 500000)) e in
-    omega (arith, leZ-true (negsuc 499999) x l, leZ-true x (pos 500000) h)
-
 -- a cell that is tested holds something where the test holds
 some-where : {A : Type 0} (v : Bool) (x : A) → isSome (cond v (some x) none) ≡ v
 unfolding isSome

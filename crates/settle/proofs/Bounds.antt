@@ -1,17 +1,14 @@
 -- How large a line's energy and money can be.
-use mathlib.Core.Logic.{⊎-elim}
-use mathlib.Core.Bool.{Bool, true, false, cond}
+use mathlib.Core.Bool.{Bool, true, false}
 use mathlib.Core.List.{List}
 use Prim.Native.Nat.{ℕ, _-_, _≤_}
 use native.Mathlib.Nat.{mul-le-mul}
 use native.Mathlib.Omega.{arith}
-use lib.Dec.{eqb, lit<}
-use lib.IntN.{ℤ, pos, natAbs, _-ℤ_, _*ℤ_}
+use lib.IntN.{ℤ, pos, natAbs}
 use Rattle.energy.specs.Energy.{cell, delivers, kwh, capped, expectedIn, deliveredIn}
-use Rattle.energy.specs.Number.{lesser, Within}
-use Rattle.energy.proofs.Integers.{diff-parts, mul-parts}
-use Rattle.energy.proofs.Rounding.{lesser-cases, nearest-bound}
-use Rattle.energy.proofs.Sums.{sum-within}
+use Rattle.energy.specs.Number.{Within}
+use Rattle.energy.proofs.Rounding.{capped-within, payment-within}
+use Rattle.energy.proofs.Sums.{delivers-within, sum-within}
 use Rattle.rules.specs.declared.statement.Line.{Line}
 use Rattle.rules.specs.declared.statement.Rate.{Rate}
 use Rattle.rules.specs.declared.statement.Rate.the-variants.{Utilisation, Optional}
@@ -20,20 +17,10 @@ use Rattle.settle_lines.specs.declared.cursor.Cursor.{Cursor}
 use Rattle.settle_lines.specs.Cursor.{rateBy, priceBy, steadyAt, lineBy, cutBy, Plan, Ready}
 use Rattle.settle_lines.proofs.Step.{next}
 
-lesser-within : (b : ℕ) (x y : ℤ) → Within b x → Within b y → Within b (lesser x y)
-lesser-within b x y h k = ⊎-elim (λ e. rw (e .0) h) (λ e. rw (e .0) k) (lesser-cases x y)
-
 expected-within : (kw n : ℕ) (steady : Bool) → kw ≤ 500000 → n ≤ 30 → Within 120000000 (pos (expectedIn kw steady n))
 unfolding expectedIn
 expected-within kw n true h l = omega (arith, mul-le-mul l h)
 expected-within kw n false h l = omega (arith, mul-le-mul l h)
-
-delivers-within : (kind : ℕ) (S x : ℤ) → Within 2000000 S → Within 500000 x → Within 4000000 (delivers kind S x)
-delivers-within kind S x h k =
-    elim (eqb kind 0) as (λ t. Within 4000000 (cond t (pos 4 *ℤ x -ℤ S) (S -ℤ pos 4 *ℤ x))) [
-      | true ↦ omega (arith, mul-parts (pos 4) x, diff-parts (pos 4 *ℤ x) S)
-      | false ↦ omega (arith, mul-parts (pos 4) x, diff-parts S (pos 4 *ℤ x))
-    ]
 
 price-within : (t : Terms) (r : Rate) → t .utilisation ≤ 1000000 → t .optional ≤ 1000000 → priceBy t r ≤ 1000000
 price-within t Utilisation h k = h
@@ -56,11 +43,6 @@ bounded {t} {times} {live} {meter} {c} p r =
     let x = expected-within (natAbs (t .kw .0)) (cutBy c - c .minute .0) steady (p .kw .0) (omega (arith, n .readable)) in
     let s = sum-within (λ m. delivers (t .kind) (c .active .base) (cell meter m)) 4000000 (c .minute .0) (cutBy c)
     (λ m a b. delivers-within (t .kind) (c .active .base) (cell meter m) (n .base) (n .readable .read m a b)) in
-    let l : Within 500000 (capped (kwh E) (kwh D)) = lesser-within 500000 (kwh E) (kwh D) (nearest-bound E 240 500000 (lit< tt) x)
-    (nearest-bound D 240 500000 (lit< tt) (omega (arith, s, n .readable))) in
+    let l : Within 500000 (capped (kwh E) (kwh D)) = capped-within E D x (omega (arith, s, n .readable)) in
     let z : priceBy t R ≤ 1000000 = price-within t R (p .utilisation) (p .optional) in
-    record {
-      capped = l;
-      pence = nearest-bound (capped (kwh E) (kwh D) *ℤ pos (priceBy t R)) 1000 500000000 (lit< tt)
-          (omega (arith, mul-parts (capped (kwh E) (kwh D)) (pos (priceBy t R)), mul-le-mul (l .0) z, mul-le-mul (l .1) z));
-    }
+    record { capped = l; pence = payment-within (capped (kwh E) (kwh D)) (priceBy t R) l z }

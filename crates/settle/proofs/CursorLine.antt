@@ -1,12 +1,10 @@
 -- The numbers that settling holds are the rules': a line at the cursor is a line of the rules.
 use mathlib.Core.Path.{_≡_, refl, sym, _∙_, ap, ap₂}
-use mathlib.Core.Bool.{Bool, cond, _&&_, _||_, and-true, and-false, or-false, or-self}
+use mathlib.Core.Bool.{cond, _||_}
 use mathlib.Core.List.{List}
-use Prim.Native.Nat.{ℕ, _+_, _-_, _≤_, _<_}
+use Prim.Native.Nat.{ℕ, _+_, _-_, _<_}
 use native.Mathlib.Omega.{arith}
-use lib.Dec.{leb, ltb}
 use lib.IntN.{ℤ, pos, natAbs, pos-*ℤ-pos}
-use borrow.Author.Tests.{le-leb, lt-leb}
 use Rattle.energy.specs.Energy.{cell, steadyQuarters, rampQuarters, delivers, expectedIn, deliveredIn}
 use Rattle.energy.specs.Lists.{sum, between}
 use Rattle.energy.specs.Number.{Within}
@@ -16,11 +14,10 @@ use Rattle.rules.specs.Segment.{baseMinutes, stageOf, inLive, anchor, rateAt, p
 use Rattle.rules.specs.Statement.{expects, reads, baseLoad, expectedOf, deliveredOf, lineOf}
 use Rattle.commands.specs.declared.contract.Contract.{Contract}
 use Rattle.commands.specs.declared.entries.Instruction.{Instruction}
-use Rattle.rules.specs.declared.statement.Stage.{Stage}
-use Rattle.rules.specs.declared.statement.Stage.the-variants.{Up, Steady, Down}
 use Rattle.rules.specs.declared.statement.Rate.{Rate}
 use Rattle.rules.specs.declared.statement.Rate.the-variants.{Utilisation, Optional}
-use Rattle.rules.proofs.Cuts.{split, cut, segmentAt, stage-flat}
+use Rattle.rules.proofs.Cuts.{cut, segmentAt, stage-flat}
+use Rattle.rules.proofs.Stages.{expects-stage, rate-stage}
 use Rattle.rules.specs.Cuts.{stageAt}
 use Rattle.settle_terms.specs.declared.Terms.{Terms}
 use Rattle.settle_lines.specs.declared.cursor.Active.{Active}
@@ -40,15 +37,6 @@ pub record Tied (g : Ledger) (t : Terms) (times live : List ℕ) (meter : List �
   pub optional : t .optional ≡ contractOf g .optional
   pub periods : (m : ℕ) → liveAt live m ≡ inLive g m
   pub reading : (m : ℕ) → m < spanIn g → Within 500000 (cell meter m) → reads g m ≡ cell meter m
-
--- ---- the rate: by the minute itself, or by the ramp's anchor
-rate-same : (here early late : Bool) (e c m : ℕ) → e ≤ c → (at : Stage → Bool) → at Up ≡ early → at Steady ≡ here → at Down ≡ late
-    → ((here || (early && ltb m e)) || (late && leb c m)) ≡ (here || at (stageAt e c m))
-rate-same here early late e c m o at u s d =
-    split e c m (λ p q. ((here || (early && p)) || (late && leb c m)) ≡ (here || at (cond p Up (cond q Steady Down))))
-    (λ l q. rw (lt-leb c m (omega arith), and-true early, and-false late, or-false (here || early), u) refl)
-    (λ k l. rw (lt-leb c m l, and-false early, and-false late, or-false here, or-false here, s) (sym (or-self here)))
-    (λ k l. rw (le-leb c m l, and-false early, and-true late, or-false here, d) refl)
 
 module _ {g : Ledger} {t : Terms} {times live : List ℕ} {meter : List ℤ} {c : Cursor} (T : Tied g t times live meter)
     (r : Ready t times live meter c) where
@@ -95,7 +83,7 @@ module _ {g : Ledger} {t : Terms} {times live : List ℕ} {meter : List ℤ} {c 
       ap (λ (z : Active). z .late) (r .active) ∙ T .periods _ ∙ ap (λ z. inLive g (z - 1)) (here .cease) in
       let h : liveAt live (c .minute .0) ≡ inLive g (c .minute .0) = T .periods (c .minute .0) in
       ap (λ b. cond b Utilisation Optional)
-      (rate-same (liveAt live (c .minute .0)) (c .active .early) (c .active .late) (c .active .expiry .0) (c .active .cease .0) (c .minute .0)
+      (rate-stage (liveAt live (c .minute .0)) (c .active .early) (c .active .late) (c .active .expiry .0) (c .active .cease .0) (c .minute .0)
       (omega (arith, n .expiry, n .cease, q .steady)) (λ s. inLive g (anchor k i s (c .minute .0))) (sym early) (sym h) (sym late)
       ∙ ap₂ _||_ h (ap (λ s. inLive g (anchor k i s (c .minute .0))) (stage-is (c .minute .0))))
 
@@ -111,12 +99,7 @@ module _ {g : Ledger} {t : Terms} {times live : List ℕ} {meter : List ℤ} {c 
   each m = cond (steadyAt (c .active .expiry .0) (c .active .cease .0) m) (steadyQuarters kw) (rampQuarters kw)
 
   expects-is : (m : ℕ) → pos (each m) ≡ expects k (stageAt (c .active .expiry .0) (c .active .cease .0) m)
-  expects-is m =
-      split (c .active .expiry .0) (c .active .cease .0) m
-      (λ p q. pos (cond (leb (c .active .expiry .0) m && q) (steadyQuarters kw) (rampQuarters kw)) ≡ expects k (cond p Up (cond q Steady Down)))
-      (λ l q. rw (lt-leb (c .active .expiry .0) m l, T .kw) refl)
-      (λ a b. rw (le-leb (c .active .expiry .0) m a, T .kw) refl)
-      (λ a b. rw (and-false (leb (c .active .expiry .0) m), T .kw) refl)
+  expects-is m = rw (T .kw) (expects-stage k (c .active .expiry .0) (c .active .cease .0) m)
 
   expected-is : pos (expectedIn kw (steadyAt (c .active .expiry .0) (c .active .cease .0) (c .minute .0)) (cutBy c - c .minute .0)) ≡ expectedOf g seg
   unfolding expectedIn expectedOf

@@ -2,10 +2,13 @@
 //! on months to order, on the comparison's files, also with too little memory,
 //! and on books that no commands leave.
 
+mod watched;
+
 use crate::enter;
 use crate::month::{self, FILE_BYTES, MINUTES, REVISED_BYTES};
 use crate::plain::{self, Book, Contract, Fault, Instruction, Line, Window};
 use crate::sides::{library_rows, rows, tables, LINES};
+use crate::watch::Month;
 use compare::random::Random;
 use compare::scenes::{self, Target};
 use second::book as second_book;
@@ -48,6 +51,7 @@ pub fn check() -> Result<(), String> {
     println!("a dozen months to order: alike");
     let settled = (1..=800).map(check_file).sum::<Result<usize, String>>()?;
     println!("800 generated files, {settled} of them settled: alike");
+    watched::check()?;
     let unsound = (1..=4_000)
         .map(check_made_up)
         .sum::<Result<Unsound, String>>()?;
@@ -83,6 +87,7 @@ fn check_month(seed: u32) -> Result<(), String> {
         }
         entered_alike(&what, file, MINUTES, MINUTES)?;
         file_settled_alike(&what, file, ROOM)?;
+        watched::check_file(&what, file, MINUTES, MINUTES)?;
     }
     Ok(())
 }
@@ -523,6 +528,10 @@ fn check_made_up(seed: u64) -> Result<Unsound, String> {
     let what = format!("made-up book {seed}");
     let unsound = settled_alike(&what, &book, &memory, LINES, Any::Yes)? == Some(11);
     let plain = plain_book(&book);
+    if let Some(tables) = tables(&plain) {
+        let month = (!unsound).then(|| Month::of(&plain));
+        watched::check_tables(&what, &tables, month.as_ref())?;
+    }
     // Something in an unused entry is 11 too; the other two have no such entries.
     if book.contract.is_some() && book.windows.len() < plain::WINDOWS {
         let mut unclean = plain.clone();

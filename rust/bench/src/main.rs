@@ -1,6 +1,6 @@
 //! `bench time [REPEATS]` times the plain settlement and the proved library on
 //! months to order, and likewise the reading and entering of their files, with
-//! plain readings and with revisions;
+//! plain readings and with revisions, and watching them minute by minute;
 //! `bench check` holds both against the second settlement;
 //! `bench file SEED` puts out the unit file of a seed.
 
@@ -10,6 +10,8 @@ mod month;
 mod plain;
 mod sides;
 mod time;
+mod watch;
+mod watchers;
 
 use std::io::Write;
 use std::process::ExitCode;

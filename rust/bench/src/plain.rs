@@ -117,16 +117,28 @@ pub struct Answer {
 }
 
 /// An instruction with its stages' first minutes worked out.
-#[derive(Clone, Copy, Default)]
-struct Run {
-    issue: i32,
-    ramp_up: i32,
-    e: i32,
-    cease: i32,
-    f: i32,
+#[derive(Clone, Copy, Default, PartialEq, Eq, Debug)]
+pub struct Run {
+    pub issue: i32,
+    pub ramp_up: i32,
+    pub e: i32,
+    pub cease: i32,
+    pub f: i32,
 }
 
 impl Run {
+    /// With U and V.
+    pub fn of(contract: &Contract, instruction: &Instruction, up: i32, down: i32) -> Run {
+        let e = instruction.issue + contract.response;
+        Run {
+            issue: instruction.issue,
+            ramp_up: e - up,
+            e,
+            cease: instruction.cease,
+            f: instruction.cease + down,
+        }
+    }
+
     fn stages(&self) -> [(Stage, i32, i32); 3] {
         [
             (Stage::RampUp, self.ramp_up, self.e),
@@ -150,7 +162,7 @@ impl Contract {
         1_440 * self.days
     }
 
-    fn up(&self) -> i32 {
+    pub fn up(&self) -> i32 {
         (self.kw + self.ramp_up - 1) / self.ramp_up
     }
 
@@ -253,7 +265,7 @@ impl Book {
 }
 
 /// The nearest whole number; of two equally near ones, the larger.
-fn nearest<const DIVISOR: i64>(number: i64) -> i64 {
+pub fn nearest<const DIVISOR: i64>(number: i64) -> i64 {
     (2 * number + DIVISOR).div_euclid(2 * DIVISOR)
 }
 
@@ -289,14 +301,7 @@ pub fn settle(
     let (up, down) = (contract.up(), contract.down());
     let mut needed = 0;
     for (run, instruction) in runs.iter_mut().zip(&book.instructions) {
-        let e = instruction.issue + contract.response;
-        *run = Run {
-            issue: instruction.issue,
-            ramp_up: e - up,
-            e,
-            cease: instruction.cease,
-            f: instruction.cease + down,
-        };
+        *run = Run::of(contract, instruction, up, down);
         let read = all_read(slice(meter, run.issue - 3, run.issue + 1))
             && all_read(slice(meter, run.ramp_up, run.f));
         if !read {
@@ -334,13 +339,13 @@ pub fn settle(
 }
 
 /// Live windows, and the periods in them.
-struct Live {
+pub struct Live {
     windows: [bool; WINDOWS],
-    periods: [bool; PERIODS],
+    pub periods: [bool; PERIODS],
 }
 
 impl Live {
-    fn of(book: &Book, runs: &[Run]) -> Live {
+    pub fn of(book: &Book, runs: &[Run]) -> Live {
         let mut live = Live {
             windows: [false; WINDOWS],
             periods: [false; PERIODS],

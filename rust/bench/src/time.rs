@@ -2,6 +2,8 @@
 
 use crate::month;
 use crate::sides::{enterers, settlers, Side};
+use crate::watch;
+use crate::watchers::watchers;
 use std::hint::black_box;
 use std::rc::Rc;
 use std::time::Instant;
@@ -10,8 +12,10 @@ const SEEDS: [u32; 8] = [1, 2, 3, 4, 5, 6, 7, 8];
 /// Everything is done twice, to see how far one side is from itself.
 const RUNS: usize = 2;
 pub const REPEATS: usize = 1_000;
-/// A file takes longer to enter than its month to settle.
+/// A file takes longer to enter than its month to settle, and a month longer to
+/// watch.
 const ENTERING_SHARE: usize = 5;
+const WATCHING_SHARE: usize = 5;
 
 /// Microseconds of one side's calls in one run, for each month.
 type Run = Vec<Vec<f64>>;
@@ -31,8 +35,9 @@ pub fn time(repeats: usize) -> Result<(), String> {
     println!("the mean of the months' best and median times");
     println!("\nsettling a book, {repeats} calls for each month, run and side");
     let mut sides = settlers();
-    let taken = take_turns(&mut sides, repeats)?;
-    print(&sides, &taken);
+    let settling = take_turns(&mut sides, repeats)?;
+    print(&sides, &settling);
+    time_watching(repeats.div_ceil(WATCHING_SHARE), &settling)?;
     let fewer = repeats.div_ceil(ENTERING_SHARE);
     println!("\nreading and entering a file, {fewer} calls for each month, run and side");
     let mut sides = enterers();
@@ -47,6 +52,28 @@ pub fn time(repeats: usize) -> Result<(), String> {
             side.name(),
             revised.best() / plain.best(),
             revised.median() / plain.median()
+        );
+    }
+    Ok(())
+}
+
+/// All active minutes of a month, step by step; and what one step takes beside
+/// settling the month again.
+fn time_watching(repeats: usize, settling: &[Taken]) -> Result<(), String> {
+    println!("\nwatching a month, {repeats} times all its steps for each month, run and side");
+    let mut sides = watchers();
+    let taken = take_turns(&mut sides, repeats)?;
+    print(&sides, &taken);
+    let minutes = SEEDS.map(|seed| watch::Month::of(&month::of_seed(seed).book).minutes());
+    let steps = minutes.iter().sum::<usize>() as f64 / SEEDS.len() as f64;
+    for (side, (watching, settling)) in sides.iter().zip(taken.iter().zip(settling)) {
+        println!(
+            "{}: {steps:.0} steps; one takes {:.1} ns at best, {:.1} in the median; settling the month again takes {:.0} and {:.0} times that",
+            side.name(),
+            1e3 * watching.best() / steps,
+            1e3 * watching.median() / steps,
+            settling.best() / (watching.best() / steps),
+            settling.median() / (watching.median() / steps)
         );
     }
     Ok(())

@@ -1,6 +1,8 @@
 //! What the generated files met: refusals, ends of ranges, and features of
 //! settled months. A comparison proves little about what it never met.
 
+mod watched;
+
 use second::book::{self, Book, Entered};
 use second::bytes::{self, Command, Contract, Instruction, Read};
 use second::memory::Memory;
@@ -18,7 +20,7 @@ pub const REFUSALS: [u8; 20] = [
 /// Of these, what only settling meets.
 const SETTLING: [u8; 2] = [24, 25];
 
-const FEATURES: [&str; 80] = [
+const FEATURES: [&str; 102] = [
     "settled, generator",
     "settled, demand reducer",
     "settled, committed",
@@ -99,13 +101,36 @@ const FEATURES: [&str; 80] = [
     "written, closed",
     "written, in another order",
     "written, revised",
+    "watched, open",
+    "watched, closed",
+    "watched, no contract",
+    "watched, no active minute",
+    "watched, stopped at a minute",
+    "watched, stopped at a base minute",
+    "watched, generator",
+    "watched, demand reducer",
+    "watched, second instruction",
+    "watched, later day",
+    "watched, cease = e",
+    "watched, ramp up across periods",
+    "watched, ramp down across periods",
+    "watched, ramp up paid by e alone",
+    "watched, ramp down paid by cease - 1 alone",
+    "watched, base minute active in the instruction before",
+    "watched, base minute active in its own ramp up",
+    "watched, minute in a rejected window",
+    "watched, minute in an excluded window",
+    "watched, segment of one minute",
+    "watched, reading revised",
+    "watched, capped below 0",
 ];
 
 /// Features that start like this are met in whole months alone, and must be
 /// met by a comparison on them.
 const WHOLE_MONTH: &str = "31 days";
-/// Features that start like this are met where files are written.
+/// Features that start like these are met where files are written, or watched.
 const WRITTEN: &str = "written";
+const WATCHED: &str = "watched";
 /// No month has more lines.
 const MOST_LINES: i64 = 1_679;
 
@@ -118,9 +143,13 @@ pub struct Coverage {
     whole_months: bool,
     /// Whether some program had less.
     short_months: bool,
-    /// Whether some program listed files, or wrote them.
+    /// Whether some program listed files, or wrote or watched them.
     listed: bool,
     written: bool,
+    watched: bool,
+    /// Months that have active minutes, and these, where they are watched.
+    months: usize,
+    minutes: usize,
     lines: usize,
     windows: usize,
     refused: usize,
@@ -165,22 +194,27 @@ impl Coverage {
     /// Counts what entering a file meets; its answer, the book and the
     /// readings.
     fn add(&mut self, file: &[u8], room: Room) -> (Result<(), u8>, Book, Memory) {
-        self.files += 1;
-        self.bytes += file.len();
-        self.longest = self.longest.max(file.len());
         let whole = room.minutes as i64 >= DAYS.end() * DAY;
         self.whole_months |= whole;
         self.short_months |= !whole;
-        let mut book = Book::default();
-        let mut memory = Memory::of_minutes(room.minutes);
-        let entered = book::enter_file(file, &mut book, &mut memory, true, Switch::RIGHT);
+        let (entered, book, memory) = self.entered(file, room);
         // What stands behind a refusal is not looked at, and so not met.
         for command in &entered {
             self.count_operands(file, command.offset);
         }
         self.count_revisions(file, &entered);
-        let taken = entered.last().map_or(Ok(()), |last| last.answer);
-        (taken, book, memory)
+        (answer(&entered), book, memory)
+    }
+
+    /// Enters a file, up to its first refusal.
+    fn entered(&mut self, file: &[u8], room: Room) -> (Vec<Entered>, Book, Memory) {
+        self.files += 1;
+        self.bytes += file.len();
+        self.longest = self.longest.max(file.len());
+        let mut book = Book::default();
+        let mut memory = Memory::of_minutes(room.minutes);
+        let entered = book::enter_file(file, &mut book, &mut memory, true, Switch::RIGHT);
+        (entered, book, memory)
     }
 
     /// What revisions, and plain readings after them, find in their minute.
@@ -245,6 +279,7 @@ impl Coverage {
     fn refusals_to_meet(&self) -> impl Iterator<Item = u8> + '_ {
         REFUSALS
             .into_iter()
+            .filter(|_| self.listed || self.written)
             .filter(|number| self.short_months || *number != 15)
             .filter(|number| self.listed || !SETTLING.contains(number))
     }
@@ -255,9 +290,10 @@ impl Coverage {
         FEATURES
             .into_iter()
             .filter(|feature| self.whole_months || !feature.starts_with(WHOLE_MONTH))
-            .filter(|feature| match feature.starts_with(WRITTEN) {
-                true => self.written,
-                false => self.listed,
+            .filter(|feature| match *feature {
+                feature if feature.starts_with(WRITTEN) => self.written,
+                feature if feature.starts_with(WATCHED) => self.watched,
+                _ => self.listed,
             })
     }
 
@@ -584,6 +620,21 @@ impl Coverage {
             ),
             false => println!("taken {taken}, refused {}", self.refused),
         }
+        if self.watched {
+            println!("watched {} minutes of {} months", self.minutes, self.months);
+        }
+        if self.listed || self.written {
+            self.print_entries();
+        }
+        println!("features of settled, written and watched files");
+        for feature in self.features_to_meet() {
+            let count = self.features.get(feature).unwrap_or(&0);
+            let mark = if *count == 0 { "  (never met)" } else { "" };
+            println!("  {feature:<53} {count:>7}{mark}");
+        }
+    }
+
+    fn print_entries(&self) {
         print!("refusals");
         for number in self.refusals_to_meet() {
             print!("  {number}: {}", self.refusals.get(&number).unwrap_or(&0));
@@ -592,13 +643,12 @@ impl Coverage {
         for (name, counts) in &self.ends {
             println!("  {name:<20} {}", ends_shown(*counts));
         }
-        println!("features of settled and written files");
-        for feature in self.features_to_meet() {
-            let count = self.features.get(feature).unwrap_or(&0);
-            let mark = if *count == 0 { "  (never met)" } else { "" };
-            println!("  {feature:<46} {count:>7}{mark}");
-        }
     }
+}
+
+/// How entering ended.
+fn answer(entered: &[Entered]) -> Result<(), u8> {
+    entered.last().map_or(Ok(()), |last| last.answer)
 }
 
 fn ends_shown(counts: [Option<usize>; 4]) -> String {

@@ -1,12 +1,13 @@
 //! Compares a lister with the second settlement on generated unit files.
 //!
 //!   compare [--lister PROGRAM] [--months PROGRAM] [--writer PROGRAM]
-//!           [--answers PROGRAM] [--count N] [--months-count N] [--seed S]
-//!           [--wrong NAME] [--write DIRECTORY]
+//!           [--watch PROGRAM] [--answers PROGRAM] [--count N]
+//!           [--months-count N] [--seed S] [--wrong NAME] [--write DIRECTORY]
 //!
 //! A writer puts out the book of a file as a file again, and nothing where a
-//! command is refused; a program of answers says of each command what became of
-//! it; both as `second` does it.
+//! command is refused; a program that watches prints the totals after each active
+//! minute; a program of answers says of each command what became of it; all as
+//! `second` does it.
 //! The file of seed S is the same in every run, so `--count 1 --seed S` makes
 //! a single one again.
 
@@ -26,8 +27,8 @@ use std::path::{Path, PathBuf};
 use std::process::ExitCode;
 
 const USAGE: &str = "compare [--lister PROGRAM] [--months PROGRAM] [--writer PROGRAM] \
-                     [--answers PROGRAM] [--count N] [--months-count N] [--seed S] \
-                     [--wrong NAME] [--write DIRECTORY]";
+                     [--watch PROGRAM] [--answers PROGRAM] [--count N] [--months-count N] \
+                     [--seed S] [--wrong NAME] [--write DIRECTORY]";
 
 /// After so many differences there is nothing new to learn.
 const MOST_DIFFERENCES: usize = 10;
@@ -54,7 +55,9 @@ const LISTER: Side = Side {
         days: 11,
         whole: false,
     },
+    file: scenes::file,
     output: |file, room, switch| rows::list(file, room, switch).into_bytes(),
+    noticing: |output| output,
 };
 
 const MONTHS: Side = Side {
@@ -77,6 +80,14 @@ const WRITER: Side = Side {
     ..MONTHS
 };
 
+const WATCH: Side = Side {
+    name: "watch",
+    file: scenes::watched,
+    output: |file, room, switch| rows::watch(file, room, switch).into_bytes(),
+    noticing: minutes,
+    ..WRITER
+};
+
 const ANSWERS: Side = Side {
     name: "answers",
     output: |file, room, switch| rows::answers(file, room, switch).into_bytes(),
@@ -88,13 +99,28 @@ struct Side {
     name: &'static str,
     room: Room,
     target: Target,
+    /// The file of a seed.
+    file: fn(u64, Target) -> Vec<u8>,
     output: fn(&[u8], Room, Switch) -> Vec<u8>,
+    /// The part of an output that has to notice a rule turned wrong.
+    noticing: fn(&[u8]) -> &[u8],
+}
+
+/// The rows of minutes, without the T row, which shows what settling notices.
+fn minutes(rows: &[u8]) -> &[u8] {
+    let last = rows.windows(3).position(|start| start == b"\nT ");
+    match last {
+        Some(at) => &rows[..=at],
+        None if rows.starts_with(b"T ") => &[],
+        None => rows,
+    }
 }
 
 struct Options {
     lister: Option<Program>,
     months: Option<Program>,
     writer: Option<Program>,
+    watch: Option<Program>,
     answers: Option<Program>,
     count: u64,
     months_count: Option<u64>,
@@ -108,6 +134,7 @@ fn options() -> Result<Options, String> {
         lister: None,
         months: None,
         writer: None,
+        watch: None,
         answers: None,
         count: 3_000,
         months_count: None,
@@ -127,6 +154,7 @@ fn options() -> Result<Options, String> {
             "--lister" => options.lister = Some(Program::named(&value)),
             "--months" => options.months = Some(Program::named(&value)),
             "--writer" => options.writer = Some(Program::named(&value)),
+            "--watch" => options.watch = Some(Program::named(&value)),
             "--answers" => options.answers = Some(Program::named(&value)),
             "--count" => options.count = number()?,
             "--months-count" => options.months_count = Some(number()?),
@@ -143,6 +171,7 @@ fn options() -> Result<Options, String> {
         &options.lister,
         &options.months,
         &options.writer,
+        &options.watch,
         &options.answers,
     ];
     if programs.iter().all(|program| program.is_none()) && options.write.is_none() {
@@ -216,19 +245,24 @@ fn compare(
     let right = options.switch == Switch::RIGHT;
     let mut differences = 0;
     for seed in options.seed..options.seed + count {
-        let file = scenes::file(seed, side.target);
+        let file = (side.file)(seed, side.target);
         let ours = (side.output)(&file, side.room, options.switch);
         let theirs = program.output(&file, &place.join("now.unit"), seed % 2 == 1);
         if let Some(coverage) = &mut coverage {
-            match side.name == WRITER.name {
-                true => coverage.add_written(&file, side.room, &ours),
-                false => coverage.add_listed(&file, side.room),
+            match side.name {
+                name if name == WRITER.name => coverage.add_written(&file, side.room, &ours),
+                name if name == WATCH.name => coverage.add_watched(&file, side.room),
+                _ => coverage.add_listed(&file, side.room),
             }
             check_writer(&file, side.room.minutes)
                 .map_err(|wrong| format!("seed {seed}: {wrong}"))?;
         }
         let theirs = theirs.map_err(|error| format!("seed {seed}: {error}"))?;
-        if theirs == ours {
+        let alike = match right {
+            true => theirs == ours,
+            false => (side.noticing)(&theirs) == (side.noticing)(&ours),
+        };
+        if alike {
             continue;
         }
         differences += 1;
@@ -266,6 +300,7 @@ fn compare_all(options: &Options, place: &Path) -> Result<(usize, Coverage), Str
         (&LISTER, &options.lister, options.count),
         (&MONTHS, &options.months, months_count),
         (&WRITER, &options.writer, options.count),
+        (&WATCH, &options.watch, options.count),
         (&ANSWERS, &options.answers, options.count),
     ];
     for (side, program, count) in sides {

@@ -84,10 +84,38 @@ const SCENES: [Scene; SCENE_COUNT] = [
     careless,
 ];
 
+/// The scenes of files that are watched: nearly all are taken, and most have
+/// active minutes.
+const WATCHED: [Scene; 14] = [
+    settled,
+    settled,
+    settled,
+    excluding,
+    excluding,
+    ramps_at_edges,
+    ramps_at_edges,
+    range_ends,
+    full_day,
+    slow_ramp,
+    fullest_days,
+    left_open,
+    missing_reading,
+    nothing_much,
+];
+
 /// The file of a seed.
 pub fn file(seed: u64, target: Target) -> Vec<u8> {
+    of_scenes(&SCENES, seed, target)
+}
+
+/// The file of a seed that is to be watched.
+pub fn watched(seed: u64, target: Target) -> Vec<u8> {
+    of_scenes(&WATCHED, seed, target)
+}
+
+fn of_scenes(scenes: &[Scene], seed: u64, target: Target) -> Vec<u8> {
     let mut random = Random::new(seed);
-    let scene = SCENES[(seed % SCENES.len() as u64) as usize];
+    let scene = scenes[(seed % scenes.len() as u64) as usize];
     scene(&mut random, target)
 }
 
@@ -321,6 +349,15 @@ fn fullest(random: &mut Random, target: Target) -> Vec<u8> {
         }
     }
     bytes(&plan.entries(random))
+}
+
+/// The same with few days, for those that look at every minute.
+fn fullest_days(random: &mut Random, _: Target) -> Vec<u8> {
+    let few = Target {
+        days: 3,
+        whole: false,
+    };
+    fullest(random, few)
 }
 
 /// Many days with most tables well filled; every minute read only now and then.

@@ -1,10 +1,10 @@
 //! The commands, and what is said of them.
 
-use crate::{form, list, write, Command, Failure};
+use crate::{form, list, watch, write, Command, Failure};
 use std::ffi::{OsStr, OsString};
 use std::io::{self, Write};
 
-const COMMANDS: [Command; 5] = [
+const COMMANDS: [Command; 6] = [
     Command {
         name: "list",
         words: "[--explain] [FILE..]",
@@ -15,6 +15,18 @@ lines that start with '# ': under a refusal what is wrong, the refused command
 and where to look, under a statement its totals in MWh and pounds. What each row
 means is in docs/COURSE.md.",
         run: list::run,
+    },
+    Command {
+        name: "watch",
+        words: "[--screen] [FILE]",
+        about: "the running totals of a unit file, minute by minute",
+        help: "A row M for each active minute, in order: instruction, minute, base load, what the
+segment so far expects and delivers, capped kWh and pence of the lines complete.
+Then the T row, where the month can be settled. --screen shows each minute in the
+place of the last. A refused file has its R row on standard error and no others; a
+minute without a reading is named there, after the rows before it. The exit status
+is 1 then. What each number means is in docs/COURSE.md.",
+        run: watch::run,
     },
     Command {
         name: "write",

@@ -1,7 +1,7 @@
 //! `stor list`: the rows of unit files of up to 31 days.
 
 use crate::input::{contents, is_option, STANDARD};
-use crate::{explain, Failure};
+use crate::{explain, Failure, MALFORMED};
 use std::ffi::OsString;
 use std::io::{self, Write};
 use stor::{rows, Memory};
@@ -71,7 +71,7 @@ fn listing(memory: &mut Memory, file: &[u8], explain: bool) -> Result<String, St
             explain.then(|| explain::refusal(refusal, file)),
         ),
         Err(stor::Failure::Malformed) => {
-            return Err("the library's answer is no statement".to_string());
+            return Err(MALFORMED.to_string());
         }
     };
     for line in words.into_iter().flatten() {

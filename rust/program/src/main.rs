@@ -6,10 +6,14 @@ mod form;
 mod help;
 mod input;
 mod list;
+mod watch;
 mod write;
 
 use std::ffi::OsString;
 use std::process::ExitCode;
+
+/// What is said of numbers that the library does not promise.
+const MALFORMED: &str = "the library's answer is no statement";
 
 /// Why a command did not do what it was asked for.
 enum Failure {

@@ -9,8 +9,9 @@ const APPENDIX_2: &[u8] = include_bytes!("../../../examples/appendix2.unit");
 const APPENDIX_2_TEXT: &str = include_str!("../../../examples/appendix2.txt");
 const APPENDIX_2_ROWS: &str = include_str!("../../../examples/appendix2.rows");
 
-const USAGE: &str = "usage: stor list|write|pack|show|help ..\n";
+const USAGE: &str = "usage: stor list|watch|write|pack|show|help ..\n";
 const LIST_USAGE: &str = "usage: stor list [--explain] [FILE..]\n";
+const WATCH_USAGE: &str = "usage: stor watch [--screen] [FILE]\n";
 const WRITE_USAGE: &str = "usage: stor write [FILE]\n";
 const PACK_USAGE: &str = "usage: stor pack < TEXT > FILE\n";
 const SHOW_USAGE: &str = "usage: stor show < FILE > TEXT\n";
@@ -198,6 +199,117 @@ fn list_refuses_other_options() {
     }
 }
 
+/// The M rows of Appendix 2, its first minute's and its last one's.
+const FIRST_TOTALS: &str = "M 1 19 0 24000 0 0 0\n";
+const LAST_TOTALS: &str = "M 1 90 0 24000 12000 12800 384000\n";
+const APPENDIX_2_T: &str = "T 12800 384000 32400 416400\n";
+/// How many active minutes it has.
+const APPENDIX_2_ACTIVE: usize = 72;
+
+#[test]
+fn watch_prints_a_row_for_each_active_minute() {
+    let run = stor(&["watch", &example("appendix2")], b"");
+    assert_eq!((run.status, run.said.as_str()), (0, ""));
+    let rows: Vec<&str> = run.text().lines().collect();
+    assert_eq!(rows.len(), APPENDIX_2_ACTIVE + 1);
+    assert!(run.text().starts_with(FIRST_TOTALS));
+    // The ramp up's line is complete after minute 24, and the next one's sums
+    // begin with minute 25.
+    assert_eq!(rows[5], "M 1 24 0 144000 120000 500 15000");
+    assert_eq!(rows[6], "M 1 25 0 48000 48000 500 15000");
+    assert!(run
+        .text()
+        .ends_with(&format!("{LAST_TOTALS}{APPENDIX_2_T}")));
+    assert_eq!(stor(&["watch"], APPENDIX_2), run);
+    assert_eq!(stor(&["watch", "-"], APPENDIX_2), run);
+}
+
+#[test]
+fn watch_takes_open_and_empty_books() {
+    let open = stor(&["watch"], &APPENDIX_2[..APPENDIX_2.len() - 1]);
+    assert_eq!((open.status, open.said.as_str()), (0, ""));
+    assert_eq!(open.text().lines().count(), APPENDIX_2_ACTIVE);
+    assert!(open.text().ends_with(LAST_TOTALS));
+    assert_eq!(stor(&["watch"], b""), done(""));
+    // A month without an instruction has its T row alone.
+    let quiet = stor(&["watch", &example("contract-close")], b"");
+    assert_eq!(quiet, done("T 0 0 0 0\n"));
+}
+
+#[test]
+fn watch_goes_by_corrected_readings() {
+    let right = stor(&["watch"], APPENDIX_2);
+    assert_eq!(right.status, 0);
+    assert_eq!(stor(&["watch", &example("corrected-month")], b""), right);
+}
+
+#[test]
+fn watch_stops_at_a_minute_without_a_reading() {
+    let last = stor(&["watch", &example("refusal-25")], b"");
+    let said = "stor: minute 90 of instruction 1 has no reading\n";
+    assert_eq!((last.status, last.said.as_str()), (1, said));
+    assert_eq!(last.text().lines().count(), APPENDIX_2_ACTIVE - 1);
+    assert!(last.text().starts_with(FIRST_TOTALS));
+    let base = stor(&["watch", &example("missing-base-25")], b"");
+    let said = "stor: minute 2, a base minute of instruction 1, has no reading\n";
+    assert_eq!(base, failed(said));
+}
+
+#[test]
+fn watch_gives_no_rows_of_a_refused_file() {
+    assert_eq!(stor(&["watch"], b"Z"), failed("R 13 0\n"));
+    let twice = [APPENDIX_2, APPENDIX_2].concat();
+    let row = format!("R 12 {}\n", APPENDIX_2.len());
+    assert_eq!(stor(&["watch", "--screen"], &twice), failed(&row));
+}
+
+/// What `--screen` draws for rows: each in the place of the last.
+fn drawn(rows: &str) -> String {
+    let minutes = rows.lines().filter(|row| row.starts_with('M'));
+    let line: String = minutes.map(|row| format!("\r{row}\x1b[K")).collect();
+    format!("{line}\n")
+}
+
+#[test]
+fn watch_draws_minutes_in_place() {
+    let rows = stor(&["watch"], APPENDIX_2);
+    let screen = format!("{}{APPENDIX_2_T}", drawn(rows.text()));
+    assert_eq!(stor(&["watch", "--screen"], APPENDIX_2), done(&screen));
+    // Options may stand behind files.
+    let words = ["watch", &example("appendix2"), "--screen"];
+    assert_eq!(stor(&words, b""), done(screen));
+    // Where nothing is drawn, no line is ended.
+    assert_eq!(stor(&["watch", "--screen"], b""), done(""));
+    // The message stands on a line of its own.
+    let file = example("refusal-25");
+    let rows = stor(&["watch", &file], b"");
+    let screen = stor(&["watch", "--screen", &file], b"");
+    assert_eq!(screen.text(), drawn(rows.text()));
+    assert_eq!((screen.status, screen.said), (1, rows.said));
+}
+
+#[test]
+fn watch_says_that_a_file_cannot_be_read() {
+    let run = stor(&["watch", "/no/such/file"], b"");
+    assert_eq!((run.status, run.text()), (1, ""));
+    assert!(
+        run.said.starts_with("stor: /no/such/file: "),
+        "{}",
+        run.said
+    );
+}
+
+#[test]
+fn watch_takes_one_file() {
+    for words in [
+        &["watch", "a", "b"][..],
+        &["watch", "--explain"],
+        &["watch", "--screen", "--screen"],
+    ] {
+        assert_eq!(stor(words, b""), refused_words(WATCH_USAGE));
+    }
+}
+
 #[test]
 fn write_puts_a_file_into_the_writers_order() {
     let (contract, rest) = APPENDIX_2.split_at(32);
@@ -294,7 +406,14 @@ fn pack_and_show_take_no_words() {
 fn help_names_every_command() {
     let help = stor(&["help"], b"");
     assert_eq!((help.status, help.said.as_str()), (0, ""));
-    for usage in [LIST_USAGE, WRITE_USAGE, PACK_USAGE, SHOW_USAGE, HELP_USAGE] {
+    for usage in [
+        LIST_USAGE,
+        WATCH_USAGE,
+        WRITE_USAGE,
+        PACK_USAGE,
+        SHOW_USAGE,
+        HELP_USAGE,
+    ] {
         let command = usage.trim_start_matches("usage: ").trim_end();
         assert!(help.text().contains(command), "{command}");
     }
@@ -304,6 +423,7 @@ fn help_names_every_command() {
 fn help_has_a_page_for_each_command() {
     for (name, usage) in [
         ("list", LIST_USAGE),
+        ("watch", WATCH_USAGE),
         ("write", WRITE_USAGE),
         ("pack", PACK_USAGE),
         ("show", SHOW_USAGE),
@@ -328,12 +448,15 @@ fn unknown_words_get_a_usage_line() {
 
 #[test]
 fn output_that_cannot_be_written_is_a_failure() {
-    let full = std::fs::OpenOptions::new().write(true).open("/dev/full");
-    let status = Command::new(env!("CARGO_BIN_EXE_stor"))
-        .args(["list", &example("appendix2")])
-        .stdout(full.expect("a device that is always full"))
-        .stderr(Stdio::null())
-        .status()
-        .expect("the program starts");
-    assert_eq!(status.code(), Some(1));
+    for words in [&["list"][..], &["watch"], &["watch", "--screen"]] {
+        let full = std::fs::OpenOptions::new().write(true).open("/dev/full");
+        let status = Command::new(env!("CARGO_BIN_EXE_stor"))
+            .args(words)
+            .arg(example("appendix2"))
+            .stdout(full.expect("a device that is always full"))
+            .stderr(Stdio::null())
+            .status()
+            .expect("the program starts");
+        assert_eq!(status.code(), Some(1), "{words:?}");
+    }
 }

@@ -3,12 +3,12 @@
 use crate::answers::{print_entry, print_minute};
 use crate::held::Held;
 use crate::line::Line;
+use crate::statements::print_settlement;
 use second::book::{self, Book};
 use second::bytes::Command;
 use second::memory::Memory;
 use second::rules::LISTER_LINES;
 use second::switches::Switch;
-use crate::statements::print_settlement;
 
 /// The most minutes that any script lends.
 const CELLS: usize = 44640;

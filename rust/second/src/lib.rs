@@ -10,4 +10,5 @@ pub mod settle;
 pub mod switches;
 #[cfg(test)]
 mod tests;
+pub mod watch;
 pub mod write;

@@ -1,4 +1,4 @@
-//! `second list|write|rewrite|answers [--minutes N] [--lines N] [--wrong NAME]`
+//! `second list|write|rewrite|answers|watch [--minutes N] [--lines N] [--wrong NAME]`
 //! with a unit file on standard input.
 
 use second::rows::{self, Room};
@@ -17,7 +17,7 @@ struct Options {
 fn usage() -> String {
     let names: Vec<&str> = SWITCHES.iter().map(|(name, _)| *name).collect();
     format!(
-        "second list|write|rewrite|answers [--minutes N] [--lines N] [--wrong NAME]\nwrong turns: {}",
+        "second list|write|rewrite|answers|watch [--minutes N] [--lines N] [--wrong NAME]\nwrong turns: {}",
         names.join(" ")
     )
 }
@@ -25,7 +25,7 @@ fn usage() -> String {
 fn options() -> Result<Options, String> {
     let mut arguments = std::env::args().skip(1);
     let mode = arguments.next().ok_or_else(usage)?;
-    if !["list", "write", "rewrite", "answers"].contains(&mode.as_str()) {
+    if !["list", "write", "rewrite", "answers", "watch"].contains(&mode.as_str()) {
         return Err(usage());
     }
     let mut options = Options {
@@ -60,6 +60,7 @@ fn run() -> Result<(), String> {
     let output = match options.mode.as_str() {
         "list" => rows::list(&file, options.room, options.switch).into_bytes(),
         "write" => write::written(&file, options.room.minutes, options.switch),
+        "watch" => rows::watch(&file, options.room, options.switch).into_bytes(),
         "answers" => rows::answers(&file, options.room, options.switch).into_bytes(),
         _ => write::rewrite(&file, options.room.minutes, options.switch),
     };

@@ -1,9 +1,11 @@
-//! Rows as the lister prints them, and the lister itself.
+//! Rows as the lister prints them, and the lister itself; the rows of a file that
+//! is watched.
 
 use crate::book::{self, Book};
 use crate::memory::Memory;
 use crate::settle::{self, Line, Rate, Stage, Statement};
 use crate::switches::Switch;
+use crate::watch::{self, Totals};
 use std::fmt::Write;
 
 /// The memory that a program lends: minutes of kW and of revisions, and lines.
@@ -39,16 +41,32 @@ pub fn statement_rows(statement: &Statement) -> String {
         writeln!(rows, "A {number} {} {}", window.paid_periods, window.pence)
             .expect("text takes every row");
     }
-    writeln!(
-        rows,
-        "T {} {} {} {}",
+    rows + &month_row(statement)
+}
+
+/// The T row.
+fn month_row(statement: &Statement) -> String {
+    format!(
+        "T {} {} {} {}\n",
         statement.capped,
         statement.utilisation_pence,
         statement.availability_pence,
         statement.all_pence
     )
-    .expect("text takes every row");
-    rows
+}
+
+/// The M row.
+pub fn totals_row(totals: &Totals) -> String {
+    format!(
+        "M {} {} {} {} {} {} {}\n",
+        totals.instruction,
+        totals.minute,
+        totals.base,
+        totals.expected,
+        totals.delivered,
+        totals.capped,
+        totals.pence
+    )
 }
 
 pub fn refusal_row(number: u8, offset: usize) -> String {
@@ -80,6 +98,26 @@ pub fn answers(file: &[u8], room: Room, switch: Switch) -> String {
         }
     }
     rows + &settlement_rows(file, &book, &memory, room, switch)
+}
+
+/// What is printed of a file that is watched: the totals after each active
+/// minute, up to one that lacks a reading, and the month's T row where it can be
+/// settled. Nothing of a file with a refusal.
+pub fn watch(file: &[u8], room: Room, switch: Switch) -> String {
+    let mut book = Book::default();
+    let mut memory = Memory::of_minutes(room.minutes);
+    let entered = book::enter_file(file, &mut book, &mut memory, true, switch);
+    if entered.last().is_some_and(|last| last.answer.is_err()) {
+        return String::new();
+    }
+    let mut rows = String::new();
+    for totals in watch::totals(&book, &memory, switch) {
+        rows.push_str(&totals_row(&totals));
+    }
+    if let Ok(statement) = settle::settle(&book, &memory, room.lines, switch) {
+        rows.push_str(&month_row(&statement));
+    }
+    rows
 }
 
 fn settlement_rows(

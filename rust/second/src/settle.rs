@@ -175,19 +175,44 @@ pub fn excluded(book: &Book, contract: &Contract, window: &Window, switch: Switc
 
 /// Accepted and not excluded.
 pub fn live(book: &Book, contract: &Contract, window: &Window, switch: Switch) -> bool {
-    window.rejected == 0 && !excluded(book, contract, window, switch)
+    let accepted = window.rejected == 0 || switch.is(Wrong::RejectedLive);
+    accepted && !excluded(book, contract, window, switch)
 }
 
 /// The minutes that belong to a line, and what they are paid at.
-struct Segment {
-    stage: Stage,
-    period: i64,
-    rate: Rate,
-    minutes: Vec<i64>,
+pub struct Segment {
+    /// The instruction's place, from 0.
+    pub index: usize,
+    pub stage: Stage,
+    pub period: i64,
+    pub rate: Rate,
+    pub minutes: Vec<i64>,
 }
 
-fn segments(
+/// All segments of a book, by rising minute.
+pub fn segments(book: &Book, contract: &Contract, switch: Switch) -> Vec<Segment> {
+    let live_windows: Vec<Window> = book
+        .windows
+        .iter()
+        .copied()
+        .filter(|window| live(book, contract, window, switch))
+        .collect();
+    let mut segments = Vec::new();
+    for (index, instruction) in book.instructions.iter().enumerate() {
+        segments.extend(segments_of(
+            contract,
+            index,
+            instruction,
+            &live_windows,
+            switch,
+        ));
+    }
+    segments
+}
+
+fn segments_of(
     contract: &Contract,
+    index: usize,
     instruction: &Instruction,
     live_windows: &[Window],
     switch: Switch,
@@ -203,6 +228,7 @@ fn segments(
                 last.minutes.push(minute);
             }
             _ => segments.push(Segment {
+                index,
                 stage,
                 period,
                 rate,
@@ -239,29 +265,25 @@ fn rate(
 }
 
 fn lines(book: &Book, contract: &Contract, meter: &[i32], switch: Switch) -> Vec<Line> {
-    let live_windows: Vec<Window> = book
-        .windows
+    segments(book, contract, switch)
         .iter()
-        .copied()
-        .filter(|window| live(book, contract, window, switch))
-        .collect();
-    let mut lines = Vec::new();
-    for (index, instruction) in book.instructions.iter().enumerate() {
-        let base = base_load(instruction, meter, switch);
-        for segment in segments(contract, instruction, &live_windows, switch) {
-            lines.push(line(contract, index, base, &segment, meter, switch));
-        }
-    }
-    lines
+        .map(|segment| line(book, contract, segment, meter, switch))
+        .collect()
 }
 
 fn reading(meter: &[i32], minute: i64) -> i64 {
     i64::from(meter[minute as usize])
 }
 
-/// S: four base readings together, so that four times a reading compares.
-fn base_load(instruction: &Instruction, meter: &[i32], switch: Switch) -> i64 {
-    let sum = base_minutes(instruction)
+/// S of an instruction, by its place: four base readings together, so that four
+/// times a reading compares.
+pub fn base_load(book: &Book, index: usize, meter: &[i32], switch: Switch) -> i64 {
+    let index = if switch.is(Wrong::BaseOfLast) {
+        index.saturating_sub(1)
+    } else {
+        index
+    };
+    let sum = base_minutes(&book.instructions[index])
         .into_iter()
         .map(|minute| reading(meter, minute))
         .sum::<i64>();
@@ -274,30 +296,40 @@ fn base_load(instruction: &Instruction, meter: &[i32], switch: Switch) -> i64 {
 /// Sums are in quarters of a kW-minute, of which 240 are a kWh.
 const QUARTERS: i128 = 240;
 
-fn line(
+/// What a minute of a stage expects.
+pub fn expected_quarters(contract: &Contract, stage: Stage, switch: Switch) -> i64 {
+    let ramp_share = if switch.is(Wrong::WholeRamp) { 4 } else { 2 };
+    let share = match stage {
+        Stage::Steady => 4,
+        Stage::RampUp | Stage::RampDown => ramp_share,
+    };
+    share * contract.kw
+}
+
+/// What a minute delivers over the base load.
+pub fn delivered_quarters(contract: &Contract, base: i64, meter: &[i32], minute: i64) -> i64 {
+    let metered = 4 * reading(meter, minute);
+    if contract.kind == 0 {
+        metered - base
+    } else {
+        base - metered
+    }
+}
+
+pub fn line(
+    book: &Book,
     contract: &Contract,
-    index: usize,
-    base: i64,
     segment: &Segment,
     meter: &[i32],
     switch: Switch,
 ) -> Line {
-    let ramp_share = if switch.is(Wrong::WholeRamp) { 4 } else { 2 };
-    let share = match segment.stage {
-        Stage::Steady => 4,
-        Stage::RampUp | Stage::RampDown => ramp_share,
-    };
+    let base = base_load(book, segment.index, meter, switch);
     let mut expected_sum = 0;
     let mut delivered_sum = 0;
     let mut lesser_sum = 0;
     for &minute in &segment.minutes {
-        let expected = share * contract.kw;
-        let metered = 4 * reading(meter, minute);
-        let delivered = if contract.kind == 0 {
-            metered - base
-        } else {
-            base - metered
-        };
+        let expected = expected_quarters(contract, segment.stage, switch);
+        let delivered = delivered_quarters(contract, base, meter, minute);
         expected_sum += expected;
         delivered_sum += delivered;
         lesser_sum += expected.min(delivered);
@@ -315,7 +347,7 @@ fn line(
         (Rate::Optional, false) | (Rate::Utilisation, true) => contract.optional_rate,
     };
     Line {
-        instruction: index as i64 + 1,
+        instruction: segment.index as i64 + 1,
         period: segment.period,
         stage: segment.stage,
         rate: segment.rate,

@@ -51,10 +51,26 @@ pub enum Wrong {
     RevisionRoomUnasked,
     /// A revised reading is written as a plain one.
     RevisedWrittenPlain,
+    /// A rejected window pays like an accepted one.
+    RejectedLive,
+    /// A line is counted with the minute after its last one.
+    LineMinuteLate,
+    /// A line is counted before it is complete, as far as it has come.
+    LineAtOnce,
+    /// The segment's two sums go on through the whole instruction.
+    SumsRunOn,
+    /// They begin anew with a stage, and not with a period.
+    SumsByStage,
+    /// They begin anew with a period, and not with a stage.
+    SumsByPeriod,
+    /// They are zeros as soon as their line is complete.
+    SumsGoneWithLine,
+    /// The base load shown, and counted from, is that of the instruction before.
+    BaseOfLast,
 }
 
 /// The names by which the command line knows the switches.
-pub const SWITCHES: [(&str, Wrong); 24] = [
+pub const SWITCHES: [(&str, Wrong); 32] = [
     ("cap-by-minute", Wrong::CapByMinute),
     ("base-rounded", Wrong::BaseRounded),
     ("whole-ramp", Wrong::WholeRamp),
@@ -82,6 +98,14 @@ pub const SWITCHES: [(&str, Wrong); 24] = [
     ("plain-keeps-revision", Wrong::PlainKeepsRevision),
     ("revision-room-unasked", Wrong::RevisionRoomUnasked),
     ("revised-written-plain", Wrong::RevisedWrittenPlain),
+    ("rejected-live", Wrong::RejectedLive),
+    ("line-minute-late", Wrong::LineMinuteLate),
+    ("line-at-once", Wrong::LineAtOnce),
+    ("sums-run-on", Wrong::SumsRunOn),
+    ("sums-by-stage", Wrong::SumsByStage),
+    ("sums-by-period", Wrong::SumsByPeriod),
+    ("sums-gone-with-line", Wrong::SumsGoneWithLine),
+    ("base-of-last", Wrong::BaseOfLast),
 ];
 
 /// The rules to go by: the right ones, or all but one of them.

@@ -7,7 +7,8 @@ use crate::bytes::{
 use crate::memory::Memory;
 use crate::rules::*;
 use crate::settle::{self, Statement};
-use crate::switches::{Switch, SWITCHES};
+use crate::switches::{Switch, Wrong, SWITCHES};
+use crate::watch::{self, Totals};
 use crate::write;
 
 const RIGHT: Switch = Switch::RIGHT;
@@ -406,6 +407,139 @@ fn a_corrected_reading_is_settled() {
     let corrected = [reading(30, 0), revision(30, 1, 3_000)];
     assert_eq!(entered(&corrected), right);
     assert_eq!(entered(&[revision(30, 200, 3_000)]), right);
+}
+
+/// Appendix 2 with its readings, and left open.
+fn appendix_2_read() -> Vec<Command> {
+    let mut commands = vec![
+        Command::Contract(appendix_2()),
+        window(0, 180),
+        instruction(5, 85),
+    ];
+    commands.extend((2..=5).map(|minute| reading(minute, 0)));
+    commands.extend((19..25).map(|minute| reading(minute, 2_000 * (minute - 19))));
+    commands.extend((25..29).map(|minute| reading(minute, 12_000)));
+    commands.push(reading(29, 13_000));
+    commands.extend((30..60).map(|minute| reading(minute, 10_000 + 3_000 * (minute % 2))));
+    commands.extend((60..86).map(|minute| reading(minute, 13_000)));
+    commands.extend((86..91).map(|minute| reading(minute, 11_000 - 2_000 * (minute - 86))));
+    commands
+}
+
+/// The totals that are shown of a book of these commands.
+fn shown(commands: &[Command], switch: Switch) -> Vec<Totals> {
+    let (book, memory) = book_of(commands);
+    watch::totals(&book, &memory, switch)
+}
+
+/// Base load, both sums, capped kWh and pence after a minute.
+fn after(totals: &[Totals], minute: i64) -> [i64; 5] {
+    let found = totals.iter().find(|totals| totals.minute == minute);
+    let t = found.expect("an active minute");
+    [t.base, t.expected, t.delivered, t.capped, t.pence]
+}
+
+#[test]
+fn totals_grow_minute_by_minute() {
+    let totals = shown(&appendix_2_read(), RIGHT);
+    let minutes: Vec<i64> = totals.iter().map(|totals| totals.minute).collect();
+    assert_eq!(minutes, (19..91).collect::<Vec<i64>>());
+    assert!(totals.iter().all(|totals| totals.instruction == 1));
+    for (minute, expected) in [
+        (19, [0, 24_000, 0, 0, 0]),
+        (20, [0, 48_000, 8_000, 0, 0]),
+        (24, [0, 144_000, 120_000, 500, 15_000]),
+        (25, [0, 48_000, 48_000, 500, 15_000]),
+        (90, [0, 24_000, 12_000, 12_800, 384_000]),
+    ] {
+        assert_eq!(after(&totals, minute), expected, "{minute}");
+    }
+    // A close changes none of them, and the last are the statement's.
+    let closed = [appendix_2_read(), vec![Command::Close]].concat();
+    assert_eq!(shown(&closed, RIGHT), totals);
+    let statement = settled(&closed).expect("all is read");
+    assert_eq!(after(&totals, 90)[3], statement.capped);
+    assert_eq!(after(&totals, 90)[4], statement.utilisation_pence);
+}
+
+/// Appendix 2, and a second instruction as soon as the first has ended: its base
+/// minutes are the last three of the first one's ramp down, and one more.
+fn two_instructions() -> Vec<Command> {
+    let mut commands = appendix_2_read();
+    commands.push(instruction(91, 111));
+    commands.push(reading(91, 1_000));
+    commands.extend((105..117).map(|minute| reading(minute, 4_000)));
+    commands
+}
+
+#[test]
+fn a_second_instruction_has_its_own_base_load() {
+    let totals = shown(&two_instructions(), RIGHT);
+    assert_eq!(totals.len(), 72 + 12);
+    // 7,000, 5,000, 3,000 and 1,000
+    assert_eq!(
+        after(&totals, 105),
+        [16_000, 24_000, 0, 12_800, 384_000],
+        "its ramp up"
+    );
+    assert_eq!(totals[72].instruction, 2);
+    // The cease is at e, so the ramp down follows the ramp up, and its sums begin
+    // anew.
+    assert_eq!(after(&totals, 110), [16_000, 144_000, 0, 12_800, 384_000]);
+    assert_eq!(after(&totals, 111), [16_000, 24_000, 0, 12_800, 384_000]);
+}
+
+#[test]
+fn totals_end_at_the_first_minute_without_a_reading() {
+    let without = |minute| {
+        let mut commands = two_instructions();
+        commands.retain(|command| match command {
+            Command::Reading(reading) => reading.minute != minute,
+            _ => true,
+        });
+        shown(&commands, RIGHT)
+    };
+    let all = shown(&two_instructions(), RIGHT);
+    // Base minutes of the first and of the second, the latter also active.
+    for (minute, count) in [
+        (2, 0),
+        (5, 0),
+        (19, 0),
+        (20, 1),
+        (88, 69),
+        (91, 72),
+        (116, 83),
+    ] {
+        assert_eq!(without(minute), all[..count], "{minute}");
+    }
+}
+
+#[test]
+fn books_without_active_minutes_show_nothing() {
+    assert_eq!(shown(&[], RIGHT), []);
+    let contract = Command::Contract(appendix_2());
+    assert_eq!(shown(&[contract, window(0, 180)], RIGHT), []);
+}
+
+#[test]
+fn wrong_totals_are_seen_where_they_are_wrong() {
+    for (wrong, minute, expected) in [
+        // After a line's last minute the line is counted, and its sums still stand.
+        (Wrong::LineMinuteLate, 24, [0, 144_000, 120_000, 0, 0]),
+        (Wrong::SumsGoneWithLine, 24, [0, 0, 0, 500, 15_000]),
+        // Before it nothing is.
+        (Wrong::LineAtOnce, 23, [0, 120_000, 80_000, 333, 9_990]),
+        // A stage begins at 25, a period at 30.
+        (Wrong::SumsByPeriod, 25, [0, 192_000, 168_000, 500, 15_000]),
+        (Wrong::SumsByStage, 30, [0, 288_000, 284_000, 1_500, 45_000]),
+        (Wrong::SumsRunOn, 30, [0, 432_000, 404_000, 1_500, 45_000]),
+        (Wrong::BaseOfLast, 105, [0, 24_000, 16_000, 12_800, 384_000]),
+    ] {
+        let right = shown(&two_instructions(), RIGHT);
+        let shown = shown(&two_instructions(), Switch(Some(wrong)));
+        assert_eq!(after(&shown, minute), expected, "{wrong:?}");
+        assert_ne!(after(&right, minute), expected, "{wrong:?}");
+    }
 }
 
 #[test]

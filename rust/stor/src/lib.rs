@@ -23,6 +23,9 @@
 //!
 //! A month can be given as [`Tables`] too, with its readings in
 //! [`Memory::meter`] and their revisions in [`Memory::revisions`].
+//!
+//! A month can also be watched minute by minute: [`Month`] is worked out once,
+//! and [`Totals`] take a step for each active minute.
 
 #![warn(missing_docs)]
 
@@ -34,9 +37,11 @@ pub mod rows;
 mod statement;
 #[cfg(test)]
 mod tests;
+mod watch;
 
 pub use memory::{Memory, Tables};
 pub use statement::{Failure, Line, Rate, Refusal, Stage, Statement, WindowPay};
+pub use watch::{Month, StepRefusal, Stop, Totals, Walk};
 
 /// Minutes of metering, and of revisions, that every month fits.
 pub const MONTH_MINUTES: usize = 44_640;
@@ -53,5 +58,9 @@ pub const LINE_NUMBERS: usize = 8;
 const TOTALS: usize = 6;
 /// The numbers of a statement's sums: totals, and two for each window entry.
 pub const SUMS: usize = TOTALS + 2 * WINDOWS;
+/// The numbers that watching a month needs of it.
+pub const MONTH_NUMBERS: usize = 1_815;
+/// The numbers of running totals.
+pub const TOTAL_NUMBERS: usize = 7;
 /// What a contract puts into each cell of its span.
 pub const NO_READING: i32 = i32::MIN;

@@ -78,6 +78,42 @@ extern "C" {
         written: *mut u8,
         written_len: usize,
     ) -> u64;
+
+    fn stor_watch_file(
+        file: *const u8,
+        file_len: usize,
+        meter: *mut i32,
+        meter_len: usize,
+        revisions: *mut u8,
+        revisions_len: usize,
+        month: *mut u32,
+        month_len: usize,
+    ) -> u64;
+
+    fn stor_watch_tables(
+        contract: *const u32,
+        contract_len: usize,
+        windows: *const u32,
+        windows_len: usize,
+        instructions: *const u32,
+        instructions_len: usize,
+        defaults: *const u32,
+        defaults_len: usize,
+        month: *mut u32,
+        month_len: usize,
+    ) -> u8;
+
+    fn stor_watch_step(
+        month: *const u32,
+        month_len: usize,
+        totals: *mut i64,
+        totals_len: usize,
+        instruction: u32,
+        minute: u16,
+        kw: i32,
+        base: *const i32,
+        base_len: usize,
+    ) -> u8;
 }
 
 /// The refusal's number, 0 for none, and 256 times the offset.
@@ -201,6 +237,75 @@ pub fn write_file(file: &[u8], meter: &mut [i32], revisions: &mut [u8], written:
             revisions.len(),
             written.as_mut_ptr(),
             written.len(),
+        )
+    }
+}
+
+/// The refusal's number, 0 for none, and 256 times the offset.
+pub fn watch_file(file: &[u8], meter: &mut [i32], revisions: &mut [u8], month: &mut [u32]) -> u64 {
+    // SAFETY: as said at the top.
+    unsafe {
+        stor_watch_file(
+            file.as_ptr(),
+            file.len(),
+            meter.as_mut_ptr(),
+            meter.len(),
+            revisions.as_mut_ptr(),
+            revisions.len(),
+            month.as_mut_ptr(),
+            month.len(),
+        )
+    }
+}
+
+/// The refusal's number, 0 for none.
+pub fn watch_tables(
+    contract: &[u32],
+    windows: &[u32],
+    instructions: &[u32],
+    defaults: &[u32],
+    month: &mut [u32],
+) -> u8 {
+    // SAFETY: as said at the top.
+    unsafe {
+        stor_watch_tables(
+            contract.as_ptr(),
+            contract.len(),
+            windows.as_ptr(),
+            windows.len(),
+            instructions.as_ptr(),
+            instructions.len(),
+            defaults.as_ptr(),
+            defaults.len(),
+            month.as_mut_ptr(),
+            month.len(),
+        )
+    }
+}
+
+/// 0 where the step is taken, else a number from 101 on. A step takes some
+/// nanoseconds, so no second call is put before it.
+#[inline]
+pub fn watch_step(
+    month: &[u32],
+    totals: &mut [i64],
+    instruction: u32,
+    minute: u16,
+    kw: i32,
+    base: &[i32],
+) -> u8 {
+    // SAFETY: as said at the top.
+    unsafe {
+        stor_watch_step(
+            month.as_ptr(),
+            month.len(),
+            totals.as_mut_ptr(),
+            totals.len(),
+            instruction,
+            minute,
+            kw,
+            base.as_ptr(),
+            base.len(),
         )
     }
 }

@@ -1,8 +1,8 @@
 //! The memory that calls are lent, and the calls over it.
 
 use crate::{
-    library, Failure, Refusal, Statement, LINE_NUMBERS, MONTH_BYTES, MONTH_LINES, MONTH_MINUTES,
-    NO_READING, SUMS,
+    library, Failure, Month, Refusal, Statement, Walk, LINE_NUMBERS, MONTH_BYTES, MONTH_LINES,
+    MONTH_MINUTES, NO_READING, SUMS,
 };
 
 /// A closed book in numbers, as the library takes it: each table's entries one
@@ -126,6 +126,34 @@ impl Memory {
         shortened(written, answer)
     }
 
+    /// Enters a unit file, open, empty or closed, and works out what watching
+    /// its month needs. The readings taken are in the meter memory then.
+    pub fn watch_file(&mut self, file: &[u8]) -> Result<Month, Refusal> {
+        Month::made(|numbers| {
+            library::watch_file(file, &mut self.meter, &mut self.revisions, numbers)
+        })
+    }
+
+    /// What watching the month of tables needs. It looks at no reading, and so
+    /// at no memory.
+    pub fn watch_tables(tables: &Tables) -> Result<Month, Refusal> {
+        Month::made(|numbers| {
+            u64::from(library::watch_tables(
+                &tables.contract,
+                &tables.windows,
+                &tables.instructions,
+                &tables.defaults,
+                numbers,
+            ))
+        })
+    }
+
+    /// Walks through a month over the readings in the meter memory: the totals
+    /// after each active minute, in order.
+    pub fn walk<'a>(&'a self, month: &'a Month) -> Walk<'a> {
+        Walk::new(month, &self.meter)
+    }
+
     fn statement(&self) -> Result<Statement, Failure> {
         Statement::of_numbers(&self.lines, &self.sums).ok_or(Failure::Malformed)
     }
@@ -139,7 +167,7 @@ fn shortened(mut file: Vec<u8>, answer: u64) -> Result<Vec<u8>, Refusal> {
 }
 
 /// An answer taken apart: number and 256 times the offset, in one.
-fn taken(answer: u64) -> Result<(), Refusal> {
+pub(crate) fn taken(answer: u64) -> Result<(), Refusal> {
     match answer.to_le_bytes()[0] {
         0 => Ok(()),
         number => Err(Refusal {

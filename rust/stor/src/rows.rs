@@ -1,6 +1,6 @@
-//! A statement or a refusal as the lister prints it.
+//! A statement or a refusal as the lister prints it, and running totals.
 
-use crate::{Line, Rate, Refusal, Stage, Statement};
+use crate::{Line, Rate, Refusal, Stage, Statement, Totals};
 use std::fmt::Write;
 
 /// Its L, A and T rows.
@@ -15,17 +15,32 @@ pub fn statement_rows(statement: &Statement) -> String {
             format_args!("A {number} {} {}", pay.paid_periods, pay.pence),
         );
     }
-    put(
-        &mut rows,
-        format_args!(
-            "T {} {} {} {}",
-            statement.capped,
-            statement.utilisation_pence,
-            statement.availability_pence,
-            statement.all_pence
-        ),
-    );
-    rows
+    rows + &month_row(statement)
+}
+
+/// Its T row alone.
+pub fn month_row(statement: &Statement) -> String {
+    format!(
+        "T {} {} {} {}\n",
+        statement.capped,
+        statement.utilisation_pence,
+        statement.availability_pence,
+        statement.all_pence
+    )
+}
+
+/// The M row of running totals.
+pub fn total_row(totals: &Totals) -> String {
+    format!(
+        "M {} {} {} {} {} {} {}\n",
+        totals.instruction,
+        totals.minute,
+        totals.base,
+        totals.expected,
+        totals.delivered,
+        totals.capped,
+        totals.pence
+    )
 }
 
 /// Its R row.

@@ -1,3 +1,5 @@
+mod watch;
+
 use crate::rows::{refusal_row, statement_rows};
 use crate::*;
 

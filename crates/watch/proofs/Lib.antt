@@ -1,0 +1,10 @@
+pub mod Examples
+pub mod Cut
+pub mod SoFar
+pub mod Done
+pub mod Fits
+pub mod Minute
+pub mod Level
+pub mod Steps
+pub mod Numbers
+pub mod Watched

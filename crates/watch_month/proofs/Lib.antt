@@ -1,0 +1,3 @@
+pub mod Places
+pub mod Laying
+pub mod BookMonth

@@ -1,0 +1,2 @@
+pub mod MonthOf
+pub mod MonthBy
