@@ -8,3 +8,4 @@ pub mod Level
 pub mod Steps
 pub mod Numbers
 pub mod Watched
+pub mod Later

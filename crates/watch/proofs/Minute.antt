@@ -58,6 +58,17 @@ pub record Figures (g : Ledger) (month : List ℕ) : Type 0 where
   pub few : length (g .instructions) ≤ 64
   pub whole : Whole (g .windows)
 
+pub figures-fit : {g : Ledger} {month : List ℕ} → Figures g month → monthFits month ≡ true
+figures-fit {month = month} F =
+    month-test month
+    (record {
+      long = F .size;
+      kw = omega (arith, F .kw, F .small);
+      utilisation = omega (arith, F .utilisation, F .small);
+      optional = omega (arith, F .optional, F .small);
+      instructions = omega (arith, F .count, F .few);
+    })
+
 -- the times of instruction n are those of i
 pub record Row (k : Contract) (month : List ℕ) (n : ℕ) (i : Instruction) : Type 0 where
   pub start : startAt month n ≡ rampStart k i
@@ -323,17 +334,6 @@ module _ {g : Ledger} {month : List ℕ} (F : Figures g month) {n : ℕ} {i : In
   abbrev taken : ℕ → Stepped
   taken m = record { answer = Taken; totals = runningAt g (at m) }
 
-  month-fits : monthFits month ≡ true
-  month-fits =
-      month-test month
-      (record {
-        long = F .size;
-        kw = omega (arith, F .kw, F .small);
-        utilisation = omega (arith, F .utilisation, F .small);
-        optional = omega (arith, F .optional, F .small);
-        instructions = omega (arith, F .count, F .few);
-      })
-
   -- the four base readings, as they are handed in
   abbrev p : ℕ
   p = i .issue .0 - 3
@@ -372,7 +372,7 @@ module _ {g : Ledger} {month : List ℕ} (F : Figures g month) {n : ℕ} {i : In
         → (not (not (eqb n (s .instruction))) || areBase base) ≡ true
         → answerTo month s n (record { minute = record { 0 = m }; kw = record { 0 = reads g m } }) base ≡ Taken
     unfolding answerTo
-    answered s m base f q a l b = rw (month-fits, totals-test s f, there, q, d .read m a l, b) refl
+    answered s m base f q a l b = rw (figures-fit F, totals-test s f, there, q, d .read m a l, b) refl
 
     -- a later minute of the instruction
     pub steps-on : (p : ℕ) → A ≤ p → suc p < B → TotalsFit (runningAt g (at p)) → Grows (cappedOf g) lineCapped (suc p) → Grows (penceOf g) linePence (suc p)

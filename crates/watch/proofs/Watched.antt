@@ -20,6 +20,7 @@ use Rattle.rules.specs.Reached.Reached.{untouched, agreed}
 use Rattle.rules.specs.Refusal.{taken}
 use Rattle.rules.specs.Segment.{complete, inLive, live, needed, segments, segmentsFrom}
 use Rattle.rules.specs.Statement.{lines, lineOf, statementOf}
+use Rattle.rules.specs.declared.answer.Answer.the-variants.{Taken as takenᵃ}
 use Rattle.rules.specs.declared.statement.Line.{Line}
 use Rattle.rules.proofs.OneRate.{same-live, whole}
 use Rattle.rules.proofs.Reached.{parts-of, reached, terms-of}
@@ -30,7 +31,7 @@ use Rattle.book.specs.declared.Book.{Book}
 use Rattle.book.proofs.FromCommands.{Leads, leads}
 use Rattle.watch_step.specs.Month.{monthNumbers, liveAt}
 use Rattle.watch_step.specs.Step.{noTotals}
-use Rattle.watch_month.specs.MonthOf.{monthBook, monthOf, monthRefusal, unread}
+use Rattle.watch_month.specs.MonthOf.{monthBook, monthLaid, monthOf, monthRefusal, unread}
 use Rattle.watch_month.proofs.Places as places
 use Rattle.watch.specs.Running.{activeFrom, activeMinutes, runningOf}
 use Rattle.watch.specs.Watched.{Watched, Watched·theorem}
@@ -66,7 +67,7 @@ module _ {size : ℕ} {g : Ledger} (a : Agreed size g) (more : List ℕ) where
       rw (lt-ltb (m / 30) 1490 (omega arith), front (325 + m / 30) (omega arith), places.live-at g few (m / 30) (omega arith))
       (flagged (inLive g (30 * (m / 30))) ∙ same-live (30 * (m / 30)) m (omega arith) g (whole g (agreed a)))
 
-  figures : Figures g month
+  pub figures : Figures g month
   figures =
       let r = terms-of a .ranges in
       record {
@@ -82,7 +83,7 @@ module _ {size : ℕ} {g : Ledger} (a : Agreed size g) (more : List ℕ) where
         whole = whole g (agreed a);
       }
 
-  row : (j : ℕ) → j < length (g .instructions) → Row (contractOf g) month (suc j) (getD (g .instructions) j noInstruction)
+  pub row : (j : ℕ) → j < length (g .instructions) → Row (contractOf g) month (suc j) (getD (g .instructions) j noInstruction)
   row j h =
       record {
         start = front (68 + suc j) (omega arith) ∙ places.start-at g few j h;
@@ -152,11 +153,18 @@ watched-of g r c more =
 
 -- ---- the theorem
 
-pub watched : Watched·theorem
-unfolding Watched·theorem monthBook monthRefusal firstMet
-watched size cs c memory h =
+-- a book that commands leave has its month laid, with the ledger's numbers first
+pub laid : (size : ℕ) (cs : List Command) (memory : List ℕ) → monthNumbers ≤ length memory
+    → monthBook (putAll emptyBook (taken size cs)) memory
+    ≡ monthLaid takenᵃ (monthOf (ledgerOf (taken size cs)) ++ drop monthNumbers memory)
+unfolding monthBook monthRefusal firstMet
+laid size cs memory h =
     let t : List Command = taken size cs in
     let b : Book = putAll emptyBook t in
     let l : Leads size t = leads size cs in
     let is : monthOf (unread b) ≡ monthOf (ledgerOf t) = same-month b (lent [] []) (l .meter) ∙ ap monthOf (l .follows .ledger) in
-    rw (l .follows .stands .sound, le-ltb (length memory) monthNumbers h, is) (refl, watched-of (ledgerOf t) (reached size cs) c (drop monthNumbers memory))
+    rw (l .follows .stands .sound, le-ltb (length memory) monthNumbers h, is) refl
+
+pub watched : Watched·theorem
+unfolding Watched·theorem
+watched size cs c memory h = rw (laid size cs memory h) (refl, watched-of (ledgerOf (taken size cs)) (reached size cs) c (drop monthNumbers memory))

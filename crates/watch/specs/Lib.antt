@@ -1,3 +1,4 @@
 pub mod Running
 pub mod Examples
 pub mod Watched
+pub mod Later

@@ -214,17 +214,28 @@ fn a_walk_ends_as_the_statement_does() {
     assert!(rows.ends_with(&format!("\n{}", month_row(&statement))));
 }
 
+/// A month's memory with another reading in each minute.
+fn all_read() -> Memory {
+    let mut memory = Memory::of_month();
+    for (kw, minute) in memory.meter().iter_mut().zip(0..) {
+        *kw = minute * 7_919 % 24_001 - 6_000;
+    }
+    memory
+}
+
+/// All totals of a month over these readings.
+fn walked(memory: &Memory, month: &Month) -> Vec<Totals> {
+    let walked: Result<Vec<Totals>, Stop> = memory.walk(month).collect();
+    walked.expect("all is read")
+}
+
 #[test]
 fn a_walk_goes_through_every_instruction() {
     let tables = full_tables();
     let month = Memory::watch_tables(&tables).expect("no refusal");
     assert_eq!(month.instructions(), 64);
-    let mut memory = Memory::of_month();
-    for (kw, minute) in memory.meter().iter_mut().zip(0..) {
-        *kw = minute * 7_919 % 24_001 - 6_000;
-    }
-    let walked: Result<Vec<Totals>, Stop> = memory.walk(&month).collect();
-    let walked = walked.expect("all is read");
+    let mut memory = all_read();
+    let walked = walked(&memory, &month);
     let minutes = walked
         .iter()
         .map(|t| (t.instruction as u32, t.minute as u16));
@@ -234,6 +245,32 @@ fn a_walk_goes_through_every_instruction() {
     let totals = (statement.capped, statement.utilisation_pence);
     assert_eq!((last.capped, last.pence), totals);
     assert_ne!(totals, (0, 0));
+}
+
+#[test]
+fn totals_go_on_in_a_month_that_is_worked_out_anew() {
+    let whole = full_tables();
+    let mut memory = all_read();
+    let kw = memory.meter().to_vec();
+    let mut totals = Totals::default();
+    let mut shown = Vec::new();
+    for n in 1..=64 {
+        // What is in the book when the instruction comes.
+        let known = Tables {
+            instructions: whole.instructions[..2 * n].to_vec(),
+            ..whole.clone()
+        };
+        let month = Memory::watch_tables(&known).expect("no refusal");
+        let n = n as u32;
+        let base: Vec<i32> = month.base_minutes(n).map(|m| kw[usize::from(m)]).collect();
+        for minute in month.active(n) {
+            let step = totals.step(&month, n, minute, kw[usize::from(minute)], &base);
+            assert_eq!(step, Ok(()));
+            shown.push(totals);
+        }
+    }
+    let month = Memory::watch_tables(&whole).expect("no refusal");
+    assert_eq!(shown, walked(&memory, &month));
 }
 
 #[test]
