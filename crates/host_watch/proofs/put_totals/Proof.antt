@@ -8,23 +8,14 @@ use lib.ListN.{length, drop, set, length-set}
 use lib.Seq.{sets-eq}
 use borrow.Author.Needs.{needs}
 use mir.Syntax.{w32, w64}
-use mir.Val.{SFits, toZ, ofZ}
-use mir.Facts.{toZ-ofZ, sfits-widen}
+use mir.Val.{SFits, toZ}
+use mir.Facts.{toZ-ofZ}
 use mir.ValLaws.{toZ-pos}
 use Rattle.watch_step.specs.declared.totals.Totals.{Totals}
 use Rattle.host_watch.specs.StepNumbers.{numbersOf, totalCount}
+use Rattle.watch_step.proofs.Widths.{held, plain}
 use Rattle.host_watch.proofs.put_totals.Statement.{statement}
 use Rattle.host_watch.proofs.put_totals.Tie as tie
-
--- a number of 32 bits fits 64, and is read back
-wider : (z : ℤ) → SFits w32 z → SFits w64 z
-wider z f = sfits-widen {w = w32} {w′ = w64} tt f
-
-held : (z : ℤ) → SFits w32 z → SFits w64 (toZ w32 (ofZ w32 z))
-held z f = rw (toZ-ofZ f) (wider z f)
-
-plain : (z : ℤ) → SFits w32 z → toZ w64 (ofZ w64 (toZ w32 (ofZ w32 z))) ≡ z
-plain z f = rw (toZ-ofZ f) (toZ-ofZ (wider z f))
 
 -- every number of the totals fits its type
 record Fit (s : Totals) : Type 0 where

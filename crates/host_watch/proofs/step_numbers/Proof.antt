@@ -7,9 +7,6 @@ use lib.IntN.{ℤ}
 use lib.ListN.{drop}
 use borrow.Author.Needs.{needs}
 use borrow.Author.Tests.{eq-eqb, ne-eqb, not-true, not-false}
-use mir.Syntax.{w32, w64}
-use mir.Val.{SFits, toZ, ofZ}
-use mir.Facts.{toZ-ofZ, sfits-widen}
 use Rattle.commands.specs.declared.entries.Reading.{Reading}
 use Rattle.watch_step.specs.Step.{stepOf, stepNumber}
 use Rattle.watch_step.specs.declared.totals.Totals.{Totals}
@@ -17,6 +14,7 @@ use Rattle.watch_step.specs.declared.step.Stepped.{Stepped}
 use Rattle.watch_step.specs.declared.step.StepAnswer.the-variants.{Unfit}
 use Rattle.host_watch.specs.StepNumbers.{areTotals, numbersOf, stepNumbers, steppedNumbers, totalCount, totalsIn}
 use Rattle.host_watch.proofs.TotalsHeld.{totals-held}
+use Rattle.watch_step.proofs.Widths.{held as held32, plain}
 use Rattle.host_watch.proofs.step_numbers.Statement.{statement}
 use Rattle.host_watch.proofs.step_numbers.Tie as tie
 
@@ -48,16 +46,6 @@ start c = c .before .before .before
 
 held : (c : tie.Else1) → areTotals (start (c .before) .args .totals .now) ≡ true
 held c = sym (c .before .are-totals .ensures) ∙ not-false _ (c .if1 .left)
-
--- the reading's kW, in 64 bits
-wider : (z : ℤ) → SFits w32 z → SFits w64 z
-wider z f = sfits-widen {w = w32} {w′ = w64} tt f
-
-kw-held : (z : ℤ) → SFits w32 z → SFits w64 (toZ w32 (ofZ w32 z))
-kw-held z f = rw (toZ-ofZ f) (wider z f)
-
-plain : (z : ℤ) → SFits w32 z → toZ w64 (ofZ w64 (toZ w32 (ofZ w32 z))) ≡ z
-plain z f = rw (toZ-ofZ f) (toZ-ofZ (wider z f))
 
 returns : tie.Need-returns
 returns c =
@@ -94,7 +82,7 @@ pub step-numbers-spec : {M : Type 1} → statement M
 step-numbers-spec =
     tie.close
     (tie.spec (λ c κs. search needs) (λ c κs. search needs) (λ c. search needs) returns (λ c κs. held (c .before))
-    (λ c. let s = start (c .before .before .before) in kw-held (s .args .kw) (s .fits .kw)) (λ c κs. search needs) (λ c κs. search needs) (λ c. search needs)
+    (λ c. let s = start (c .before .before .before) in held32 (s .args .kw) (s .fits .kw)) (λ c κs. search needs) (λ c κs. search needs) (λ c. search needs)
     returns-2
     (λ c κs. let e = c .before .before .before .before .before .before .before in totals-held (start (e .before) .args .totals .now) (held e) .long)
     (λ c. search needs) returns-3)

@@ -3,26 +3,17 @@ use mathlib.Core.Path.{_≡_}
 use mathlib.Core.Bool.{Bool, _&&_}
 use Prim.Native.Nat.{_+_, _*_, _%_}
 use native.Mathlib.Omega.{arith}
-use lib.IntN.{ℤ, pos}
+use lib.IntN.{pos}
 use borrow.Author.Needs.{needs}
 use mir.Syntax.{w32, w64}
-use mir.Val.{SFits, toZ, ofZ}
-use mir.Facts.{toZ-ofZ, sfits-widen}
+use mir.Val.{SFits}
+use mir.Facts.{toZ-ofZ}
 use Rattle.commands.specs.Input.{from-toℤ}
 use Rattle.watch_step.specs.Step.{about, totalsFit}
 use Rattle.watch_step.specs.declared.totals.Totals.{Totals}
+use Rattle.watch_step.proofs.Widths.{held, plain}
 use Rattle.watch_step.proofs.totals.totals_fit.Statement.{statement}
 use Rattle.watch_step.proofs.totals.totals_fit.Tie as tie
-
--- a number of 32 bits fits 64
-wider : (z : ℤ) → SFits w32 z → SFits w64 z
-wider z f = sfits-widen {w = w32} {w′ = w64} tt f
-
-held : (z : ℤ) → SFits w32 z → SFits w64 (toZ w32 (ofZ w32 z))
-held z f = rw (toZ-ofZ f) (wider z f)
-
-plain : (z : ℤ) → SFits w32 z → toZ w64 (ofZ w64 (toZ w32 (ofZ w32 z))) ≡ z
-plain z f = rw (toZ-ofZ f) (toZ-ofZ (wider z f))
 
 tested : (s : Totals) (b x d c p : Bool) → b ≡ about 2000000 (s .base) → x ≡ from-toℤ (pos 0) (pos (2000000 * (s .minute .0 % 30 + 1))) (s .expected)
     → d ≡ about (4000000 * (s .minute .0 % 30 + 1)) (s .delivered) → c ≡ about (500000 * (s .minute .0 + 1)) (s .capped .0)
