@@ -58,6 +58,7 @@ pub record SteppedNumbers : Type 0 where
   pub number : ℕ
   pub memory : List ℤ
 
+-- what a call answers and leaves, as one
 abbrev pub steppedNumbers : ℕ → List ℤ → SteppedNumbers
 steppedNumbers n xs = record { number = n; memory = xs }
 

@@ -46,6 +46,7 @@ stepAll month g s (a ∷ rest) = stepAll month g (stepAt month g s a .totals) re
 unfoldable pub stepNumbersAt : List ℕ → Ledger → List ℤ → ActiveMinute → SteppedNumbers
 stepNumbersAt month g xs a = stepNumbers month xs (a .number) (readingFor g a) (baseFor g a)
 
+-- what they hold after the steps of several active minutes
 unfoldable pub stepNumbersAll : List ℕ → Ledger → List ℤ → List ActiveMinute → List ℤ
 stepNumbersAll month g xs [] = xs
 stepNumbersAll month g xs (a ∷ rest) = stepNumbersAll month g (stepNumbersAt month g xs a .memory) rest
@@ -58,7 +59,7 @@ pub record Watched (g : Ledger) (month : List ℕ) : Type 0 where
   pub taken : (n : ℕ) (a : ActiveMinute) → getElem? (activeMinutes g) n ≡ some a → stepAt month g (runningOf g n) a .answer ≡ Taken
   -- so it is over a host's numbers: seven zeros at first, with anything behind them, which stays
   pub numbers : (n : ℕ) (more : List ℤ) → stepNumbersAll month g (numbersOf noTotals ++ more) (take n (activeMinutes g)) ≡ numbersOf (runningOf g n) ++ more
-  -- after the last one capped kWh and pence are the statement's
+  -- after the last one capped kWh are the statement's, and so are the pence
   pub capped : runningOf g (length (activeMinutes g)) .capped ≡ statementOf g .capped
   pub pence : runningOf g (length (activeMinutes g)) .pence ≡ statementOf g .utilisation
 

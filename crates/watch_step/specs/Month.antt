@@ -6,10 +6,11 @@ use Prim.Native.Nat.{ℕ, _+_, _/_}
 use lib.Dec.{eqb, ltb}
 use lib.ListN.{getD}
 
--- the numbers of a month, and the periods among them: those of the longest month, and two more, as where a month is settled
+-- the numbers of a month
 abbrev pub monthNumbers : ℕ
 monthNumbers = 1815
 
+-- the periods among them: those of the longest month, and two more, as where a month is settled
 abbrev pub monthPeriods : ℕ
 monthPeriods = 1490
 
@@ -21,10 +22,11 @@ kwAt month = getD month 0 0
 abbrev pub kindAt : List ℕ → ℕ
 kindAt month = getD month 1 0
 
--- the utilisation rate, and the optional one
+-- the utilisation rate
 abbrev pub utilisationAt : List ℕ → ℕ
 utilisationAt month = getD month 2 0
 
+-- the optional rate
 abbrev pub optionalAt : List ℕ → ℕ
 optionalAt month = getD month 3 0
 

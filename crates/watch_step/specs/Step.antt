@@ -1,5 +1,5 @@
 -- Inner, and for hosts, proved equal to the rules: the totals after one more active minute, from its reading, the totals before it and the month's numbers.
-use mathlib.Core.Bool.{Bool, true, cond, not, _&&_, _||_}
+use mathlib.Core.Bool.{Bool, cond, not, _&&_, _||_}
 use mathlib.Core.List.{List}
 use Prim.Native.Nat.{ℕ, _+_, _-_, _*_, _%_}
 use lib.Dec.{eqb, leb, ltb}
@@ -57,7 +57,7 @@ areBase base = eqb (length base) 4 && all (λ j. isReading (cell base j)) (betwe
 abbrev pub areReadings : Bool → ℤ → List ℤ → Bool
 areReadings new kw base = isReading kw && (not new || areBase base)
 
--- what a step is answered: the first of these that is not so decides
+-- what a step is answered: of month and totals, instruction, minute and readings the first that does not fit decides
 unfoldable pub answerTo : List ℕ → Totals → ℕ → Reading → List ℤ → StepAnswer
 answerTo month s n r base =
     cond (monthFits month && totalsFit s)
