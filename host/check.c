@@ -1,6 +1,6 @@
 /* check FILE: settles one unit file of up to 31 days through stor.h and prints its T row, or the R row of its refusal. Before that it writes a day in
-   tables as a unit file, which must settle as the tables do and have the same revisions and the same month, and watches it up to every answer of a step.
-   After it it writes the book of a file that was settled, which must settle alike, and watches it, which must end with the same kWh and pence. It shows
+   tables as a unit file, which must settle as the tables do and have the same revisions and the same month, and watches it up to every answer of a step;
+   and an October in tables, of which each day must be of the kind that the file's is. After it it writes the book of a file that was settled, which must settle alike, and watches it, which must end with the same kWh and pence. It shows
    that the header and the library fit together; `stor` is the program to use. */
 #include <inttypes.h>
 #include <stdio.h>
@@ -116,6 +116,45 @@ static int day_agrees(void)
            month[STOR_MONTH_LIVE(1)] == 1 && month[STOR_MONTH_LIVE(2)] == 0 && totals_agree() && steps_answer();
 }
 
+/* The kinds of the days of an October that began on a Tuesday, with the 4th a holiday: by the calendar's sheet. */
+static uint64_t kind_in_october(uint32_t day)
+{
+    if (day < 1 || day > 31)
+        return STOR_DAY_NONE;
+    return day % 7 == 6 || day == 4 ? STOR_DAY_NON_WORKING : STOR_DAY_WORKING;
+}
+
+/* Whether October 2024 in tables, its gained hour's last minute read, is written as a file with its date, and each day of either is of the kind that it
+   should be; and whether tables of a day that is not the first are refused. */
+static int dates_agree(void)
+{
+    static const uint32_t contract[STOR_CONTRACT_NUMBERS] = {31, 0, 0, 3000, 3000, 3000, 1, 0, 100, 100, 100, 2024, 10, 1};
+    static const uint32_t holidays[] = {0, 200, 4, 4};
+    static uint8_t october[STOR_WRITTEN_MOST];
+    enum { HOLIDAYS = sizeof holidays / sizeof *holidays, LAST = STOR_MINUTES_MOST - 1 };
+    for (size_t m = 0; m < STOR_MINUTES_MOST; m++)
+        meter[m] = STOR_NO_READING;
+    meter[LAST] = 7;
+    uint64_t answer = stor_write_tables(contract, STOR_CONTRACT_NUMBERS, NULL, 0, NULL, 0, NULL, 0, meter, STOR_MINUTES_MOST, revisions,
+                                        STOR_MINUTES_MOST, october, STOR_WRITTEN_MOST);
+    /* contract, date, reading, close */
+    size_t length = (size_t)STOR_OFFSET(answer);
+    if (STOR_NUMBER(answer) != 0 || length != 32 + 5 + 7 + 1 || october[32] != 0x54 || october[35] != 10)
+        return 0;
+    meter[LAST] = 0;
+    for (uint32_t day = 0; day <= 32; day++) {
+        uint64_t by_file = stor_day_file(october, length, meter, STOR_MINUTES_MOST, revisions, STOR_MINUTES_MOST, day, holidays, HOLIDAYS);
+        uint64_t by_tables = stor_day_tables(contract, STOR_CONTRACT_NUMBERS, NULL, 0, NULL, 0, NULL, 0, day, holidays, HOLIDAYS);
+        if (STOR_NUMBER(by_file) != 0 || STOR_OFFSET(by_file) != kind_in_october(day) || by_tables != by_file || meter[LAST] != 7)
+            return 0;
+    }
+    uint32_t second[STOR_CONTRACT_NUMBERS];
+    memcpy(second, contract, sizeof second);
+    second[STOR_CONTRACT_NUMBERS - 1] = 2;
+    memset(meter, 0, sizeof meter);
+    return stor_day_tables(second, STOR_CONTRACT_NUMBERS, NULL, 0, NULL, 0, NULL, 0, 1, NULL, 0) == 11;
+}
+
 /* Whether watching a file that was settled ends with the same capped kWh and pence. */
 static int minutes_agree(const uint8_t *file, size_t length)
 {
@@ -145,6 +184,10 @@ int main(int count, char **words)
     }
     if (!day_agrees()) {
         fprintf(stderr, "check: a day written as a file is not settled and watched as its tables are\n");
+        return 1;
+    }
+    if (!dates_agree()) {
+        fprintf(stderr, "check: a dated month written as a file has other days than its tables\n");
         return 1;
     }
     uint8_t *file = contents(words[1], &length);

@@ -32,22 +32,24 @@ extern "C" {
 #define STOR_NUMBER(answer) ((unsigned)((answer) & 0xFF))
 #define STOR_OFFSET(answer) ((uint64_t)(answer) >> 8)
 
-/* Meter memory: the metered kW of each minute, from minute 0; 1,440 minutes a day. A cell outside -500,000 to 500,000 is no reading. */
-#define STOR_MINUTES_MOST 44640
+/* Meter memory: the metered kW of each minute, from minute 0; 1,440 minutes a day, and in a dated October an hour more. A cell outside -500,000 to
+ * 500,000 is no reading. */
+#define STOR_MINUTES_MOST 44700
 #define STOR_NO_READING INT32_MIN
 
 /* Revision memory: beside each cell of meter memory the number of the revision that put its reading there, 0 of a plain reading. Of a minute
  * without a reading the byte means nothing. It goes with meter memory in every call and has a length of its own: where either is shorter than the
- * contract's days, that is 15. A contract taken clears the bytes of its span; a plain reading or a revision taken sets its minute's; no other byte
- * is ever written. */
+ * contract's days, and in a dated October an hour more, that is 15. A contract taken clears the bytes of its days, a date in October those of the hour
+ * behind them; a plain reading or a revision taken sets its minute's; no other byte is ever written. */
 
-/* The longest unit file of which every command is taken, in bytes: contract, full tables, in each minute a plain reading and 255 revisions, close. */
-#define STOR_FILE_MOST 91379841
+/* The longest unit file of which every command is taken, in bytes: contract, date, full tables, in each minute a plain reading and 255 revisions,
+ * close. */
+#define STOR_FILE_MOST 91502666
 /* The longest unit file that a call writes, in bytes: of each minute one reading with its revision. Memory for a written file needs no more. */
-#define STOR_WRITTEN_MOST 358881
+#define STOR_WRITTEN_MOST 359366
 
 /* Line memory: a statement's lines one after the other, each as eight numbers. A statement has at most STOR_LINES_MOST lines. */
-#define STOR_LINES_MOST 1680
+#define STOR_LINES_MOST 1682
 enum {
     STOR_LINE_INSTRUCTION = 0, /* from 1 */
     STOR_LINE_PERIOD = 1,      /* from 1 */
@@ -74,16 +76,17 @@ enum {
 #define STOR_SUM_PERIODS(w) (6 + 2 * (w))
 #define STOR_SUM_PENCE(w) (7 + 2 * (w))
 
-/* Month memory: what watching a month needs of it, worked out once. Five numbers, the times of 64 instructions, and a number for each period. */
+/* Month memory: what watching a month needs of it, worked out once. Five numbers, the times of 64 instructions, and a number for each period: so many
+ * places, of which no month fills the last. */
 #define STOR_INSTRUCTIONS_MOST 64
-#define STOR_PERIODS_MOST 1490
+#define STOR_PERIODS_MOST 1491
 enum {
     STOR_MONTH_KW = 0,           /* contracted kW */
     STOR_MONTH_KIND = 1,         /* 0 generator, 1 demand reducer */
     STOR_MONTH_UTILISATION = 2,  /* rate, pence per MWh */
     STOR_MONTH_OPTIONAL = 3,     /* rate, pence per MWh */
     STOR_MONTH_INSTRUCTIONS = 4, /* how many there are */
-    STOR_MONTH_NUMBERS = 1815
+    STOR_MONTH_NUMBERS = 1816
 };
 /* The minutes of an instruction; n counts from 1. It is active from START to the minute before END, and its base minutes are ISSUE - 3 to ISSUE. */
 #define STOR_MONTH_ISSUE(n) (4 + (n))
@@ -108,6 +111,13 @@ enum {
 /* With an instruction's first active minute so many base readings are given. */
 #define STOR_BASE_READINGS 4
 
+/* What kind of day a day of a dated month is: the offset's place in the answer of the calls that ask for it. */
+enum {
+    STOR_DAY_NONE = 0,       /* the book has no date, or its month no such day */
+    STOR_DAY_WORKING = 1,
+    STOR_DAY_NON_WORKING = 2 /* a Sunday, or a number of the list of holidays */
+};
+
 /* What a step answers. */
 enum {
     STOR_STEP_TAKEN = 0,
@@ -129,7 +139,7 @@ uint64_t stor_settle_file(const uint8_t *file, size_t file_length, int32_t *mete
 
 /* How many numbers a row of each table has. */
 enum {
-    STOR_CONTRACT_NUMBERS = 11,
+    STOR_CONTRACT_NUMBERS = 14,
     STOR_WINDOW_NUMBERS = 3,
     STOR_INSTRUCTION_NUMBERS = 2,
     STOR_DEFAULT_NUMBERS = 3
@@ -137,7 +147,8 @@ enum {
 
 /* Settles the closed book that tables say, over readings in meter memory; of revision memory it asks the length alone. The answer is the refusal's
  * number, or 0. Every table is rows of numbers of 32 bits, one row after the other:
- *   contract      one row: days, kind, service, contracted kW, ramp up, ramp down, response, recovery, availability, utilisation, optional rate
+ *   contract      one row: days, kind, service, contracted kW, ramp up, ramp down, response, recovery, availability, utilisation, optional rate,
+ *                 and of the month's date year, month and day, which is 1; three zeros: it has none
  *   windows       start, end, verdict for each
  *   instructions  issue, cease for each
  *   defaults      minute, kind, reach for each
@@ -150,8 +161,7 @@ uint8_t stor_settle_tables(const uint32_t *contract, size_t contract_length, con
 
 /* Writes the same book, with the readings in meter memory and their revisions, as a unit file into the first bytes of file memory; those after it are
  * as they were. The answer's offset is the file's length. On a refusal it is 0, and file memory is exactly as it was: tables as above that say no book
- * (11), meter or revision memory shorter than the contract's days (15), file memory shorter than the file (26; STOR_WRITTEN_MOST bytes are room for
- * every month). */
+ * (11), meter or revision memory too short (15), file memory shorter than the file (26; STOR_WRITTEN_MOST bytes are room for every month). */
 uint64_t stor_write_tables(const uint32_t *contract, size_t contract_length, const uint32_t *windows, size_t windows_length,
                            const uint32_t *instructions, size_t instructions_length, const uint32_t *defaults, size_t defaults_length,
                            const int32_t *meter, size_t meter_length, const uint8_t *revisions, size_t revisions_length, uint8_t *file,
@@ -180,6 +190,18 @@ uint8_t stor_watch_tables(const uint32_t *contract, size_t contract_length, cons
  * were; of several the first in the order of their numbers is given. Numbers after the first STOR_TOTAL_NUMBERS are never written. */
 uint8_t stor_watch_step(const uint32_t *month, size_t month_length, int64_t *totals, size_t totals_length, uint32_t instruction, uint16_t minute,
                         int32_t kw, const int32_t *base, size_t base_length);
+
+/* Reads and enters a whole unit file, from the empty book, and answers what kind of day a day of its book's month is, open or closed: STOR_NUMBER is the
+ * refusal's number, and STOR_OFFSET then the offset of the refused command; where the number is 0, STOR_OFFSET is one of STOR_DAY_.. . Days count from 1.
+ * The list of holidays may hold any numbers, in any order and more than once; those that are no day of the month do nothing. Meter and revision memory
+ * hold what the commands taken left. */
+uint64_t stor_day_file(const uint8_t *file, size_t file_length, int32_t *meter, size_t meter_length, uint8_t *revisions, size_t revisions_length,
+                       uint32_t day, const uint32_t *holidays, size_t holidays_length);
+
+/* The same of the book that tables say, as above: STOR_NUMBER is 11, and STOR_OFFSET 0, or STOR_NUMBER is 0 and STOR_OFFSET one of STOR_DAY_.. . */
+uint64_t stor_day_tables(const uint32_t *contract, size_t contract_length, const uint32_t *windows, size_t windows_length, const uint32_t *instructions,
+                         size_t instructions_length, const uint32_t *defaults, size_t defaults_length, uint32_t day, const uint32_t *holidays,
+                         size_t holidays_length);
 
 #ifdef __cplusplus
 }

@@ -82,6 +82,24 @@ static void *steps(void *p)
     return p;
 }
 
+static const uint32_t holidays[] = {1, 2, 3};
+enum { HOLIDAYS = sizeof holidays / sizeof *holidays };
+
+static void *asks_day(void *p)
+{
+    answer = stor_day_file(file, length, meter, STOR_MINUTES_MOST, revisions, STOR_MINUTES_MOST, 31, holidays, HOLIDAYS);
+    return p;
+}
+
+/* An October, whose 31st is a working day. */
+static void *asks_day_of_tables(void *p)
+{
+    static const uint32_t october[STOR_CONTRACT_NUMBERS] = {31, 0, 0, 3000, 3000, 3000, 1, 0, 100, 100, 100, 2024, 10, 1};
+    answer = stor_day_tables(october, STOR_CONTRACT_NUMBERS, windows, STOR_WINDOW_NUMBERS, instructions, STOR_INSTRUCTION_NUMBERS, defaults,
+                             STOR_DEFAULT_NUMBERS, 31, holidays, HOLIDAYS);
+    return p;
+}
+
 /* How far down a thread's stack was written. */
 static size_t depth(void *(*run)(void *))
 {
@@ -118,7 +136,7 @@ static void hold(const char *what, void *(*run)(void *), size_t own, size_t leas
 int main(int count, char **words)
 {
     size_t own = depth(nothing);
-    int settled = 0, rewritten = 0, watched = 0;
+    int settled = 0, rewritten = 0, watched = 0, asked = 0;
     for (int i = 1; i < count; i++) {
         FILE *from = fopen(words[i], "rb");
         if (from == NULL) {
@@ -134,6 +152,8 @@ int main(int count, char **words)
         rewritten += answer % 256 == 0;
         hold(words[i], watches, own, A_BOOK);
         watched += answer % 256 == 0;
+        hold(words[i], asks_day, own, A_BOOK);
+        asked += answer % 256 == 0 && answer / 256 != STOR_DAY_NONE;
     }
     memset(meter, 0, sizeof meter);
     hold("tables", settles_tables, own, A_BOOK);
@@ -149,6 +169,11 @@ int main(int count, char **words)
     hold("tables, watched", watches_tables, own, A_BOOK);
     if (watched == 0 || answer != 0) {
         fprintf(stderr, "stack: no month was worked out\n");
+        return 1;
+    }
+    hold("tables, a day", asks_day_of_tables, own, A_BOOK);
+    if (asked == 0 || answer != 256 * STOR_DAY_WORKING) {
+        fprintf(stderr, "stack: no day was asked for\n");
         return 1;
     }
     hold("a step", steps, own, NUMBERS);

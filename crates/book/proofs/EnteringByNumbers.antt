@@ -9,7 +9,6 @@ use native.Mathlib.Omega.{arith}
 use lib.Dec.{ltb}
 use lib.ListN.{length, take, getD}
 use borrow.Author.Tests.{ne-eqb}
-use Rattle.commands.specs.Command.{onContract, always}
 use Rattle.commands.specs.Input.{inputRefusal}
 use Rattle.commands.specs.declared.entries.Window.{Window}
 use Rattle.commands.specs.declared.entries.Instruction.{Instruction}
@@ -17,18 +16,18 @@ use Rattle.commands.specs.declared.entries.Default.{Default}
 use Rattle.commands.specs.declared.entries.Command.{Command}
 use Rattle.commands.specs.declared.entries.Command.the-variants.{Window as windowᶜ, Instruction as instructionᶜ, Default as defaultᶜ}
 use Rattle.commands.proofs.Input.{numbered, numbered-some}
-use Rattle.rules.specs.Ledger.{isContract, spanOf, noWindow, noInstruction}
+use Rattle.rules.specs.Ledger.{isContract, noWindow, noInstruction}
 use Rattle.rules.proofs.Taken.{Allowed, allowed}
 use Rattle.book_memory.specs.Meter.{putMeter, Memory, roomIn}
 use Rattle.book_refusal.specs.Refusals.{anyRefusal, windowsEnd, windowRefusal, readyAfter, instructionRefusal, defaultRefusal}
 use Rattle.book_memory.proofs.Lengths.{unmarked, unmarked-room}
 use Rattle.book_sound.proofs.Tables.{has-room}
-use Rattle.book.specs.Book.{bookSpan, bookCells, ledgerIn, putBook}
+use Rattle.book.specs.Book.{bookSpan, ledgerIn, putBook}
 use Rattle.book.specs.Enter.{Enters, EntersAt, enterBook, takenAs, refusedAs}
 use Rattle.book.specs.Sound.{sound}
 use Rattle.book.specs.declared.Book.{Book}
 use Rattle.book.proofs.SoundTests.{Tables, sound-parts}
-use Rattle.book.proofs.Refusals.{anyOf, ownOf, asked, by-any, window-number, instruction-number, default-number}
+use Rattle.book.proofs.Refusals.{cellsOf, anyOf, ownOf, asked, by-any, window-number, instruction-number, default-number}
 
 -- a command that is asked with lent memory enters by the number that it meets
 module _ {b : Book} {meter : Memory} {c : Command} where
@@ -44,7 +43,7 @@ module _ {b : Book} {meter : Memory} {c : Command} where
 
 -- as the code works it out of what it asked before
 pub first-number : (b : Book) (room : ℕ) (c : Command) (n input : ℕ) (s : Bool)
-    → n ≡ anyRefusal input s (b .closed) (b .agreed) (isContract c) (ltb room (onContract spanOf (always (bookCells b)) c)) → input ≡ inputRefusal c
+    → n ≡ anyRefusal input s (b .closed) (b .agreed) (isContract c) (ltb room (cellsOf b c)) → input ≡ inputRefusal c
     → s ≡ sound b → n ≡ anyOf b room c
 first-number b room c n input s e i k = e ∙ rw (i, k)
 
@@ -62,7 +61,7 @@ pub record Past (b : Book) (room : ℕ) (c : Command) : Type 0 where
   pub none : anyOf b room c ≡ 0
   pub sound : sound b ≡ true
   pub agreed : b .agreed ≡ not (isContract c)
-  pub enough : ltb room (onContract spanOf (always (bookCells b)) c) ≡ false
+  pub enough : ltb room (cellsOf b c) ≡ false
   pub tables : Tables b
 
 zero-any : (input : ℕ) (sound closed agreed contract short : Bool) → anyRefusal input sound closed agreed contract short ≡ 0
@@ -80,7 +79,7 @@ zero-any (suc n) l c a f s e = let q : suc n ≡ 0 = rw (ne-eqb (suc n) 0 (λ h.
 
 pub past-any : (b : Book) (room : ℕ) (c : Command) (n : ℕ) → n ≡ anyOf b room c → n ≡ 0 → Past b room c
 past-any b room c n e z =
-    let p = zero-any (inputRefusal c) (sound b) (b .closed) (b .agreed) (isContract c) (ltb room (onContract spanOf (always (bookCells b)) c)) (sym e ∙ z) in
+    let p = zero-any (inputRefusal c) (sound b) (b .closed) (b .agreed) (isContract c) (ltb room (cellsOf b c)) (sym e ∙ z) in
     record { none = sym e ∙ z; sound = p .0; agreed = p .1; enough = p .2; tables = sound-parts b (p .0) .tables }
 
 -- ---- past it, the number of the command's kind

@@ -4,33 +4,35 @@ use mathlib.Core.Path.{_≡_, refl, sym, ap, _∙_, subst⁻¹}
 use mathlib.Core.Bool.{Bool, true, false, cond, not}
 use mathlib.Core.List.{List, [], _∷_, _++_}
 use mathlib.Core.Option.{Option, none, some}
-use Prim.Native.Nat.{ℕ, _≤_}
+use Prim.Native.Nat.{ℕ, _*_, _≤_, max}
+use native.Mathlib.Nat.{le-max-right}
 use native.Mathlib.Omega.{arith}
 use borrow.Author.Tests.{ltb-false}
 use lib.Dec.{leb·suc-zero}
 use Rattle.energy.specs.Lists.{all, any, pass, concatMap}
+use Rattle.calendar.specs.Calendar.{daysOf, gainedIn, lostIn}
 use Rattle.commands.specs.Command.{always}
 use Rattle.commands.proofs.ByKind.{contract-or-not}
-use Rattle.rules.specs.Ledger.{Ledger, ledgerOf, spanOf, readingOf}
+use Rattle.rules.specs.Ledger.{Ledger, ledgerOf, contractOf, spanOf, fullSpan, cellsIn, readingOf}
 use Rattle.rules.specs.Refusal.{refusal, joined, answerOf}
 use Rattle.rules.specs.Reached.{Reached, untouched, agreed}
 use Rattle.commands.specs.declared.contract.Contract.{Contract}
 use Rattle.commands.specs.declared.entries.Command.{Command}
-use Rattle.commands.specs.declared.entries.Command.the-variants.{Contract as contractᶜ, Window as windowᶜ, Instruction as instructionᶜ}
+use Rattle.commands.specs.declared.entries.Command.the-variants.{Contract as contractᶜ, Date as dateᶜ, Window as windowᶜ, Instruction as instructionᶜ}
 use Rattle.commands.specs.declared.entries.Command.the-variants.{Default as defaultᶜ, Reading as readingᶜ, Revision as revisionᶜ}
 use Rattle.commands.specs.declared.entries.Command.the-variants.{Close as closeᶜ}
-use Rattle.rules.proofs.Reached.{step, start}
+use Rattle.rules.proofs.Reached.{step, start, dated-days}
 use Rattle.rules.proofs.Taken.{grown, ledgerOf-snoc, Allowed, allowed}
 use Rattle.rules.proofs.FileLength.{cells-fit}
 use Rattle.book_memory.specs.Meter.{putMeter, meteredAt, Memory, roomIn}
-use Rattle.book_memory.proofs.Lengths.{marked-room, written-room}
+use Rattle.book_memory.proofs.Lengths.{marked-room, marked-from-room, written-room}
 use Rattle.book.specs.Book.{emptyBook, bookSpan, bookCells, ledgerIn, putBook}
 use Rattle.book_sound.specs.Unused.{noContractTests}
 use Rattle.book.specs.Sound.{sound, Shaped, tableTests, emptyTests}
 use Rattle.book.specs.Enter.{enterBook, enteredBy}
 use Rattle.book.specs.declared.Book.{Book}
 use Rattle.book.proofs.SoundTests.{Tables, is-sound}
-use Rattle.book.proofs.Month.{cells-is, contents-are}
+use Rattle.book.proofs.Month.{cells-is, contents-pass}
 use Rattle.book.proofs.Holds.{agreed-before, windows-grow, instructions-grow, defaults-grow, holds}
 
 -- ---- a book with a contract, and its ledger
@@ -42,7 +44,7 @@ reached-sound b meter s t (untouched u) =
     let full : _≡_ {A = List Contract} (b .contract ∷ []) [] = rw s at (u .contracts) in
     let z : _≡_ {A = ℕ} 0 1 = cc in
     absurd (omega arith)
-reached-sound b meter s t (agreed a) = is-sound b (record { tables = t; contents = rw (contents-are b meter s) (a .tests) })
+reached-sound b meter s t (agreed a) = is-sound b (record { tables = t; contents = contents-pass b meter s (a .dated) (a .tests) })
 
 -- ---- the book and the commands taken
 
@@ -73,6 +75,10 @@ module _ {size : ℕ} {b : Book} {meter : Memory} (f : Stands size b meter) wher
 
   memory-after : (c : Command) → Allowed size g c → roomIn (putMeter meter c) ≡ roomIn meter
   memory-after (contractᶜ k) a = marked-room meter (spanOf k) (omega (arith, ltb-false size (spanOf k) (a .book .memory), f .memory))
+  memory-after (dateᶜ d) a =
+      let enough = ltb-false size (max (cellsIn g) (fullSpan (contractOf g) d)) (a .book .memory) in
+      marked-from-room meter (1440 * daysOf (d .year) (d .month)) (gainedIn (d .month))
+      (omega (arith, dated-days g d (a .kind .month), enough, le-max-right (cellsIn g) (fullSpan (contractOf g) d), f .memory))
   memory-after (windowᶜ w) a = refl
   memory-after (instructionᶜ i) a = refl
   memory-after (defaultᶜ d) a = refl
@@ -152,10 +158,11 @@ answers {size} {t} {b} {meter} c f = ap (λ o. enteredBy o b meter c .entry .ans
 -- ---- the empty book
 
 nothing-held : (meter : Memory) → ledgerIn emptyBook meter ≡ ledgerOf []
-unfolding ledgerIn bookSpan ledgerOf emptyBook any concatMap readingOf
+unfolding ledgerIn bookSpan gainedIn lostIn ledgerOf emptyBook any concatMap readingOf
 nothing-held meter i =
     record {
       contracts = [];
+      dates = [];
       windows = [];
       instructions = [];
       defaults = [];

@@ -1,6 +1,6 @@
 -- 11 in both directions: the books that a list of commands leaves are the sound ones. A sound book is left by the commands that it is written as.
 use mathlib.Core.Path.{_≡_, refl, sym, ap, _∙_, subst, subst⁻¹}
-use mathlib.Core.Bool.{true, false, cond}
+use mathlib.Core.Bool.{Bool, true, false, cond}
 use mathlib.Core.List.{List, [], _∷_, _++_}
 use mathlib.Core.Option.{some, Option·none-ne-some, Option·some-injective}
 use Prim.Native.Nat.{ℕ, _≤_, _<_}
@@ -10,6 +10,8 @@ use lib.Dec.{T, ltb}
 use borrow.Author.Tests.{ltb-true}
 use lib.ListN.{length, take, length-take}
 use Rattle.energy.proofs.Tests.{to-T, of-T}
+use Rattle.calendar.specs.Calendar.{isNoDate}
+use Rattle.calendar.specs.declared.Date.{Date}
 use Rattle.commands.specs.Input.{isReading}
 use Rattle.commands.proofs.Chain.{true-or-false}
 use Rattle.rules.specs.Ledger.{Ledger, Metered, ledgerOf}
@@ -27,7 +29,7 @@ use Rattle.book.specs.Sound.{sound, Shaped, FromCommands, Sound·theorem
 use Rattle.book.specs.declared.Book.{Book}
 use Rattle.book.proofs.Holds.{none-below}
 use Rattle.book.proofs.SoundTests.{Tables, sound-parts, contract-is, Empty, sound-empty}
-use Rattle.book.proofs.Month.{span-is, cells-is, contents-are, span-empty}
+use Rattle.book.proofs.Month.{span-is, cells-is, contents-passed, span-empty}
 use Rattle.book.proofs.Follow.{Follows, starts, put-follows}
 pub use Rattle.book.proofs.SameBook.{same-book}
 
@@ -86,13 +88,21 @@ given b meter m x e =
     (λ i. absurd (Option·none-ne-some x (rw i at h))))
     (λ l. absurd (Option·none-ne-some x (rw l at e)))
 
+-- a date at most
+few : (none : Bool) (d : Date) → length (cond none [] (d ∷ [])) ≤ 1
+few true d = omega arith
+few false d = omega arith
+
 with-contract : (b : Book) (meter : Memory) (size : ℕ) → sound b ≡ true → b .agreed ≡ true → bookCells b ≤ size → Agreed size (ledgerIn b meter)
 unfolding ledgerIn
 with-contract b meter size e s h =
     let t : Tables b = sound-parts b e .tables in
+    let both = contents-passed b meter s (sound-parts b e .contents) in
     record {
       contract = rw (contract-is b meter s, s);
-      tests = rw (contents-are b meter s) at (sound-parts b e .contents);
+      tests = both .1;
+      dates = few (isNoDate (b .date)) (b .date);
+      dated = both .0;
       windows = short (b .nwindows) (b .windows) (t .windows);
       instructions = short (b .ninstructions) (b .instructions) (t .instructions);
       defaults = short (b .ndefaults) (b .defaults) (t .defaults);
@@ -106,6 +116,7 @@ without b meter e s =
     let n : Empty b = sound-empty b e s in
     record {
       contracts = ap (λ x. cond x (b .contract ∷ []) []) s;
+      dates = ap (λ d. cond (isNoDate d) [] (d ∷ [])) (n .date);
       windows = ap (λ x. take x (b .windows)) (n .windows);
       instructions = ap (λ x. take x (b .instructions)) (n .instructions);
       defaults = ap (λ x. take x (b .defaults)) (n .defaults);

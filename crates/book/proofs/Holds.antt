@@ -2,37 +2,44 @@
 use mathlib.Core.Path.{_≡_, refl, sym, _∙_}
 use mathlib.Core.Bool.{Bool, true, false, cond, not, _&&_, _||_, or-false, or-true, true≢false}
 use mathlib.Core.List.{List, [], _∷_, _++_, append-nil}
-use mathlib.Core.Option.{none, some}
-use Prim.Native.Nat.{ℕ, suc, _+_, _≤_, _<_}
+use mathlib.Core.Option.{Option, none, some}
+use Prim.Native.Nat.{ℕ, suc, _+_, _-_, _*_, _≤_, _<_}
 use native.Mathlib.Omega.{arith}
 use native.Mathlib.Numerals.{add-one}
 use borrow.Author.Tests.{ltb-true, lt-ltb, eqb-true, eqb-false}
 use lib.Dec.{T, leb, leb·suc-zero, ltb, eqb}
 use lib.ListN.{length, take, drop, set, getD, replicate, length-set, length-replicate, List·getD-append, getD-replicate}
 use lib.Seq.{drop-cons, drop-set-lt, take-suc-set, getD-set-same, getD-set-other}
-use Rattle.energy.specs.Lists.{all, isEmpty, later}
-use Rattle.energy.proofs.Tests.{of-T, T-and}
+use Rattle.energy.specs.Lists.{all, isEmpty, isSome, later}
+use Rattle.energy.proofs.Sums.{any-off}
+use Rattle.calendar.specs.Calendar.{daysOf, isDate, gainedIn, lostIn}
+use Rattle.calendar.specs.declared.Date.{Date}
+use Rattle.calendar.proofs.Months.{date-some}
+use Rattle.energy.proofs.Tests.{of-T, T-and, off-not, either}
 use Rattle.commands.specs.Command.{always}
 use Rattle.commands.specs.Input.{isReading, from-to, meterable}
 use Rattle.commands.specs.declared.contract.Contract.{Contract}
 use Rattle.commands.specs.declared.entries.Reading.{Reading}
 use Rattle.commands.specs.declared.entries.Command.{Command}
-use Rattle.commands.specs.declared.entries.Command.the-variants.{Contract as contractᶜ, Window as windowᶜ, Instruction as instructionᶜ}
+use Rattle.commands.specs.declared.entries.Command.the-variants.{Contract as contractᶜ, Date as dateᶜ, Window as windowᶜ, Instruction as instructionᶜ}
 use Rattle.commands.specs.declared.entries.Command.the-variants.{Default as defaultᶜ, Reading as readingᶜ, Revision as revisionᶜ}
 use Rattle.commands.specs.declared.entries.Command.the-variants.{Close as closeᶜ}
 use Rattle.commands.proofs.Chain.{true-or-false}
-use Rattle.commands.proofs.ByKind.{contract-or-not, window-or-not, instruction-or-not, default-or-not, close-or-not}
-use Rattle.rules.specs.Ledger.{Ledger, isContract, contractIn, windowIn, instructionIn, defaultIn, isClose, readingIn, spanOf}
+use Rattle.commands.proofs.ByKind.{contract-or-not, date-or-not, window-or-not, instruction-or-not, default-or-not, close-or-not}
+use Rattle.rules.specs.Ledger.{Ledger, isContract, contractIn, dateIn, windowIn, instructionIn, defaultIn, isClose, readingIn}
+use Rattle.rules.specs.Ledger.{spanOf, fullSpan, spanIn}
 use Rattle.rules.proofs.Taken.{grown, Allowed}
+use Rattle.rules.proofs.Reached.{bare, dated-days}
 use Rattle.book_memory.specs.Meter.{putMeter, missing, meteredAt, markedTo, writtenAt, Memory, roomIn}
-use Rattle.book_memory.proofs.Lengths.{room-holds}
+use Rattle.book_memory.proofs.Lengths.{room-cells, room-holds}
+use Rattle.book_memory.proofs.MarkedHour.{marked-unread}
 use Rattle.book_sound.specs.Unused.{isNoWindow, isNoInstruction, isNoDefault}
 use Rattle.book_sound.proofs.Tables.{has-room}
-use Rattle.book.specs.Book.{bookSpan, bookCells, ledgerIn, putBook}
+use Rattle.book.specs.Book.{bookSpan, bookCells, datesIn, ledgerIn, putBook}
 use Rattle.book.specs.Sound.{sound, Shaped}
 use Rattle.book.specs.declared.Book.{Book}
-use Rattle.book.proofs.SoundTests.{Tables, Table, windows-table, instructions-table, defaults-table, sound-parts}
-use Rattle.book.proofs.Month.{span-cells, span-empty, reading-fits}
+use Rattle.book.proofs.SoundTests.{Tables, Table, windows-table, instructions-table, defaults-table, sound-parts, sound-empty, contract-is}
+use Rattle.book.proofs.Month.{undated-span, span-cells, span-is, span-empty, span-undated, own-span, reading-fits}
 
 -- ---- a book with a contract or without
 
@@ -75,6 +82,12 @@ module _ {A : Type 0} {none : A → Bool} {most : ℕ} {l : List A} {n : ℕ} (t
   as-before e f q = rw (e, f, q) (record { table = t; held = sym (append-nil (take n l)) })
 
 -- ---- readings
+
+-- what is not some is none
+not-some : {A : Type 0} (o : Option A) → isSome o ≡ false → o ≡ none
+unfolding isSome
+not-some none e = refl
+not-some (some x) e = absurd (true≢false e)
 
 module _ (b : Book) (meter : Memory) where
   -- an empty span has no minute
@@ -124,6 +137,13 @@ module _ (size : ℕ) (b : Book) (meter : Memory) (e : sound b ≡ true) (shaped
       contract-or-not _ (λ k a. rw (agreed-before b meter (contractᶜ k) a))
       (λ c o a. rw (o _ (λ k. true) (always (b .agreed)), o _ (λ k. k) (always (b .contract)), o _ (λ k. k ∷ []) (always []), append-nil))
 
+  dates-held : (c : Command) → Allowed size g c → datesIn (putBook b c) ≡ g .dates ++ dateIn c
+  unfolding ledgerIn
+  dates-held =
+      date-or-not _
+      (λ d a. rw (bare g d (a .kind .early) .dates, date-some d (off-not (isDate d) (a .input .dated))))
+      (λ c o a. rw (o _ (λ d. d) (always (b .date)), o _ (λ d. d ∷ []) (always []), append-nil))
+
   pub windows-grow : (c : Command) → Allowed size g c
       → Grown isNoWindow 128 (b .windows) (b .nwindows) (putBook b c .windows) (putBook b c .nwindows) (windowIn c)
   unfolding ledgerIn
@@ -150,11 +170,46 @@ module _ (size : ℕ) (b : Book) (meter : Memory) (e : sound b ≡ true) (shaped
       close-or-not _ (sym (or-true (b .closed)))
       (λ c o. rw (o _ (λ u. true) (always (b .closed)), o _ (λ u. true) (always false), or-false))
 
+  -- before a date no minute has a reading
+  was-unread : (d : Date) → Allowed size g (dateᶜ d) → (m : ℕ) → g .reading m ≡ none
+  was-unread d a m =
+      let s : b .agreed ≡ true = agreed-before b meter (dateᶜ d) a in
+      either (ltb m (bookSpan b))
+      (λ e.
+      let off = any-off (λ m. isSome (g .reading m)) 0 (spanIn g) (bare g d (a .kind .early) .unread) m (omega arith)
+      (omega (arith, ltb-true m (bookSpan b) e, span-is b meter s)) in
+      not-some (g .reading m) off)
+      (λ e. unfold ledgerIn in rw e)
+
+  -- the date that a month has is the first, and its days are the contract's
+  undated : (d : Date) → Allowed size g (dateᶜ d) → (bookSpan b ≡ spanOf (b .contract)) × (1440 * daysOf (d .year) (d .month) ≡ spanOf (b .contract))
+  undated d a =
+      let s : b .agreed ≡ true = agreed-before b meter (dateᶜ d) a in
+      (span-undated b meter (bare g d (a .kind .early) .dates), rw (contract-is b meter s) at (dated-days g d (a .kind .month)))
+
+  -- and after it none has one: those of the days are as they were, and the hour after them is marked
+  dated-unread : (d : Date) → Allowed size g (dateᶜ d) → (m : ℕ) → ledgerIn (putBook b (dateᶜ d)) (putMeter meter (dateᶜ d)) .reading m ≡ none
+  unfolding ledgerIn bookSpan
+  dated-unread d a m =
+      let s : b .agreed ≡ true = agreed-before b meter (dateᶜ d) a in
+      let days : ℕ = 1440 * daysOf (d .year) (d .month) in
+      let (before, same) = undated d a in
+      let room = room-cells meter in
+      either (ltb m (fullSpan (b .contract) d - lostIn (d .month)))
+      (λ e.
+      rw e
+      (marked-unread meter days (gainedIn (d .month)) m (omega (arith, fits s, own-span b))
+      (λ l. let here = was-unread d a m in rw (lt-ltb m (bookSpan b) (omega arith)) at here)
+      (omega (arith, ltb-true m (fullSpan (b .contract) d - lostIn (d .month)) e))))
+      (λ e. rw e)
+
   readings-held : (c : Command) → Allowed size g c → (m : ℕ) → ledgerIn (putBook b c) (putMeter meter c) .reading m ≡ later (g .reading m) (readingIn c m)
   unfolding ledgerIn bookSpan later
   readings-held (contractᶜ k) a m =
-      marked b meter (spanOf k) m
+      let undated = sound-empty b e (agreed-before b meter (contractᶜ k) a) .date in
+      (rw (undated-span k (b .date) undated) (marked b meter (spanOf k) m))
       ∙ sym (none-below b meter m (span-empty b e (agreed-before b meter (contractᶜ k) a)))
+  readings-held (dateᶜ d) a m = dated-unread d a m ∙ sym (was-unread d a m)
   readings-held (windowᶜ w) a m = refl
   readings-held (instructionᶜ i) a m = refl
   readings-held (defaultᶜ d) a m = refl
@@ -173,6 +228,7 @@ module _ (size : ℕ) (b : Book) (meter : Memory) (e : sound b ≡ true) (shaped
   holds c a i =
       record {
         contracts = contracts-held c a i;
+        dates = dates-held c a i;
         windows = windows-grow c a .held i;
         instructions = instructions-grow c a .held i;
         defaults = defaults-grow c a .held i;

@@ -3,6 +3,7 @@ pub mod Month
 pub mod Refusals
 pub mod EnteringByNumbers
 pub mod MeteredEntry
+pub mod DatedEntry
 pub mod Holds
 pub mod Follow
 pub mod SameBook

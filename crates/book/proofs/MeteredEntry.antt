@@ -12,7 +12,7 @@ use Rattle.commands.specs.Input.{isReading, inputRefusal}
 use Rattle.commands.specs.declared.entries.Reading.{Reading}
 use Rattle.commands.specs.declared.entries.Command.{Command}
 use Rattle.commands.proofs.ByKind.{revised-not}
-use Rattle.rules.specs.Ledger.{spanOf, spanIn}
+use Rattle.rules.specs.Ledger.{spanIn}
 use Rattle.rules.specs.Refusal.{beyondSpan}
 use Rattle.book_memory.specs.Meter.{Memory, roomIn, writtenAt}
 use Rattle.book_memory.proofs.Lengths.{room-holds}
@@ -23,7 +23,7 @@ use Rattle.book.specs.Enter.{Enters, takenAs, refusedAs}
 use Rattle.book.specs.Sound.{sound}
 use Rattle.book.specs.declared.Book.{Book}
 use Rattle.book.proofs.Month.{span-is, span-cells}
-use Rattle.book.proofs.Refusals.{anyOf, ownOf, reading-number}
+use Rattle.book.proofs.Refusals.{revised-cells, anyOf, ownOf, reading-number}
 use Rattle.book.proofs.EnteringByNumbers.{Past, own-refuses, own-takes, own-allowed}
 
 -- it changes nothing in the book
@@ -40,7 +40,7 @@ by-minute b meter (suc n) r = refl
 -- the number up to 15, which asks for the room that the book needs
 pub any-revised : (b : Book) (room n : ℕ) (r : Reading)
     → anyOf b room (revisedAs n r) ≡ anyRefusal (inputRefusal (revisedAs n r)) (sound b) (b .closed) (b .agreed) false (ltb room (bookCells b))
-any-revised b room n r = rw (revised-not (λ k. true) (always false) n r, revised-not spanOf (always (bookCells b)) n r)
+any-revised b room n r = rw (revised-not (λ k. true) (always false) n r, revised-cells b n r)
 
 pub first-revised : (b : Book) (room n : ℕ) (r : Reading) (x : ℕ) (s : Bool) (m : ℕ)
     → x ≡ anyRefusal 0 s (b .closed) (b .agreed) false (ltb m (bookCells b)) → m ≡ room → s ≡ sound b → inputRefusal (revisedAs n r) ≡ 0
@@ -69,6 +69,6 @@ module _ (b : Book) (meter : Memory) (n : ℕ) (r : Reading) (p : Past b (roomIn
     place z i =
         let a = own-allowed p meter refl (sym own ∙ z) in
         let inside = leb-false (spanIn (ledgerIn b meter)) (r .minute .0) (sym (by-minute b meter n r) ∙ a .kind .inside) in
-        let room = ltb-false (roomIn meter) (bookCells b) (ap (ltb (roomIn meter)) (sym (revised-not spanOf (always (bookCells b)) n r)) ∙ p .enough) in
+        let room = ltb-false (roomIn meter) (bookCells b) (ap (ltb (roomIn meter)) (sym (revised-cells b n r)) ∙ p .enough) in
         let held = room-holds meter (r .minute .0) (omega (arith, inside, room, span-is b meter agreed, span-cells b)) in
         (held .0, held .1, revised-fits n r i)

@@ -2,31 +2,36 @@
 -- few numbers of the book that it needs, 3 to 15 for any command and the others by its kind.
 use mathlib.Core.Path.{_≡_, refl, sym, ap, _∙_}
 use mathlib.Core.Bool.{Bool, true, false, not, _&&_, cond, false≢true}
+use lib.IntN.{ℤ}
 use mathlib.Core.List.{List, [], _∷_, _++_}
 use mathlib.Core.Option.{Option, none, some}
-use Prim.Native.Nat.{ℕ, zero, suc, _-_, _≤_, zero-le}
+use Prim.Native.Nat.{ℕ, zero, suc, _-_, _≤_, zero-le, max}
 use native.Mathlib.Omega.{arith}
 use lib.Dec.{eqb, ltb}
 use lib.ListN.{length, take, getD}
 use lib.Seq.{length-take-le}
-use borrow.Author.Tests.{ne-eqb, le-leb}
-use Rattle.energy.specs.Lists.{last, isEmpty, isSome}
-use Rattle.commands.specs.Command.{onContract, revisedAs, always}
-use Rattle.commands.specs.Input.{Condition, inputConditions, inputRefusal}
+use borrow.Author.Tests.{ne-eqb, le-leb, lt-ltb}
+use Rattle.energy.specs.Lists.{any, between, last, isEmpty, isSome}
+use Rattle.energy.proofs.Tests.{either}
+use Rattle.energy.proofs.Sums.{any-ext}
+use Rattle.calendar.specs.Calendar.{isNoDate}
+use Rattle.calendar.specs.declared.Date.{Date}
+use Rattle.commands.specs.Command.{onContract, onDate, revisedAs, always}
+use Rattle.commands.specs.Input.{Condition, inputConditions, inputRefusal, isReading}
 use Rattle.commands.specs.declared.contract.Contract.{Contract}
 use Rattle.commands.specs.declared.entries.Window.{Window}
 use Rattle.commands.specs.declared.entries.Instruction.{Instruction}
 use Rattle.commands.specs.declared.entries.Default.{Default}
 use Rattle.commands.specs.declared.entries.Reading.{Reading}
 use Rattle.commands.specs.declared.entries.Command.{Command}
-use Rattle.commands.specs.declared.entries.Command.the-variants.{Contract as contractᶜ, Window as windowᶜ, Instruction as instructionᶜ}
+use Rattle.commands.specs.declared.entries.Command.the-variants.{Contract as contractᶜ, Date as dateᶜ, Window as windowᶜ, Instruction as instructionᶜ}
 use Rattle.commands.specs.declared.entries.Command.the-variants.{Default as defaultᶜ, Close as closeᶜ}
 use Rattle.commands.proofs.Input.{numbers, numbered, first-number, first-numbered, numbers-append}
 use Rattle.commands.proofs.ByKind.{contract-or-not}
-use Rattle.rules.specs.Ledger.{Metered, isContract, spanOf, noWindow, noInstruction}
+use Rattle.rules.specs.Ledger.{Metered, isContract, spanOf, fullSpan, spanIn, noWindow, noInstruction}
 use Rattle.rules.specs.Refusal.{cellsFor, notAbove, bookConditions, kindConditions, conditions, refusal, recovered}
-use Rattle.book_memory.specs.Meter.{Memory, roomIn, meteredAt}
-use Rattle.book_refusal.specs.Refusals.{anyRefusal, windowsEnd, windowRefusal, readyAfter, instructionRefusal, defaultRefusal, heldRefusal}
+use Rattle.book_memory.specs.Meter.{Memory, roomIn, kwAt, revisionAt, cellReading, meteredAt}
+use Rattle.book_refusal.specs.Refusals.{anyRefusal, dateRefusal, windowsEnd, windowRefusal, readyAfter, instructionRefusal, defaultRefusal, heldRefusal}
 use Rattle.book_refusal.specs.Refusals.{readingRefusal}
 use Rattle.book_sound.proofs.Tables.{last-used}
 use Rattle.book_sound.proofs.Walks.{recovered-last}
@@ -38,9 +43,18 @@ use Rattle.book.proofs.Month.{span-is, cells-is}
 
 -- ---- what any command meets
 
+-- 15: the minutes that a command to a book asks for
+abbrev pub cellsOf : Book → Command → ℕ
+cellsOf b c = onContract spanOf (onDate (λ d. max (bookCells b) (fullSpan (b .contract) d)) (always (bookCells b))) c
+
+-- a reading of any revision asks for what the book needs
+pub revised-cells : (b : Book) (n : ℕ) (r : Reading) → cellsOf b (revisedAs n r) ≡ bookCells b
+revised-cells b zero r = refl
+revised-cells b (suc n) r = refl
+
 -- the number from 3 to 15, with so much room in lent memory
 abbrev pub anyOf : Book → ℕ → Command → ℕ
-anyOf b room c = anyRefusal (inputRefusal c) (sound b) (b .closed) (b .agreed) (isContract c) (ltb room (onContract spanOf (always (bookCells b)) c))
+anyOf b room c = anyRefusal (inputRefusal c) (sound b) (b .closed) (b .agreed) (isContract c) (ltb room (cellsOf b c))
 
 -- the number of the conditions after 15, those of the command's kind
 abbrev pub ownOf : Book → Memory → Command → ℕ
@@ -69,7 +83,7 @@ from-input zero s z a f t rest = refl
 from-input (suc n) s z a f t rest = rw (ne-eqb (suc n) 0 (λ q. omega arith)) (rw (ne-eqb (suc n) 0 (λ q. omega arith)) refl)
 
 -- a contract is asked for its own cells
-own-cells : (b : Book) (meter : Memory) (c : Command) → isContract c ≡ true → cellsFor (ledgerIn b meter) c ≡ onContract spanOf (always (bookCells b)) c
+own-cells : (b : Book) (meter : Memory) (c : Command) → isContract c ≡ true → cellsFor (ledgerIn b meter) c ≡ cellsOf b c
 own-cells b meter =
     contract-or-not _ (λ k e. refl)
     (λ c o e. absurd (false≢true (sym (o _ (λ k. true) (always false)) ∙ e)))
@@ -83,7 +97,7 @@ module _ (b : Book) (meter : Memory) (c : Command) where
   pub by-any : asked ≡ numbered (cond (eqb (anyOf b (roomIn meter) c) 0) (ownOf b meter c) (anyOf b (roomIn meter) c))
   unfolding refusal conditions numbers ledgerIn inputRefusal
   by-any =
-      let short : Bool = ltb (roomIn meter) (onContract spanOf (always (bookCells b)) c) in
+      let short : Bool = ltb (roomIn meter) (cellsOf b c) in
       let book : List Condition = bookConditions (not (sound b)) (roomIn meter) (ledgerIn b meter) c in
       let own : List Condition = kindConditions (ledgerIn b meter) c in
       first-numbered (conditions (not (sound b)) (roomIn meter) (ledgerIn b meter) c) tt
@@ -92,7 +106,9 @@ module _ (b : Book) (meter : Memory) (c : Command) where
       ∙ ap (λ n. cond (eqb n 0) (numbers (book ++ own)) n) (sym (first-number (inputConditions c) tt))
       ∙ ap (λ m. cond (eqb (inputRefusal c) 0) m (inputRefusal c))
       (from-book (b .contract) (sound b) (b .closed) (b .agreed) (isContract c) short (ltb (roomIn meter) (cellsFor (ledgerIn b meter) c)) (ownOf b meter c)
-      (λ e. ap (λ n. ltb (roomIn meter) (onContract spanOf (always n) c)) (cells-is b meter e))
+      (λ e. λ i.
+      ltb (roomIn meter)
+      (onContract spanOf (onDate (λ d. max (cells-is b meter e i) (fullSpan (contract-is b meter e i) d)) (always (cells-is b meter e i))) c))
       (λ e. ap (ltb (roomIn meter)) (own-cells b meter c e)))
       ∙ from-input (inputRefusal c) (sound b) (b .closed) (b .agreed) (isContract c) short (ownOf b meter c))
 
@@ -122,7 +138,45 @@ ready-after k is (suc n) h =
     (recovered-last k (take (suc n) is) noInstruction (omega (arith, length-take-le (suc n) is h))
     ∙ ap (λ (i : Instruction). readyAfter k 1 i) (last-used is (suc n) noInstruction (omega arith) h))
 
+-- a date is none where the book's is zeros
+dated-is : (none : Bool) (d : Date) → not (isEmpty (cond none [] (d ∷ []))) ≡ not none
+unfolding isEmpty
+dated-is true d = refl
+dated-is false d = refl
+
+-- a table is empty where none of its entries is in use
+used-is : {A : Type 0} (l : List A) (n : ℕ) → n ≤ length l → not (isEmpty (take n l)) ≡ not (eqb n 0)
+unfolding isEmpty
+used-is l zero h = refl
+used-is [] (suc n) h = absurd (omega arith)
+used-is (x ∷ l) (suc n) h = rw (ne-eqb (suc n) 0 (λ q. omega arith))
+
+-- a cell counts as a reading where it is in its range
+counts : (z : ℤ) (n : ℕ) → isSome (cellReading z n) ≡ isReading z
+unfolding isSome
+counts z n = either (isReading z) (λ e. rw e) (λ e. rw e)
+
 module _ (b : Book) (meter : Memory) (s : b .agreed ≡ true) where
+  -- some minute of the span has a reading
+  read-is : any (λ m. isSome (ledgerIn b meter .reading m)) (between 0 (spanIn (ledgerIn b meter)))
+      ≡ any (λ m. isReading (kwAt meter m)) (between 0 (bookSpan b))
+  unfolding ledgerIn
+  read-is =
+      ap (λ n. any (λ m. isSome (ledgerIn b meter .reading m)) (between 0 n)) (span-is b meter s)
+      ∙ any-ext (λ m. isSome (ledgerIn b meter .reading m)) (λ m. isReading (kwAt meter m)) 0 (bookSpan b)
+      (λ m h l. rw (lt-ltb m (bookSpan b) l) (counts (kwAt meter m) (revisionAt meter m)))
+
+  pub date-number : (d : Date) → b .nwindows ≤ length (b .windows) → b .ninstructions ≤ length (b .instructions)
+      → ownOf b meter (dateᶜ d)
+      ≡ dateRefusal (b .date) (b .nwindows) (b .ninstructions) (any (λ m. isReading (kwAt meter m)) (between 0 (bookSpan b))) (b .contract) d
+  unfolding numbers dateRefusal
+  date-number d h k =
+      let g = ledgerIn b meter in
+      let dated : not (isEmpty (g .dates)) ≡ not (isNoDate (b .date)) = unfold ledgerIn in dated-is (isNoDate (b .date)) (b .date) in
+      let windowed : not (isEmpty (g .windows)) ≡ not (eqb (b .nwindows) 0) = unfold ledgerIn in used-is (b .windows) (b .nwindows) h in
+      let called : not (isEmpty (g .instructions)) ≡ not (eqb (b .ninstructions) 0) = unfold ledgerIn in used-is (b .instructions) (b .ninstructions) k in
+      rw (dated, windowed, called, read-is, contract-is b meter s)
+
   pub window-number : (w : Window) → b .nwindows ≤ length (b .windows)
       → ownOf b meter (windowᶜ w)
       ≡ windowRefusal (b .contract .service) (bookSpan b) (windowsEnd (b .nwindows) (getD (b .windows) (b .nwindows - 1) noWindow)) (b .nwindows) w

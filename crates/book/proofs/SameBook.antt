@@ -1,4 +1,4 @@
--- A sound book is fixed by what it holds: its contract, its entries in use, and whether it is closed. Everything else in it is zeros.
+-- A sound book is fixed by what it holds: its contract, its date, its entries in use, and whether it is closed. Everything else in it is zeros.
 use mathlib.Core.Path.{_≡_, refl, sym, ap, ap₂, _∙_}
 use mathlib.Core.Bool.{Bool, true, false, cond}
 use mathlib.Core.List.{List, [], _∷_, _++_}
@@ -8,7 +8,10 @@ use lib.Dec.{T, eqb, eqb→eq}
 use lib.ListN.{length, take, drop, replicate, length-drop, take-append-drop}
 use lib.Seq.{length-take-le}
 use Rattle.energy.specs.Lists.{all}
-use Rattle.energy.proofs.Tests.{T-and}
+use Rattle.energy.proofs.Tests.{T-and, to-T, either}
+use Rattle.calendar.specs.Calendar.{isNoDate}
+use Rattle.calendar.specs.declared.Date.{Date}
+use Rattle.calendar.proofs.Months.{no-date}
 use Rattle.commands.specs.declared.contract.Contract.{Contract}
 use Rattle.commands.specs.declared.entries.Window.{Window}
 use Rattle.commands.specs.declared.entries.Instruction.{Instruction}
@@ -73,6 +76,18 @@ contract-same true false k k′ e z z′ = let x : _≡_ {A = ℕ} 0 1 = cc in a
 contract-same false true k k′ e z z′ = let x : _≡_ {A = ℕ} 0 1 = cc in absurd (omega arith)
 contract-same false false k k′ e z z′ = (refl, z refl ∙ sym (z′ refl))
 
+-- a book's date: zeros, or one date
+date-same : (d d′ : Date) → _≡_ {A = List Date} (cond (isNoDate d) [] (d ∷ [])) (cond (isNoDate d′) [] (d′ ∷ [])) → d ≡ d′
+date-same d d′ e =
+    either (isNoDate d)
+    (λ p.
+    either (isNoDate d′) (λ q. no-date d (to-T p) ∙ sym (no-date d′ (to-T q)))
+    (λ q. let f : _≡_ {A = List Date} [] (d′ ∷ []) = rw (p, q) at e in let x : _≡_ {A = ℕ} 0 1 = cc in absurd (omega arith)))
+    (λ p.
+    either (isNoDate d′)
+    (λ q. let f : _≡_ {A = List Date} (d ∷ []) [] = rw (p, q) at e in let x : _≡_ {A = ℕ} 0 1 = cc in absurd (omega arith))
+    (λ q. let f : _≡_ {A = List Date} (d ∷ []) (d′ ∷ []) = rw (p, q) at e in cc))
+
 -- books that hold the same ledger are the same
 pub same-book : (b b′ : Book) (meter after : Memory) → Shaped b → Shaped b′ → sound b ≡ true → sound b′ ≡ true
     → ledgerIn b meter ≡ ledgerIn b′ after
@@ -93,6 +108,7 @@ same-book b b′ meter after s s′ e e′ h =
       agreed = k .0 i;
       closed = h i .closed;
       contract = k .1 i;
+      date = date-same (b .date) (b′ .date) (ap (λ g. g .dates) h) i;
       windows = w .1 i;
       nwindows = w .0 i;
       instructions = x .1 i;

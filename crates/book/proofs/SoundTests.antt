@@ -1,5 +1,5 @@
 -- What the test for 11 says of a book, by name: its tables, and what is in them with a contract or without.
-use mathlib.Core.Path.{_≡_, ap, subst}
+use mathlib.Core.Path.{_≡_, sym, ap, _∙_, subst}
 use mathlib.Core.Bool.{Bool, true, false, cond}
 use mathlib.Core.List.{List, [], _∷_}
 use Prim.Native.Nat.{ℕ, _≤_}
@@ -8,13 +8,15 @@ use lib.Dec.{T, eqb→eq, leb→le, le→leb}
 use lib.ListN.{length, take, drop}
 use Rattle.book_memory.specs.Meter.{Memory}
 use Rattle.energy.specs.Lists.{all, first, pass}
-use Rattle.energy.proofs.Tests.{to-T, of-T, T-and, and-T, passes, passed}
-use Rattle.rules.specs.Ledger.{contractOf, noContract}
-use Rattle.rules.specs.Reached.{agreedTests}
+use Rattle.energy.proofs.Tests.{to-T, of-T, T-and, and-T, passes, passed, either}
+use Rattle.calendar.specs.Calendar.{noDate, isNoDate}
+use Rattle.calendar.proofs.Months.{no-date}
+use Rattle.rules.specs.Ledger.{contractOf, dateOf, noContract}
+use Rattle.rules.specs.Reached.{dateSound, agreedTests}
 use Rattle.commands.specs.declared.contract.Contract.{Contract}
 use Rattle.commands.proofs.Chain.{not-on}
 use Rattle.rules.proofs.Reached.{Parts, parts}
-use Rattle.book.specs.Book.{bookSpan, ledgerIn}
+use Rattle.book.specs.Book.{bookSpan, datesIn, ledgerIn}
 use Rattle.book_sound.specs.Unused.{isNoWindow, isNoInstruction, isNoDefault, isZero, noContractTests}
 use Rattle.book.specs.Sound.{Shaped, emptyTests, tableTests, sound}
 use Rattle.book.specs.declared.Book.{Book}
@@ -74,7 +76,8 @@ module _ (b : Book) (t : Tables b) (s : Shaped b) where
 -- the tests of what is in the tables, with a contract or without
 abbrev pub contents : Book → Bool → List Bool
 contents b c =
-    cond c (agreedTests (b .contract) (bookSpan b) (take (b .nwindows) (b .windows)) (take (b .ninstructions) (b .instructions))
+    cond c (all (dateSound (b .contract)) (datesIn b)
+    ∷ agreedTests (b .contract) (bookSpan b) (take (b .nwindows) (b .windows)) (take (b .ninstructions) (b .instructions))
     (take (b .ndefaults) (b .defaults)))
     (emptyTests b)
 
@@ -97,9 +100,21 @@ is-sound b s = of-T (sound b) (and-T (pass (tableTests b)) (pass (contents b (b 
 -- what is in use could be entered under it
 pub sound-used : (b : Book) → sound b ≡ true → b .agreed ≡ true
     → Parts (b .contract) (bookSpan b) (take (b .nwindows) (b .windows)) (take (b .ninstructions) (b .instructions)) (take (b .ndefaults) (b .defaults))
+unfolding pass
 sound-used b e s =
-    parts (b .contract) (bookSpan b) (take (b .nwindows) (b .windows)) (take (b .ninstructions) (b .instructions)) (take (b .ndefaults) (b .defaults))
-    (subst (λ x. T (pass (contents b x))) s (sound-parts b e .contents))
+    let ws = take (b .nwindows) (b .windows) in
+    let is = take (b .ninstructions) (b .instructions) in
+    let ds = take (b .ndefaults) (b .defaults) in
+    parts (b .contract) (bookSpan b) ws is ds
+    (T-and (all (dateSound (b .contract)) (datesIn b)) (pass (agreedTests (b .contract) (bookSpan b) ws is ds))
+    (subst (λ x. T (pass (contents b x))) s (sound-parts b e .contents)) .1)
+
+-- what the ledger calls its date
+pub date-is : (b : Book) (meter : Memory) → dateOf (ledgerIn b meter) ≡ b .date
+unfolding dateOf ledgerIn first
+date-is b meter =
+    either (isNoDate (b .date)) (λ e. ap (λ x. first noDate (cond x [] (b .date ∷ []))) e ∙ sym (no-date (b .date) (to-T e)))
+    (λ e. ap (λ x. first noDate (cond x [] (b .date ∷ []))) e)
 
 -- what the ledger calls its contract
 pub contract-is : (b : Book) (meter : Memory) → b .agreed ≡ true → contractOf (ledgerIn b meter) ≡ b .contract
@@ -110,6 +125,7 @@ contract-is b meter s = ap (λ x. first noContract (cond x (b .contract ∷ []) 
 
 pub record Empty (b : Book) : Type 0 where
   pub contract : b .contract ≡ noContract
+  pub date : b .date ≡ noDate
   pub notClosed : b .closed ≡ false
   pub windows : b .nwindows ≡ 0
   pub instructions : b .ninstructions ≡ 0
@@ -143,8 +159,9 @@ sound-empty b e s =
     let p = passes (emptyTests b) (subst (λ x. T (pass (contents b x))) s (sound-parts b e .contents)) in
     record {
       contract = no-contract (b .contract) (p .0);
-      notClosed = not-on (b .closed) (p .1 .0);
-      windows = eqb→eq (b .nwindows) 0 (p .1 .1 .0);
-      instructions = eqb→eq (b .ninstructions) 0 (p .1 .1 .1 .0);
-      defaults = eqb→eq (b .ndefaults) 0 (p .1 .1 .1 .1 .0);
+      date = no-date (b .date) (p .1 .0);
+      notClosed = not-on (b .closed) (p .1 .1 .0);
+      windows = eqb→eq (b .nwindows) 0 (p .1 .1 .1 .0);
+      instructions = eqb→eq (b .ninstructions) 0 (p .1 .1 .1 .1 .0);
+      defaults = eqb→eq (b .ndefaults) 0 (p .1 .1 .1 .1 .1 .0);
     }

@@ -2,12 +2,13 @@
 use mathlib.Core.Path.{_≡_, refl, sym, _∙_, subst⁻¹}
 use mathlib.Core.Bool.{true, false, not, true≢false}
 use mathlib.Core.Option.{Option, none, some}
-use Prim.Native.Nat.{ℕ, _≤_}
+use Prim.Native.Nat.{ℕ, _≤_, max}
 use native.Mathlib.Omega.{arith}
 use borrow.Author.Tests.{ltb-false}
 use Rattle.book_memory.specs.Meter.{Memory, roomIn}
-use Rattle.commands.specs.Command.{always}
-use Rattle.rules.specs.Ledger.{cellsIn, spanOf}
+use Rattle.commands.specs.Command.{onDate, always}
+use Rattle.rules.specs.Ledger.{contractOf, cellsIn, spanOf, fullSpan}
+use Rattle.rules.proofs.Span.{cells-asked}
 use Rattle.rules.specs.Refusal.{refusal}
 use Rattle.commands.specs.declared.entries.Command.{Command}
 use Rattle.commands.specs.declared.entries.Command.the-variants.{Contract as contractᶜ}
@@ -33,7 +34,10 @@ cells-held b meter c e a =
     under =
         contract-or-not _
         (λ k s a. absurd (true≢false (sym s ∙ agreed-before b meter (contractᶜ k) a)))
-        (λ c o s a. ltb-false (roomIn meter) _ (rw (o _ spanOf (always (cellsIn (ledgerIn b meter)))) at (a .book .memory)))
+        (λ c o s a.
+        let g = ledgerIn b meter in
+        let asked : Command → ℕ = onDate (λ d. max (cellsIn g) (fullSpan (contractOf g) d)) (always (cellsIn g)) in
+        omega (arith, cells-asked g c, ltb-false (roomIn meter) (asked c) (rw (o _ spanOf asked) at (a .book .memory))))
 
 -- what entering leaves of a sound book
 pub record Kept (b : Book) : Type 0 where

@@ -2,11 +2,13 @@
 use mathlib.Core.Bool.{true, false, cond}
 use mathlib.Core.List.{List, [], _∷_}
 use mathlib.Core.Option.{none}
-use Prim.Native.Nat.{ℕ, _+_}
+use Prim.Native.Nat.{ℕ, _+_, _-_}
 use lib.Dec.{ltb}
 use lib.ListN.{take, set, replicate}
-use Rattle.rules.specs.Ledger.{Ledger, noContract, spanOf}
-use Rattle.commands.specs.Command.{onContract, onWindow, onInstruction, onDefault, onClose, always}
+use Rattle.calendar.specs.Calendar.{noDate, isNoDate, lostIn}
+use Rattle.calendar.specs.declared.Date.{Date}
+use Rattle.rules.specs.Ledger.{Ledger, noContract, fullSpan}
+use Rattle.commands.specs.Command.{onContract, onDate, onWindow, onInstruction, onDefault, onClose, always}
 use Rattle.commands.specs.declared.entries.Command.{Command}
 pub use Rattle.rules.specs.Ledger.{noWindow, noInstruction, noDefault}
 use Rattle.book_memory.specs.Meter.{meteredAt, Memory}
@@ -19,6 +21,7 @@ emptyBook =
       agreed = false;
       closed = false;
       contract = noContract;
+      date = noDate;
       windows = replicate 128 noWindow;
       nwindows = 0;
       instructions = replicate 64 noInstruction;
@@ -31,17 +34,22 @@ emptyBook =
 
 -- the span of a book: the minutes of its month
 unfoldable pub bookSpan : Book → ℕ
-bookSpan b = spanOf (b .contract)
+bookSpan b = fullSpan (b .contract) (b .date) - lostIn (b .date .month)
 
 -- 15: the minutes that lent memory must have room for
 unfoldable pub bookCells : Book → ℕ
-bookCells b = spanOf (b .contract)
+bookCells b = fullSpan (b .contract) (b .date)
+
+-- the date of a book, if it has one: zeros are none
+abbrev pub datesIn : Book → List Date
+datesIn b = cond (isNoDate (b .date)) [] (b .date ∷ [])
 
 -- the ledger of a book and lent memory. Cells past the span are no readings
 unfoldable pub ledgerIn : Book → Memory → Ledger
 ledgerIn b meter =
     record {
       contracts = cond (b .agreed) (b .contract ∷ []) [];
+      dates = datesIn b;
       windows = take (b .nwindows) (b .windows);
       instructions = take (b .ninstructions) (b .instructions);
       defaults = take (b .ndefaults) (b .defaults);
@@ -58,6 +66,7 @@ putBook b c =
       agreed = onContract (λ k. true) (always (b .agreed)) c;
       closed = onClose true (always (b .closed)) c;
       contract = onContract (λ k. k) (always (b .contract)) c;
+      date = onDate (λ d. d) (always (b .date)) c;
       windows = onWindow (λ w. set (b .windows) (b .nwindows) w) (always (b .windows)) c;
       nwindows = onWindow (λ w. b .nwindows + 1) (always (b .nwindows)) c;
       instructions = onInstruction (λ i. set (b .instructions) (b .ninstructions) i) (always (b .instructions)) c;

@@ -8,10 +8,11 @@ use lib.Dec.{T, eqb, leb}
 use lib.ListN.{length, take, drop}
 use Rattle.energy.specs.Lists.{all, pass}
 use Rattle.rules.specs.Refusal.{taken}
-use Rattle.rules.specs.Reached.{agreedTests}
+use Rattle.rules.specs.Reached.{dateSound, agreedTests}
 use Rattle.book_sound.specs.Unused.{isNoWindow, isNoInstruction, isNoDefault}
 unfoldable pub use Rattle.book_sound.specs.Unused.{noContractTests}
-use Rattle.book.specs.Book.{emptyBook, bookSpan, putAll}
+use Rattle.calendar.specs.Calendar.{isNoDate}
+use Rattle.book.specs.Book.{emptyBook, bookSpan, datesIn, putAll}
 use Rattle.commands.specs.declared.entries.Command.{Command}
 use Rattle.book.specs.declared.Book.{Book}
 
@@ -32,7 +33,7 @@ pub record Shaped (b : Book) : Type 0 where
 -- a book without a contract: nothing is entered
 unfoldable pub emptyTests : Book → List Bool
 emptyTests b =
-    pass (noContractTests (b .contract)) ∷ not (b .closed) ∷ eqb (b .nwindows) 0 ∷ eqb (b .ninstructions) 0 ∷ eqb (b .ndefaults) 0 ∷ []
+    pass (noContractTests (b .contract)) ∷ isNoDate (b .date) ∷ not (b .closed) ∷ eqb (b .nwindows) 0 ∷ eqb (b .ninstructions) 0 ∷ eqb (b .ndefaults) 0 ∷ []
 
 -- n entries are in use, and the others are zeros
 unfoldable pub tableTests : Book → List Bool
@@ -51,7 +52,9 @@ sound b =
     pass (tableTests b)
     && pass
     (cond (b .agreed)
-    (agreedTests (b .contract) (bookSpan b) (take (b .nwindows) (b .windows)) (take (b .ninstructions) (b .instructions)) (take (b .ndefaults) (b .defaults)))
+    (all (dateSound (b .contract)) (datesIn b)
+    ∷ agreedTests (b .contract) (bookSpan b) (take (b .nwindows) (b .windows)) (take (b .ninstructions) (b .instructions))
+    (take (b .ndefaults) (b .defaults)))
     (emptyTests b))
 
 -- the test is what document 01 words

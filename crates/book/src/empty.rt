@@ -2,6 +2,7 @@
 ghost use mathlib.Core.Path.{_≡_};
 ghost use Rattle.book.specs.Book.{emptyBook};
 use crate::Book;
+use calendar::Date;
 use commands::contract::Contract;
 use commands::entries::Default;
 use commands::entries::Instruction;
@@ -28,6 +29,11 @@ impl Book {
             utilisation: 0,
             optional: 0,
         };
+        let date = Date {
+            year: 0,
+            month: 0,
+            day: 0,
+        };
         let window = Window {
             start: zero,
             end: zero,
@@ -46,6 +52,7 @@ impl Book {
             agreed: false,
             closed: false,
             contract,
+            date,
             windows: [window; 128],
             nwindows: 0,
             instructions: [instruction; 64],

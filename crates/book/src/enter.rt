@@ -40,6 +40,7 @@ impl Book {
         let room = room_of(meter, revisions);
         match c {
             Command::Contract(k) => self.enter_contract(sound, k, meter, revisions),
+            Command::Date(d) => self.enter_date(sound, d, meter, revisions),
             Command::Window(w) => self.enter_window(sound, w, room),
             Command::Instruction(i) => self.enter_instruction(sound, i, room),
             Command::Default(d) => self.enter_default(sound, d, room),

@@ -1,11 +1,12 @@
 // The book of one unit: what has been entered, by value, and one method for each entry.
 //
-// Each method asks what its entry meets at the book, and where that is nothing puts it: into the book, and a contract's marks and a reading
-// into lent memory. It first tests whether the book is sound (11). Whoever enters a list of commands tests once and goes by `enter_known`,
+// Each method asks what its entry meets at the book, and where that is nothing puts it: into the book, and a contract's and a date's marks and
+// a reading into lent memory. It first tests whether the book is sound (11). Whoever enters a list of commands tests once and goes by `enter_known`,
 // which is the same code; a reading among them goes by `book_memory::taking`, which is not handed the book.
 mod answers;
 mod closing;
 mod contracts;
+mod dates;
 mod defaults;
 mod empty;
 mod enter;
@@ -15,6 +16,7 @@ mod sound;
 mod span;
 mod windows;
 
+use calendar::Date;
 use commands::contract::Contract;
 use commands::entries::Default;
 use commands::entries::Instruction;
@@ -27,6 +29,8 @@ pub struct Book {
     pub agreed: bool,
     pub closed: bool,
     pub contract: Contract,
+    // zeros where it has none
+    pub date: Date,
     pub windows: [Window; 128],
     pub nwindows: usize,
     pub instructions: [Instruction; 64],

@@ -4,6 +4,7 @@ ghost use Rattle.energy.specs.Lists.{pass};
 ghost use Rattle.book.specs.Sound.{tableTests, emptyTests, sound};
 use crate::Book;
 use book_sound::agreed::agreed_sound;
+use book_sound::agreement::date_sound;
 use book_sound::agreement::is_no_contract;
 use book_sound::defaults::defaults_unused;
 use book_sound::instructions::instructions_unused;
@@ -23,6 +24,11 @@ impl Book {
             return self.empty_sound();
         }
         let k = self.contract;
+        let date = self.date;
+        let dated = date_sound(k, date);
+        if !dated {
+            return false;
+        }
         let span = self.span();
         let windows = self.windows;
         let instructions = self.instructions;
@@ -65,8 +71,11 @@ impl Book {
         ensures { λ r. ⌜ r ≡ pass (emptyTests self) ⌝ }
     {
         let k = self.contract;
+        let date = self.date;
         let zeros = is_no_contract(k);
+        let undated = date.is_none();
         zeros
+            & undated
             & !self.closed
             & (self.nwindows == 0)
             & (self.ninstructions == 0)

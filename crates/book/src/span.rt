@@ -3,15 +3,17 @@ ghost use mathlib.Core.Path.{_≡_};
 ghost use Rattle.book.specs.Book.{bookSpan, bookCells};
 ghost use Rattle.book.specs.Readings.{openSpan};
 use crate::Book;
-use book_sound::agreement::span_of;
+use book_sound::agreement::full_span;
+use calendar::lost;
 
 impl Book {
-    // The span.
+    // The span: a March has an hour less than its cells.
     pub fn span(self) -> usize
         ensures { λ r. ⌜ r ≡ bookSpan self ⌝ }
     {
-        let k = self.contract;
-        span_of(k)
+        let cells = self.cells();
+        let less = lost(self.date.month);
+        if less <= cells { cells - less } else { 0 }
     }
 
     // The minutes that lent memory must have room for, as 15 asks.
@@ -19,10 +21,10 @@ impl Book {
         ensures { λ r. ⌜ r ≡ bookCells self ⌝ }
     {
         let k = self.contract;
-        span_of(k)
+        full_span(k, self.date.month)
     }
 
-    // The span in which readings are taken into lent memory with so much room, 0 where none is. Only a contract and a close change it.
+    // The span in which readings are taken into lent memory with so much room, 0 where none is. Only a contract, a date and a close change it.
     pub fn open_span(self, room: usize) -> usize
         ensures { λ r. ⌜ r ≡ openSpan self room ⌝ }
     {

@@ -1,17 +1,20 @@
--- Laws of lent memory: the cells' numbers, and a list that is filled from the front.
+-- Laws of lent memory: the cells' numbers, and a list that is filled from the front, or from a place on.
 use mathlib.Core.Path.{_≡_, refl, ap, _∙_}
-use mathlib.Core.List.{List, [], _∷_, _++_}
-use Prim.Native.Nat.{ℕ, zero, suc, _+_, _≤_, _<_}
+use mathlib.Core.List.{List, [], _∷_, _++_, append-nil}
+use Prim.Native.Nat.{ℕ, zero, suc, _+_, _-_, _≤_, _<_}
 use native.Mathlib.Numerals.{add-one}
 use native.Mathlib.Omega.{arith}
 use lib.IntN.{ℤ, pos, negsuc}
 use lib.Signed.{leZ}
 use lib.Dec.{T, leb→le}
-use lib.ListN.{length, getD, drop, set, replicate, length-set}
+use lib.ListN.{length, getD, take, drop, set, replicate, length-set, length-drop, length-replicate, drop-of-length-le}
+use lib.Seq.{take-all}
 use mir.Syntax.{w32}
 use mir.Val.{SFits, toZ, ofZ}
 use mir.Facts.{toZ-ofZ}
+use Rattle.energy.specs.Lists.{putAt}
 use Rattle.energy.proofs.Tests.{T-and}
+use Rattle.energy.proofs.Puts.{put-part}
 use Rattle.commands.specs.Input.{isReading}
 use Rattle.rules.proofs.Lists.{getD-within}
 use Rattle.book_memory.specs.Meter.{missing}
@@ -47,3 +50,11 @@ module _ {A : Type 0} where
 
   pub filled : (v : A) (n : ℕ) (d l : List A) (i : ℕ) → Filling v n d l i → n ≤ i → l ≡ replicate n v ++ drop n d
   filled v n d l i f h = let end : i ≡ n = omega arith in rw end at (f .1)
+
+  -- the part of a list from a place on that is lent, filled at its front and comes back
+  pub part-filled : (v : A) (n at : ℕ) (d part : List A) → part ≡ replicate n v ++ drop n (take (length d - at) (drop at d))
+      → take at d ++ (part ++ drop (length d - at) (drop at d)) ≡ putAt (replicate n v) d at
+  part-filled v n at d part e =
+      let size : length (drop at d) ≤ length d - at = omega (arith, length-drop at d) in
+      rw (e, take-all (length d - at) (drop at d) size, drop-of-length-le (drop at d) size, append-nil)
+      (put-part (replicate n v) d at n (length-replicate n v))

@@ -1,15 +1,16 @@
 -- The room in lent memory: no more than either length, and the same in memory of the same lengths.
 use mathlib.Core.Path.{_≡_, sym, ap₂, _∙_}
 use mathlib.Core.Bool.{_&&_}
-use Prim.Native.Nat.{ℕ, suc, _≤_, _<_, min}
+use Prim.Native.Nat.{ℕ, suc, _+_, _≤_, _<_, min}
 use native.Mathlib.Nat.{min-le-left, min-le-right, min-eq-left, min-eq-right, le-min, le-refl}
 use native.Mathlib.Omega.{arith}
 use lib.IntN.{ℤ}
 use lib.Dec.{ltb}
 use borrow.Author.Tests.{ltb-true, ltb-false, lt-ltb, le-ltb}
 use Rattle.energy.proofs.Tests.{either}
+use Rattle.energy.proofs.Puts.{length-put}
 use lib.ListN.{length, replicate, length-replicate, length-append, length-drop, length-set}
-use Rattle.book_memory.specs.Meter.{Memory, missing, lent, roomIn, markedTo, writtenAt}
+use Rattle.book_memory.specs.Meter.{Memory, missing, lent, roomIn, markedTo, markedFrom, writtenAt}
 
 pub room-cells : (m : Memory) → roomIn m ≤ length (m .cells)
 unfolding roomIn
@@ -58,6 +59,13 @@ marked-room m n h =
     let r = room-revisions m in
     room-same (markedTo n m) m (simp (length-append, length-replicate, length-drop) (omega arith))
     (simp (length-append, length-replicate, length-drop) (omega arith))
+
+pub marked-from-room : (m : Memory) (at n : ℕ) → at + n ≤ roomIn m → roomIn (markedFrom at n m) ≡ roomIn m
+marked-from-room m at n h =
+    let cells = length-replicate n missing in
+    let bytes = length-replicate {A = ℕ} n 0 in
+    room-same (markedFrom at n m) m (length-put (replicate n missing) (m .cells) at (omega (arith, room-cells m)))
+    (length-put (replicate n 0) (m .revisions) at (omega (arith, room-revisions m)))
 
 pub written-room : (m : Memory) (i : ℕ) (kw : ℤ) (n : ℕ) → roomIn (writtenAt i kw n m) ≡ roomIn m
 written-room m i kw n = room-same (writtenAt i kw n m) m (length-set (m .cells) i kw) (length-set (m .revisions) i n)

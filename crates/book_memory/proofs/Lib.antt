@@ -2,3 +2,4 @@ pub mod Cells
 pub mod Lengths
 pub mod TakenReading
 pub mod Examples
+pub mod MarkedHour

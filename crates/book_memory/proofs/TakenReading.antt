@@ -1,13 +1,13 @@
 -- A reading that is taken into lent memory: what is known of it, by its revision.
 use mathlib.Core.Path.{_≡_, refl, sym, _∙_}
 use mathlib.Core.Logic.{_≢_}
-use mathlib.Core.Bool.{Bool, true, false, not, _&&_, and-true, and-false}
+use mathlib.Core.Bool.{Bool, true, false, not, _&&_, _||_, and-true, and-false}
 use Prim.Native.Nat.{ℕ, _<_, zero, suc}
 use lib.Dec.{T, eqb, ltb}
 use borrow.Author.Tests.{ltb-true, not-true, eq-eqb, ne-eqb, eqb-true}
 use Rattle.energy.proofs.Tests.{to-T, on-and, T-and}
 use Rattle.commands.specs.Command.{revisedAs, always}
-use Rattle.commands.specs.Input.{from-to, isReading, inRange, meterable, rampTooLong, badWindow, inputRefusal, mostMinute}
+use Rattle.commands.specs.Input.{from-to, isReading, inRange, meterable, rampTooLong, badWindow, noSuchDate, inputRefusal, mostMinute}
 use Rattle.commands.specs.declared.entries.Reading.{Reading}
 use Rattle.commands.specs.declared.entries.Revision.{Revision}
 use Rattle.commands.specs.declared.entries.Command.{Command}
@@ -70,7 +70,7 @@ taken-input span m v t =
 -- a command whose operands are not turned down has them in their ranges
 pub input-fits : (c : Command) → inputRefusal c ≡ 0 → inRange c ≡ true
 input-fits c e =
-    on-and (inRange c) (not (rampTooLong c) && not (badWindow c)) (sym (input-none c) ∙ eq-eqb (inputRefusal c) 0 e) .0
+    on-and (inRange c) (not (rampTooLong c) && not (noSuchDate c || badWindow c)) (sym (input-none c) ∙ eq-eqb (inputRefusal c) 0 e) .0
 
 -- so a revision is made of its number and its reading
 pub revision-is : (v : Revision) → inputRefusal (revisionᶜ v) ≡ 0 → revisedAs (v .number) (v .reading) ≡ revisionᶜ v

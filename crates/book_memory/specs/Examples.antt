@@ -4,7 +4,7 @@ use mathlib.Core.List.{[], _∷_}
 use mathlib.Core.Option.{none, some}
 use lib.IntN.{pos, negsuc}
 use Rattle.rules.specs.Examples.{metered, revised}
-use Rattle.book_memory.specs.Meter.{missing, cellReading, Memory, lent, roomIn, meteredAt, markedTo, putMeter}
+use Rattle.book_memory.specs.Meter.{missing, cellReading, Memory, lent, roomIn, meteredAt, markedTo, markedFrom, putMeter}
 
 -- a cell counts by its range, not by its mark, and a byte where its cell counts
 pub record CellExamples : Type 0 where
@@ -30,6 +30,10 @@ three = lent (pos 7 ∷ pos 8 ∷ pos 9 ∷ []) (1 ∷ 2 ∷ 3 ∷ [])
 pub record PutExamples : Type 0 where
   -- a contract marks the cells of its span and clears their bytes, and leaves those after it
   pub contract : markedTo 2 three ≡ lent (missing ∷ missing ∷ pos 9 ∷ []) (0 ∷ 0 ∷ 3 ∷ [])
+  -- an hour that a month gains is marked and cleared from a place on, and leaves what is before it and after it
+  pub hour : markedFrom 1 1 three ≡ lent (pos 7 ∷ missing ∷ pos 9 ∷ []) (1 ∷ 0 ∷ 3 ∷ [])
+  -- and where none is gained nothing is written
+  pub noHour : markedFrom 1 0 three ≡ three
   -- a plain reading writes its cell and a 0, whatever the byte held
   pub plain : putMeter three (metered 1 (pos 5)) ≡ lent (pos 7 ∷ pos 5 ∷ pos 9 ∷ []) (1 ∷ 0 ∷ 3 ∷ [])
   -- a revision writes its cell and its number

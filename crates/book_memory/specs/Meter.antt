@@ -2,12 +2,14 @@
 use mathlib.Core.Bool.{Bool, false, not, _&&_, cond}
 use mathlib.Core.List.{List, _++_}
 use mathlib.Core.Option.{Option, none, some}
-use Prim.Native.Nat.{ℕ, min}
+use Prim.Native.Nat.{ℕ, _*_, min}
 use lib.IntN.{ℤ, negsuc}
 use lib.Dec.{eqb, ltb}
 use lib.ListN.{length, getD, drop, set, replicate}
 use Rattle.commands.specs.Input.{isReading, inputRefusal}
-use Rattle.commands.specs.Command.{onContract, onMetered, always}
+use Rattle.energy.specs.Lists.{putAt}
+use Rattle.calendar.specs.Calendar.{daysOf, gainedIn}
+use Rattle.commands.specs.Command.{onContract, onDate, onMetered, always}
 use Rattle.rules.specs.Ledger.{Metered, spanOf}
 use Rattle.rules.specs.Refusal.{notAbove}
 use Rattle.commands.specs.declared.entries.Command.{Command}
@@ -53,16 +55,21 @@ meteredAt m i = cellReading (kwAt m i) (revisionAt m i)
 abbrev pub markedTo : ℕ → Memory → Memory
 markedTo span m = lent (replicate span missing ++ drop span (m .cells)) (replicate span 0 ++ drop span (m .revisions))
 
+-- n cells from a minute on marked and their bytes cleared
+abbrev pub markedFrom : ℕ → ℕ → Memory → Memory
+markedFrom at n m = lent (putAt (replicate n missing) (m .cells) at) (putAt (replicate n 0) (m .revisions) at)
+
 -- a minute's cell and byte written
 abbrev pub writtenAt : ℕ → ℤ → ℕ → Memory → Memory
 writtenAt i kw n m = lent (set (m .cells) i kw) (set (m .revisions) i n)
 
--- memory with a command's reading and its revision, or with a contract's span marked
+-- memory with a command's reading and its revision, with a contract's span marked, or with the hour that a date's month gains after its days
 abbrev pub putMeter : Memory → Command → Memory
 putMeter m c =
     onContract (λ k. markedTo (spanOf k) m)
+    (onDate (λ d. markedFrom (1440 * daysOf (d .year) (d .month)) (gainedIn (d .month)) m)
     (onMetered (λ n r. writtenAt (r .minute .0) (r .kw .0) n m)
-    (always m))
+    (always m)))
     c
 
 -- a reading of either kind with its operands in range, for a minute of the span that there is room for and that holds no reading of its revision or above

@@ -1,8 +1,10 @@
 // Lent memory: a cell for each minute's kW and a byte for its revision. The room in both; the cells, here; the bytes; and the readings that go into
 // them.
+pub mod gained;
 pub mod revisions;
 pub mod room;
 pub mod taking;
+pub mod unread;
 
 ghost use mathlib.Core.Path.{_≡_};
 ghost use mathlib.Core.List.{_++_};

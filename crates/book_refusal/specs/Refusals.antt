@@ -1,9 +1,11 @@
 -- Inner, and proved equal to the rules: what a command meets as one number, 0 for none, from the few numbers of the book that it is asked against.
-use mathlib.Core.Bool.{Bool, not, _&&_, cond}
+use mathlib.Core.Bool.{Bool, not, _&&_, _||_, cond}
 use mathlib.Core.List.{List}
 use Prim.Native.Nat.{ℕ, _+_}
 use lib.Dec.{eqb, leb, ltb}
 use Rattle.energy.specs.Lists.{any}
+use Rattle.calendar.specs.Calendar.{daysOf, isNoDate}
+use Rattle.calendar.specs.declared.Date.{Date}
 use Rattle.commands.specs.declared.contract.Contract.{Contract}
 use Rattle.commands.specs.declared.entries.Window.{Window}
 use Rattle.commands.specs.declared.entries.Instruction.{Instruction}
@@ -23,6 +25,12 @@ anyRefusal input sound closed agreed contract short =
     (cond (not agreed && not contract) 13
     (cond (agreed && contract) 14
     (cond short 15 0)))))
+
+-- a date in a book with a date before it, so many windows and instructions, and a reading in its span or none
+unfoldable pub dateRefusal : Date → ℕ → ℕ → Bool → Contract → Date → ℕ
+dateRefusal before windows instructions read k d =
+    cond (not (isNoDate before) || not (eqb windows 0) || not (eqb instructions 0) || read) 29
+    (cond (not (eqb (d .day) 1) || not (eqb (daysOf (d .year) (d .month)) (k .days))) 30 0)
 
 -- the end of the last of n windows, 0 where there is none
 abbrev pub windowsEnd : ℕ → Window → ℕ

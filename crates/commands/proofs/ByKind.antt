@@ -2,7 +2,8 @@
 use mathlib.Core.Path.{_≡_, refl}
 use Prim.Native.Nat.{ℕ, zero, suc, _≤_}
 use native.Mathlib.Omega.{arith}
-use Rattle.commands.specs.Command.{onContract, onWindow, onInstruction, onDefault, onReading, onRevision, onClose, onMetered, revisedAs}
+use Rattle.commands.specs.Command.{onContract, onDate, onWindow, onInstruction, onDefault, onReading, onRevision, onClose, onMetered, revisedAs}
+use Rattle.calendar.specs.declared.Date.{Date}
 use Rattle.commands.specs.declared.contract.Contract.{Contract}
 use Rattle.commands.specs.declared.entries.Window.{Window}
 use Rattle.commands.specs.declared.entries.Instruction.{Instruction}
@@ -10,21 +11,22 @@ use Rattle.commands.specs.declared.entries.Default.{Default}
 use Rattle.commands.specs.declared.entries.Reading.{Reading}
 use Rattle.commands.specs.declared.entries.Revision.{Revision}
 use Rattle.commands.specs.declared.entries.Command.{Command}
-use Rattle.commands.specs.declared.entries.Command.the-variants.{Contract as contractᶜ, Window as windowᶜ, Instruction as instructionᶜ}
-use Rattle.commands.specs.declared.entries.Command.the-variants.{Default as defaultᶜ, Reading as readingᶜ, Revision as revisionᶜ}
-use Rattle.commands.specs.declared.entries.Command.the-variants.{Close as closeᶜ}
+use Rattle.commands.specs.declared.entries.Command.the-variants.{Contract as contractᶜ, Date as dateᶜ, Window as windowᶜ}
+use Rattle.commands.specs.declared.entries.Command.the-variants.{Instruction as instructionᶜ, Default as defaultᶜ, Reading as readingᶜ}
+use Rattle.commands.specs.declared.entries.Command.the-variants.{Revision as revisionᶜ, Close as closeᶜ}
 
 -- what the kinds of command say one by one
-by-kind : (P : Command → Type 0) → ((k : Contract) → P (contractᶜ k)) → ((w : Window) → P (windowᶜ w)) → ((i : Instruction) → P (instructionᶜ i))
-    → ((d : Default) → P (defaultᶜ d)) → ((r : Reading) → P (readingᶜ r)) → ((v : Revision) → P (revisionᶜ v)) → P closeᶜ
-    → (c : Command) → P c
-by-kind P k w i d r v z (contractᶜ x) = k x
-by-kind P k w i d r v z (windowᶜ x) = w x
-by-kind P k w i d r v z (instructionᶜ x) = i x
-by-kind P k w i d r v z (defaultᶜ x) = d x
-by-kind P k w i d r v z (readingᶜ x) = r x
-by-kind P k w i d r v z (revisionᶜ x) = v x
-by-kind P k w i d r v z closeᶜ = z
+by-kind : (P : Command → Type 0) → ((k : Contract) → P (contractᶜ k)) → ((d : Date) → P (dateᶜ d)) → ((w : Window) → P (windowᶜ w))
+    → ((i : Instruction) → P (instructionᶜ i)) → ((d : Default) → P (defaultᶜ d)) → ((r : Reading) → P (readingᶜ r)) → ((v : Revision) → P (revisionᶜ v))
+    → P closeᶜ → (c : Command) → P c
+by-kind P k t w i d r v z (contractᶜ x) = k x
+by-kind P k t w i d r v z (dateᶜ x) = t x
+by-kind P k t w i d r v z (windowᶜ x) = w x
+by-kind P k t w i d r v z (instructionᶜ x) = i x
+by-kind P k t w i d r v z (defaultᶜ x) = d x
+by-kind P k t w i d r v z (readingᶜ x) = r x
+by-kind P k t w i d r v z (revisionᶜ x) = v x
+by-kind P k t w i d r v z closeᶜ = z
 
 -- a command of another kind: what a definition says of that kind, it leaves to the next
 abbrev pub Not : {X : Type 0} → ((A : Type 0) → (X → A) → (Command → A) → Command → A) → Command → Type 1
@@ -33,35 +35,40 @@ Not {X} on c = (A : Type 0) (f : X → A) (g : Command → A) → on A f g c ≡
 module _ (P : Command → Type 0) where
   pub contract-or-not : ((k : Contract) → P (contractᶜ k)) → ((c : Command) → Not (λ A. onContract) c → P c) → (c : Command) → P c
   contract-or-not f g =
-      by-kind P f (λ w. g _ (λ A p q. refl)) (λ i. g _ (λ A p q. refl)) (λ d. g _ (λ A p q. refl)) (λ r. g _ (λ A p q. refl)) (λ v. g _ (λ A p q. refl))
-      (g _ (λ A p q. refl))
+      by-kind P f (λ t. g _ (λ A p q. refl)) (λ w. g _ (λ A p q. refl)) (λ i. g _ (λ A p q. refl))
+      (λ d. g _ (λ A p q. refl)) (λ r. g _ (λ A p q. refl)) (λ v. g _ (λ A p q. refl)) (g _ (λ A p q. refl))
+
+  pub date-or-not : ((d : Date) → P (dateᶜ d)) → ((c : Command) → Not (λ A. onDate) c → P c) → (c : Command) → P c
+  date-or-not f g =
+      by-kind P (λ k. g _ (λ A p q. refl)) f (λ w. g _ (λ A p q. refl)) (λ i. g _ (λ A p q. refl))
+      (λ d. g _ (λ A p q. refl)) (λ r. g _ (λ A p q. refl)) (λ v. g _ (λ A p q. refl)) (g _ (λ A p q. refl))
 
   pub window-or-not : ((w : Window) → P (windowᶜ w)) → ((c : Command) → Not (λ A. onWindow) c → P c) → (c : Command) → P c
   window-or-not f g =
-      by-kind P (λ k. g _ (λ A p q. refl)) f (λ i. g _ (λ A p q. refl)) (λ d. g _ (λ A p q. refl)) (λ r. g _ (λ A p q. refl)) (λ v. g _ (λ A p q. refl))
-      (g _ (λ A p q. refl))
+      by-kind P (λ k. g _ (λ A p q. refl)) (λ t. g _ (λ A p q. refl)) f (λ i. g _ (λ A p q. refl))
+      (λ d. g _ (λ A p q. refl)) (λ r. g _ (λ A p q. refl)) (λ v. g _ (λ A p q. refl)) (g _ (λ A p q. refl))
 
   pub instruction-or-not : ((i : Instruction) → P (instructionᶜ i)) → ((c : Command) → Not (λ A. onInstruction) c → P c) → (c : Command) → P c
   instruction-or-not f g =
-      by-kind P (λ k. g _ (λ A p q. refl)) (λ w. g _ (λ A p q. refl)) f (λ d. g _ (λ A p q. refl)) (λ r. g _ (λ A p q. refl)) (λ v. g _ (λ A p q. refl))
-      (g _ (λ A p q. refl))
+      by-kind P (λ k. g _ (λ A p q. refl)) (λ t. g _ (λ A p q. refl)) (λ w. g _ (λ A p q. refl)) f
+      (λ d. g _ (λ A p q. refl)) (λ r. g _ (λ A p q. refl)) (λ v. g _ (λ A p q. refl)) (g _ (λ A p q. refl))
 
   pub default-or-not : ((d : Default) → P (defaultᶜ d)) → ((c : Command) → Not (λ A. onDefault) c → P c) → (c : Command) → P c
   default-or-not f g =
-      by-kind P (λ k. g _ (λ A p q. refl)) (λ w. g _ (λ A p q. refl)) (λ i. g _ (λ A p q. refl)) f (λ r. g _ (λ A p q. refl)) (λ v. g _ (λ A p q. refl))
-      (g _ (λ A p q. refl))
+      by-kind P (λ k. g _ (λ A p q. refl)) (λ t. g _ (λ A p q. refl)) (λ w. g _ (λ A p q. refl)) (λ i. g _ (λ A p q. refl))
+      f (λ r. g _ (λ A p q. refl)) (λ v. g _ (λ A p q. refl)) (g _ (λ A p q. refl))
 
   pub close-or-not : P closeᶜ → ((c : Command) → Not {X = Unit} (λ A f. onClose (f tt)) c → P c) → (c : Command) → P c
   close-or-not f g =
-      by-kind P (λ k. g _ (λ A p q. refl)) (λ w. g _ (λ A p q. refl)) (λ i. g _ (λ A p q. refl)) (λ d. g _ (λ A p q. refl)) (λ r. g _ (λ A p q. refl))
-      (λ v. g _ (λ A p q. refl)) f
+      by-kind P (λ k. g _ (λ A p q. refl)) (λ t. g _ (λ A p q. refl)) (λ w. g _ (λ A p q. refl)) (λ i. g _ (λ A p q. refl))
+      (λ d. g _ (λ A p q. refl)) (λ r. g _ (λ A p q. refl)) (λ v. g _ (λ A p q. refl)) f
 
   -- a reading of either kind, or neither
   pub metered-or-not : ((r : Reading) → P (readingᶜ r)) → ((v : Revision) → P (revisionᶜ v))
       → ((c : Command) → Not (λ A. onReading) c → Not (λ A. onRevision) c → P c) → (c : Command) → P c
   metered-or-not f h g =
-      by-kind P (λ k. g _ (λ A p q. refl) (λ A p q. refl)) (λ w. g _ (λ A p q. refl) (λ A p q. refl)) (λ i. g _ (λ A p q. refl) (λ A p q. refl))
-      (λ d. g _ (λ A p q. refl) (λ A p q. refl)) f h (g _ (λ A p q. refl) (λ A p q. refl))
+      by-kind P (λ k. g _ (λ A p q. refl) (λ A p q. refl)) (λ t. g _ (λ A p q. refl) (λ A p q. refl)) (λ w. g _ (λ A p q. refl) (λ A p q. refl))
+      (λ i. g _ (λ A p q. refl) (λ A p q. refl)) (λ d. g _ (λ A p q. refl) (λ A p q. refl)) f h (g _ (λ A p q. refl) (λ A p q. refl))
 
 -- ---- a reading by its revision
 

@@ -1,7 +1,7 @@
 -- Laws of the refusals from the input: how they come out as one number, and the offer for it.
 use mathlib.Core.Path.{_≡_, refl, sym, ap, _∙_}
 use mathlib.Core.Logic.{_≢_}
-use mathlib.Core.Bool.{Bool, true, false, not, _&&_, cond, and-false}
+use mathlib.Core.Bool.{Bool, true, false, not, _&&_, _||_, cond, and-false}
 use mathlib.Core.List.{List, [], _∷_, _++_}
 use mathlib.Core.Option.{Option, none, some}
 use Prim.Native.Nat.{ℕ, zero, suc, _≤_, _<_}
@@ -9,7 +9,7 @@ use native.Mathlib.Omega.{arith}
 use lib.Dec.{T, eqb, leb, ltb}
 use borrow.Author.Tests.{ne-eqb, le-leb, lt-leb}
 use Rattle.energy.proofs.Tests.{T-and}
-use Rattle.commands.specs.Input.{from-to, inRange, rampTooLong, badWindow, Condition, inputConditions, firstMet, inputRefusal, orZero}
+use Rattle.commands.specs.Input.{from-to, inRange, rampTooLong, badWindow, noSuchDate, Condition, inputConditions, firstMet, inputRefusal, orZero}
 use Rattle.commands.specs.Input.{offerFor, offerOf}
 use Rattle.commands.specs.declared.contract.Contract.{Contract}
 use Rattle.commands.specs.declared.contract.Offer.the-variants.{Agreed, Refused}
@@ -78,12 +78,13 @@ pub input-number : (c : Command) → firstMet (inputConditions c) ≡ numbered (
 unfolding inputRefusal
 input-number c = first-numbered (inputConditions c) tt ∙ ap numbered (sym (first-number (inputConditions c) tt))
 
-pub input-cond : (c : Command) → inputRefusal c ≡ cond (not (inRange c)) 3 (cond (rampTooLong c) 4 (cond (badWindow c) 5 0))
+pub input-cond : (c : Command) → inputRefusal c ≡ cond (not (inRange c)) 3 (cond (rampTooLong c) 4 (cond (badWindow c) 5 (cond (noSuchDate c) 28 0)))
 unfolding inputRefusal numbers
 input-cond c = first-number (inputConditions c) tt
 
 -- the number from the test of the range, and that of the conditions after it
-pub input-picked : (c : Command) {b : Bool} {r n : ℕ} → r ≡ cond (not b) 3 n → b ≡ inRange c → n ≡ cond (rampTooLong c) 4 (cond (badWindow c) 5 0)
+pub input-picked : (c : Command) {b : Bool} {r n : ℕ} → r ≡ cond (not b) 3 n → b ≡ inRange c
+    → n ≡ cond (rampTooLong c) 4 (cond (badWindow c) 5 (cond (noSuchDate c) 28 0))
     → r ≡ inputRefusal c
 input-picked c e f g = e ∙ (λ i. cond (not (f i)) 3 (g i)) ∙ sym (input-cond c)
 
@@ -91,18 +92,20 @@ input-picked c e f g = e ∙ (λ i. cond (not (f i)) 3 (g i)) ∙ sym (input-con
 pub input-out : (c : Command) → inRange c ≡ false → 3 ≡ inputRefusal c
 input-out c e = rw (input-cond c, e)
 
-pub input-in : (c : Command) → inRange c ≡ true → cond (rampTooLong c) 4 (cond (badWindow c) 5 0) ≡ inputRefusal c
+pub input-in : (c : Command) → inRange c ≡ true → cond (rampTooLong c) 4 (cond (badWindow c) 5 (cond (noSuchDate c) 28 0)) ≡ inputRefusal c
 input-in c e = rw (input-cond c, e)
 
 -- no number from the input: no condition of it holds
-pub input-none : (c : Command) → eqb (inputRefusal c) 0 ≡ (inRange c && (not (rampTooLong c) && not (badWindow c)))
-input-none c = ap (λ n. eqb n 0) (input-cond c) ∙ go (inRange c) (rampTooLong c) (badWindow c)
+pub input-none : (c : Command) → eqb (inputRefusal c) 0 ≡ (inRange c && (not (rampTooLong c) && not (noSuchDate c || badWindow c)))
+input-none c = ap (λ n. eqb n 0) (input-cond c) ∙ go (inRange c) (rampTooLong c) (badWindow c) (noSuchDate c)
   where
-    go : (p q r : Bool) → eqb (cond (not p) 3 (cond q 4 (cond r 5 0))) 0 ≡ (p && (not q && not r))
-    go true true r = refl
-    go true false true = refl
-    go true false false = refl
-    go false q r = refl
+    go : (p q r s : Bool) → eqb (cond (not p) 3 (cond q 4 (cond r 5 (cond s 28 0)))) 0 ≡ (p && (not q && not (s || r)))
+    go true true r s = refl
+    go true false true true = refl
+    go true false true false = refl
+    go true false false true = refl
+    go true false false false = refl
+    go false q r s = refl
 
 -- ---- an operand against its range
 

@@ -1,5 +1,6 @@
 -- Definitions that go by the command: one says what holds for a kind of command and leaves the other kinds to the next.
 use Prim.Native.Nat.{ℕ, zero, suc}
+use Rattle.calendar.specs.declared.Date.{Date}
 use Rattle.commands.specs.declared.contract.Contract.{Contract}
 use Rattle.commands.specs.declared.entries.Window.{Window}
 use Rattle.commands.specs.declared.entries.Instruction.{Instruction}
@@ -7,14 +8,15 @@ use Rattle.commands.specs.declared.entries.Default.{Default}
 use Rattle.commands.specs.declared.entries.Reading.{Reading}
 use Rattle.commands.specs.declared.entries.Revision.{Revision}
 use Rattle.commands.specs.declared.entries.Command.{Command}
-use Rattle.commands.specs.declared.entries.Command.the-variants.{Contract as contractᶜ, Window as windowᶜ, Instruction as instructionᶜ}
-use Rattle.commands.specs.declared.entries.Command.the-variants.{Default as defaultᶜ, Reading as readingᶜ, Revision as revisionᶜ}
-use Rattle.commands.specs.declared.entries.Command.the-variants.{Close as closeᶜ}
+use Rattle.commands.specs.declared.entries.Command.the-variants.{Contract as contractᶜ, Date as dateᶜ, Window as windowᶜ}
+use Rattle.commands.specs.declared.entries.Command.the-variants.{Instruction as instructionᶜ, Default as defaultᶜ, Reading as readingᶜ}
+use Rattle.commands.specs.declared.entries.Command.the-variants.{Revision as revisionᶜ, Close as closeᶜ}
 
 module _ {A : Type 0} where
   -- f of a contract; any other command is g's
   abbrev pub onContract : (Contract → A) → (Command → A) → Command → A
   onContract f g (contractᶜ k) = f k
+  onContract f g (dateᶜ d) = g (dateᶜ d)
   onContract f g (windowᶜ w) = g (windowᶜ w)
   onContract f g (instructionᶜ i) = g (instructionᶜ i)
   onContract f g (defaultᶜ d) = g (defaultᶜ d)
@@ -22,9 +24,21 @@ module _ {A : Type 0} where
   onContract f g (revisionᶜ v) = g (revisionᶜ v)
   onContract f g closeᶜ = g closeᶜ
 
+  -- f of a date; any other command is g's
+  abbrev pub onDate : (Date → A) → (Command → A) → Command → A
+  onDate f g (contractᶜ k) = g (contractᶜ k)
+  onDate f g (dateᶜ d) = f d
+  onDate f g (windowᶜ w) = g (windowᶜ w)
+  onDate f g (instructionᶜ i) = g (instructionᶜ i)
+  onDate f g (defaultᶜ d) = g (defaultᶜ d)
+  onDate f g (readingᶜ r) = g (readingᶜ r)
+  onDate f g (revisionᶜ v) = g (revisionᶜ v)
+  onDate f g closeᶜ = g closeᶜ
+
   -- f of a window; any other command is g's
   abbrev pub onWindow : (Window → A) → (Command → A) → Command → A
   onWindow f g (contractᶜ k) = g (contractᶜ k)
+  onWindow f g (dateᶜ d) = g (dateᶜ d)
   onWindow f g (windowᶜ w) = f w
   onWindow f g (instructionᶜ i) = g (instructionᶜ i)
   onWindow f g (defaultᶜ d) = g (defaultᶜ d)
@@ -35,6 +49,7 @@ module _ {A : Type 0} where
   -- f of an instruction; any other command is g's
   abbrev pub onInstruction : (Instruction → A) → (Command → A) → Command → A
   onInstruction f g (contractᶜ k) = g (contractᶜ k)
+  onInstruction f g (dateᶜ d) = g (dateᶜ d)
   onInstruction f g (windowᶜ w) = g (windowᶜ w)
   onInstruction f g (instructionᶜ i) = f i
   onInstruction f g (defaultᶜ d) = g (defaultᶜ d)
@@ -45,6 +60,7 @@ module _ {A : Type 0} where
   -- f of a default; any other command is g's
   abbrev pub onDefault : (Default → A) → (Command → A) → Command → A
   onDefault f g (contractᶜ k) = g (contractᶜ k)
+  onDefault f g (dateᶜ d) = g (dateᶜ d)
   onDefault f g (windowᶜ w) = g (windowᶜ w)
   onDefault f g (instructionᶜ i) = g (instructionᶜ i)
   onDefault f g (defaultᶜ d) = f d
@@ -55,6 +71,7 @@ module _ {A : Type 0} where
   -- f of a reading; any other command is g's
   abbrev pub onReading : (Reading → A) → (Command → A) → Command → A
   onReading f g (contractᶜ k) = g (contractᶜ k)
+  onReading f g (dateᶜ d) = g (dateᶜ d)
   onReading f g (windowᶜ w) = g (windowᶜ w)
   onReading f g (instructionᶜ i) = g (instructionᶜ i)
   onReading f g (defaultᶜ d) = g (defaultᶜ d)
@@ -65,6 +82,7 @@ module _ {A : Type 0} where
   -- f of a revision; any other command is g's
   abbrev pub onRevision : (Revision → A) → (Command → A) → Command → A
   onRevision f g (contractᶜ k) = g (contractᶜ k)
+  onRevision f g (dateᶜ d) = g (dateᶜ d)
   onRevision f g (windowᶜ w) = g (windowᶜ w)
   onRevision f g (instructionᶜ i) = g (instructionᶜ i)
   onRevision f g (defaultᶜ d) = g (defaultᶜ d)
@@ -75,6 +93,7 @@ module _ {A : Type 0} where
   -- a of a close; any other command is g's
   abbrev pub onClose : A → (Command → A) → Command → A
   onClose a g (contractᶜ k) = g (contractᶜ k)
+  onClose a g (dateᶜ d) = g (dateᶜ d)
   onClose a g (windowᶜ w) = g (windowᶜ w)
   onClose a g (instructionᶜ i) = g (instructionᶜ i)
   onClose a g (defaultᶜ d) = g (defaultᶜ d)

@@ -7,7 +7,9 @@ use lib.IntN.{ℤ, pos, negsuc, natAbs}
 use lib.Signed.{leZ}
 use lib.Dec.{eqb, leb, ltb}
 use Rattle.energy.specs.Number.{ceiling}
-use Rattle.commands.specs.Command.{onContract, onWindow, onInstruction, onDefault, onReading, onRevision, always}
+use Rattle.calendar.specs.Calendar.{isDate}
+pub use Rattle.calendar.specs.Calendar.{from-to}
+use Rattle.commands.specs.Command.{onContract, onDate, onWindow, onInstruction, onDefault, onReading, onRevision, always}
 use Rattle.commands.specs.declared.contract.Contract.{Contract}
 use Rattle.commands.specs.declared.contract.Offer.{Offer}
 use Rattle.commands.specs.declared.contract.Offer.the-variants.{Agreed, Refused}
@@ -31,11 +33,7 @@ downMinutes k = ceiling (kwOf k) (k .rampdown)
 
 -- ---- the conditions
 
--- n is from a to b
-abbrev pub from-to : ℕ → ℕ → ℕ → Bool
-from-to a b n = leb a n && leb n b
-
--- the same of a signed number
+-- a signed number is from a to b; of a natural one, `from-to` says it
 abbrev pub from-toℤ : ℤ → ℤ → ℤ → Bool
 from-toℤ a b n = leZ a n && leZ n b
 
@@ -43,15 +41,15 @@ from-toℤ a b n = leZ a n && leZ n b
 abbrev pub isReading : ℤ → Bool
 isReading z = from-toℤ (negsuc 499999) (pos 500000) z
 
--- the greatest minute that an operand gives: the end of a month of 31 days
+-- the greatest minute that an operand gives: the end of a month of 31 days that gains an hour
 abbrev pub mostMinute : ℕ
-mostMinute = 44640
+mostMinute = 44700
 
 -- minute and kW of a reading are in their ranges
 abbrev pub meterable : Reading → Bool
 meterable r = from-to 0 mostMinute (r .minute .0) && isReading (r .kw .0)
 
--- 3: every operand is in its range or one of its values
+-- 3: every operand is in its range or one of its values. A date's are not looked at
 abbrev pub inRange : Command → Bool
 inRange c =
     onContract
@@ -80,6 +78,10 @@ abbrev pub badWindow : Command → Bool
 badWindow c =
     onWindow (λ w. leb (w .end .0) (w .start .0) || not (eqb (w .start .0 % 30) 0) || not (eqb (w .end .0 % 30) 0)) (always false) c
 
+-- 28: a date's field outside its range, or a day that its month lacks
+abbrev pub noSuchDate : Command → Bool
+noSuchDate c = onDate (λ d. not (isDate d)) (always false) c
+
 -- ---- the first number that applies
 
 -- a refusal's number, and whether its condition holds
@@ -98,6 +100,7 @@ inputConditions c =
     (3 when not (inRange c))
     ∷ (4 when rampTooLong c)
     ∷ (5 when badWindow c)
+    ∷ (28 when noSuchDate c)
     ∷ []
 
 -- the number of the first condition that holds
@@ -110,7 +113,7 @@ abbrev pub orZero : Option ℕ → ℕ
 orZero none = 0
 orZero (some n) = n
 
--- the first of 3, 4 and 5 whose condition holds, 0 for none
+-- the first of 3, 4, 5 and 28 whose condition holds, 0 for none
 unfoldable pub inputRefusal : Command → ℕ
 inputRefusal c = orZero (firstMet (inputConditions c))
 

@@ -80,12 +80,12 @@ impl Contract {
 
     pub const RATE_MOST: u32 = limits::RATE_MOST;
 
-    // window start and end, cease, and default and reading minutes
+    // window start and end, cease, and default and reading minutes: up to the end of a month of 31 days that gains an hour
     pub const MINUTE_LEAST: Minutes = Minutes(0);
 
     pub const ISSUE_LEAST: Minutes = Minutes(3);
 
-    pub const MINUTE_MOST: Minutes = Minutes(44640);
+    pub const MINUTE_MOST: Minutes = Minutes(44700);
 
     // verdicts on a window
     pub const ACCEPTED: u8 = 0;

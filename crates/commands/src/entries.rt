@@ -3,13 +3,14 @@
 ghost use mathlib.Core.Path.{_≡_};
 ghost use Prim.Native.Nat.{_+_, _<_, _^_};
 ghost use Rattle.commands.specs.Input.{from-to, inputRefusal, meterable};
-ghost use Rattle.commands.specs.declared.entries.Command.the-variants.{Window as windowᶜ, Instruction as instructionᶜ, Default as defaultᶜ};
-ghost use Rattle.commands.specs.declared.entries.Command.the-variants.{Reading as readingᶜ, Revision as revisionᶜ};
+ghost use Rattle.commands.specs.declared.entries.Command.the-variants.{Date as dateᶜ, Window as windowᶜ, Instruction as instructionᶜ};
+ghost use Rattle.commands.specs.declared.entries.Command.the-variants.{Default as defaultᶜ, Reading as readingᶜ, Revision as revisionᶜ};
 use crate::checks::byte_from_to;
 use crate::checks::kw_from_to;
 use crate::checks::minutes_from_to;
 use crate::checks::pick;
 use crate::contract::Contract;
+use calendar::Date;
 use energy::units::Kw;
 use energy::units::Minutes;
 
@@ -49,6 +50,7 @@ pub struct Revision {
 
 pub enum Command {
     Contract(Contract),
+    Date(Date),
     Window(Window),
     Instruction(Instruction),
     Default(Default),
@@ -57,8 +59,15 @@ pub enum Command {
     Close,
 }
 
+// The first refusal that a date's own operands meet, 0 for none; so for each entry below.
+pub fn date_input_refusal(d: Date) -> u8
+    ensures { λ r. ⌜ r ≡ inputRefusal (dateᶜ d) ⌝ }
+{
+    let stands = d.exists();
+    pick(!stands, 28, 0)
+}
+
 impl Window {
-    // The first refusal that its own operands meet, 0 for none; so for each entry below.
     pub fn input_refusal(self) -> u8
         ensures { λ r. ⌜ r ≡ inputRefusal (windowᶜ self) ⌝ }
     {

@@ -6,3 +6,4 @@ pub mod Appendix2
 pub mod Files
 pub mod RoundTrip
 pub mod Pieces
+pub mod Dated

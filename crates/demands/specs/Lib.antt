@@ -4,3 +4,4 @@ pub mod Appendix2
 pub mod RoundTrip
 pub mod Files
 pub mod Pieces
+pub mod Dated

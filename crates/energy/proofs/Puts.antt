@@ -5,8 +5,8 @@ use Prim.Native.Nat.{ℕ, suc, _+_, _≤_, _<_}
 use native.Mathlib.Nat.{add-zero, add-assoc}
 use native.Mathlib.Numerals.{add-one}
 use native.Mathlib.Omega.{arith}
-use lib.ListN.{length, take, drop, set, length-append, length-drop, take-append-drop}
-use lib.Seq.{length-take-le, take-at, drop-at, drop-drop, take-suc-set, drop-set-lt}
+use lib.ListN.{length, getD, take, drop, set, length-append, length-drop, take-append-drop, List·getD-append}
+use lib.Seq.{getD-take, getD-append-add, length-take-le, take-at, drop-at, drop-drop, take-suc-set, drop-set-lt}
 use Rattle.energy.specs.Lists.{putAt, Laid}
 
 module _ {A : Type 0} where
@@ -19,6 +19,23 @@ module _ {A : Type 0} where
   length-put xs m at h =
       let before = length-take-le at m (omega arith) in
       simp (length-append, length-drop) (omega arith)
+
+  -- what stands before them, and what they put
+  pub put-before : (xs m : List A) (at i : ℕ) (d : A) → at ≤ length m → i < at → getD (putAt xs m at) i d ≡ getD m i d
+  unfolding putAt
+  put-before xs m at i d h l =
+      let front = length-take-le at m h in
+      List·getD-append (take at m ++ xs) (drop (at + length xs) m) d i (simp length-append (omega arith))
+      ∙ List·getD-append (take at m) xs d i (omega arith)
+      ∙ getD-take at m i d l
+
+  pub put-inside : (xs m : List A) (at i : ℕ) (d : A) → at ≤ length m → i < length xs → getD (putAt xs m at) (at + i) d ≡ getD xs i d
+  unfolding putAt
+  put-inside xs m at i d h l =
+      let front : length (take at m) ≡ at = length-take-le at m h in
+      List·getD-append (take at m ++ xs) (drop (at + length xs) m) d (at + i) (simp length-append (omega arith))
+      ∙ ap (λ n. getD (take at m ++ xs) (n + i) d) (sym front)
+      ∙ getD-append-add (take at m) xs i d
 
   -- a part of the memory that is replaced, as a lent part comes back
   pub put-part : (xs m : List A) (at size : ℕ) → length xs ≡ size → take at m ++ (xs ++ drop size (drop at m)) ≡ putAt xs m at

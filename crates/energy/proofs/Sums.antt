@@ -1,7 +1,7 @@
 -- Sums and tests over the minutes a to b - 1: a minute more, two parts, the same minute by minute, bounds; and what a segment delivers, by the sum of its
 -- readings and its length.
 use mathlib.Core.Path.{_≡_, refl, sym, ap, ap₂, _∙_}
-use mathlib.Core.Bool.{Bool, true, false, cond, _&&_, and-true}
+use mathlib.Core.Bool.{Bool, true, false, cond, not, _&&_, _||_, and-true}
 use mathlib.Core.List.{List, [], _∷_, _++_}
 use Prim.Native.Nat.{ℕ, zero, suc, _+_, _-_, _*_, _≤_, _<_}
 use native.Mathlib.Nat.{le-refl, mul-suc}
@@ -9,10 +9,11 @@ use native.Mathlib.Omega.{arith}
 use lib.Dec.{eqb}
 use lib.IntN.{ℤ, pos, _+ℤ_, _-ℤ_, _*ℤ_, zero-*ℤ, *ℤ-zero, +ℤ-assoc, +ℤ-idl, +ℤ-idr}
 use lib.ListN.{length}
-use Rattle.energy.specs.Lists.{sum, all, run, between}
+use Rattle.energy.specs.Lists.{sum, all, any, run, between}
 use Rattle.energy.specs.Energy.{delivers}
 use Rattle.energy.specs.Number.{Within}
-use Rattle.energy.proofs.Tests.{on-and, either-eq}
+use borrow.Author.Tests.{not-true}
+use Rattle.energy.proofs.Tests.{on-and, off-not, of-T, either-eq, any-snoc as any-after}
 pub use Rattle.energy.proofs.Tests.{all-append}
 use Rattle.energy.proofs.Integers.{distrib, add-parts, diff-parts, mul-parts, arithℤ}
 
@@ -100,6 +101,32 @@ all-go f a (suc n) e m h l =
 pub all-in : (f : ℕ → Bool) (a b : ℕ) → all f (between a b) ≡ true → (m : ℕ) → a ≤ m → m < b → f m ≡ true
 unfolding between
 all-in f a b e m h l = all-go f a (b - a) e m h (omega arith)
+
+-- some minute passes a test: a minute more; none where none does, and then each does not
+pub any-snoc : (f : ℕ → Bool) (a b : ℕ) → a ≤ b → any f (between a (b + 1)) ≡ (any f (between a b) || f b)
+any-snoc f a b h = ap (any f) (between-snoc a b h) ∙ any-after f (between a b) b
+
+pub any-none : (f : ℕ → Bool) (a b : ℕ) → ((m : ℕ) → a ≤ m → m < b → f m ≡ false) → any f (between a b) ≡ false
+unfolding any
+any-none f a b e = between-ind (λ l. any f l ≡ false) a b refl (λ m l i k r. ap₂ _||_ (e m i k) r)
+
+pub any-ext : (f h : ℕ → Bool) (a b : ℕ) → ((m : ℕ) → a ≤ m → m < b → f m ≡ h m) → any f (between a b) ≡ any h (between a b)
+unfolding any
+any-ext f h a b e = between-ind (λ l. any f l ≡ any h l) a b refl (λ m l i k r. ap₂ _||_ (e m i k) r)
+
+any-as-all : (f : ℕ → Bool) (l : List ℕ) → any f l ≡ not (all (λ m. not (f m)) l)
+unfolding any all
+any-as-all f [] = refl
+any-as-all f (m ∷ l) = ap (λ b. f m || b) (any-as-all f l) ∙ go (f m) (all (λ m. not (f m)) l)
+  where
+    go : (a b : Bool) → (a || not b) ≡ not (not a && b)
+    go true b = refl
+    go false b = refl
+
+pub any-off : (f : ℕ → Bool) (a b : ℕ) → any f (between a b) ≡ false → (m : ℕ) → a ≤ m → m < b → f m ≡ false
+any-off f a b e m h l =
+    let passed = of-T (all (λ m. not (f m)) (between a b)) (off-not (all (λ m. not (f m)) (between a b)) (sym (any-as-all f (between a b)) ∙ e)) in
+    not-true (f m) (all-in (λ m. not (f m)) a b passed m h l)
 
 module _ (f : ℕ → ℤ) where
   -- at most b in each minute

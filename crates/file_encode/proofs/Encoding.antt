@@ -11,7 +11,7 @@ use Rattle.energy.specs.Lists.{Laid}
 use Rattle.energy.proofs.Puts.{put-part, laid-long, laid-both}
 use Rattle.rules.specs.File.{table, widthsOf, total, bytesOf, byteOf, operandsOf, writeOperands, write}
 use Rattle.commands.specs.declared.entries.Command.{Command}
-use Rattle.commands.specs.declared.entries.Command.the-variants.{Contract as contractᶜ, Window as windowᶜ, Instruction as instructionᶜ}
+use Rattle.commands.specs.declared.entries.Command.the-variants.{Contract as contractᶜ, Date as dateᶜ, Window as windowᶜ, Instruction as instructionᶜ}
 use Rattle.commands.specs.declared.entries.Command.the-variants.{Default as defaultᶜ, Reading as readingᶜ, Revision as revisionᶜ}
 use Rattle.commands.specs.declared.entries.Command.the-variants.{Close as closeᶜ}
 use Rattle.file_table.specs.Table.{padded, tableRow, rowIn, rowFor}
@@ -69,6 +69,7 @@ pub record Encoded (c : Command) : Type 0 where
 pub encoded : (c : Command) → Encoded c
 unfolding table widthsOf total bytesOf writeOperands write padded tableRow rowIn rowFor
 encoded (contractᶜ k) = record { bytes = refl; long = refl; parts = refl }
+encoded (dateᶜ d) = record { bytes = refl; long = refl; parts = refl }
 encoded (windowᶜ w) = record { bytes = refl; long = refl; parts = refl }
 encoded (instructionᶜ i) = record { bytes = refl; long = refl; parts = refl }
 encoded (defaultᶜ d) = record { bytes = refl; long = refl; parts = refl }

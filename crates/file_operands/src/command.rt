@@ -1,4 +1,5 @@
 // Commands from their operands.
+use calendar::Date;
 use commands::contract::Contract;
 use commands::entries::Command;
 use commands::entries::Default;
@@ -10,6 +11,7 @@ use energy::units::Kw;
 use energy::units::Minutes;
 use file_table::table::CLOSE_BYTE;
 use file_table::table::CONTRACT_BYTE;
+use file_table::table::DATE_BYTE;
 use file_table::table::DEFAULT_BYTE;
 use file_table::table::INSTRUCTION_BYTE;
 use file_table::table::READING_BYTE;
@@ -19,7 +21,7 @@ use rules::file::Read;
 ghost use mathlib.Core.Path.{_≡_};
 ghost use mathlib.Core.List.{[], _∷_};
 ghost use Prim.Native.Nat.{_<_, _^_};
-ghost use Rattle.rules.specs.File.{signedOf, contractFrom, windowFrom, instructionFrom, defaultFrom, readingFrom, revisionFrom, commandOf, readAs};
+ghost use Rattle.rules.specs.File.{signedOf, contractFrom, dateFrom, windowFrom, instructionFrom, defaultFrom, readingFrom, revisionFrom, commandOf, readAs};
 ghost use Rattle.file_table.specs.Operands.{Sized};
 
 // The signed number of four bytes, two's complement.
@@ -55,6 +57,17 @@ fn contract_of(v: [u64; 11]) -> Contract
         availability: v[8] as u32,
         utilisation: v[9] as u32,
         optional: v[10] as u32,
+    }
+}
+
+fn date_of(v: [u64; 11]) -> Date
+    requires { ⌜ Sized 0x54 v ⌝ }
+    ensures { λ r. ⌜ r ≡ dateFrom v ⌝ }
+{
+    Date {
+        year: v[0] as u16,
+        month: v[1] as u8,
+        day: v[2] as u8,
     }
 }
 
@@ -133,6 +146,7 @@ pub fn command_of(byte: u8, v: [u64; 11], next: usize) -> Read
 {
     match byte {
         CONTRACT_BYTE => Read::Got(Command::Contract(contract_of(v)), next),
+        DATE_BYTE => Read::Got(Command::Date(date_of(v)), next),
         WINDOW_BYTE => Read::Got(Command::Window(window_of(v)), next),
         INSTRUCTION_BYTE => Read::Got(Command::Instruction(instruction_of(v)), next),
         DEFAULT_BYTE => Read::Got(Command::Default(default_of(v)), next),

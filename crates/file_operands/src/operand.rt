@@ -4,6 +4,7 @@ use commands::entries::Command;
 use energy::magnitude::magnitude;
 use file_table::table::CLOSE_BYTE;
 use file_table::table::CONTRACT_BYTE;
+use file_table::table::DATE_BYTE;
 use file_table::table::DEFAULT_BYTE;
 use file_table::table::INSTRUCTION_BYTE;
 use file_table::table::READING_BYTE;
@@ -21,6 +22,7 @@ pub fn byte_of(command: Command) -> u8
 {
     match command {
         Command::Contract(_) => CONTRACT_BYTE,
+        Command::Date(_) => DATE_BYTE,
         Command::Window(_) => WINDOW_BYTE,
         Command::Instruction(_) => INSTRUCTION_BYTE,
         Command::Default(_) => DEFAULT_BYTE,
@@ -76,6 +78,7 @@ pub fn operands_of(command: Command) -> [u64; 11]
 {
     match command {
         Command::Contract(k) => contract_operands(k),
+        Command::Date(d) => places(d.year as u64, d.month as u64, d.day as u64),
         Command::Window(w) => {
             let start = w.start;
             let end = w.end;

@@ -45,8 +45,8 @@ refused-near s at e = refused-left (found-at e)
 pub byte-back : (b : ℕ) (v : List ℕ) (c : Command) → commandOf b v ≡ some c → byteOf c ≡ b
 unfolding commandOf
 byte-back b v c =
-    try 0x43 _ _ refl (try 0x57 _ _ refl (try 0x49 _ _ refl (try 0x44 _ _ refl
-    (try 0x4D _ _ refl (try 0x52 _ _ refl (try 0x5A closeᶜ none refl (λ e. absurd (Option·none-ne-some c e))))))))
+    try 0x43 _ _ refl (try 0x54 _ _ refl (try 0x57 _ _ refl (try 0x49 _ _ refl (try 0x44 _ _ refl
+    (try 0x4D _ _ refl (try 0x52 _ _ refl (try 0x5A closeᶜ none refl (λ e. absurd (Option·none-ne-some c e)))))))))
   where
     try : (n : ℕ) (x : Command) (rest : Option Command) → byteOf x ≡ n → (rest ≡ some c → byteOf c ≡ b) → cond (eqb n b) (some x) rest ≡ some c → byteOf c ≡ b
     try n x rest h next = go (eqb n b) refl

@@ -20,7 +20,7 @@ use Rattle.file_table.proofs.Operands.{getD-padded}
 -- ---- a search for a command byte that has come to a place
 module _ (b k : ℕ) (searched : widthsOf b table ≡ widthsOf b (drop k table)) where
   -- the byte stands there
-  pub row-here : k < 7 → layoutAt k .byte ≡ b → tableRow (layoutAt k) ≡ rowFor b
+  pub row-here : k < 8 → layoutAt k .byte ≡ b → tableRow (layoutAt k) ≡ rowFor b
   unfolding widthsOf layoutAt table tableRow rowIn rowFor
   row-here h e =
       let there : widthsOf b table ≡ some (layoutAt k .widths) =
@@ -28,12 +28,12 @@ module _ (b k : ℕ) (searched : widthsOf b table ≡ widthsOf b (drop k table))
       rw (there, e)
 
   -- or it is looked for in the rows after it
-  pub row-later : k < 7 → (layoutAt k .byte ≡ b → ⊥) → widthsOf b table ≡ widthsOf b (drop (k + 1) table)
+  pub row-later : k < 8 → (layoutAt k .byte ≡ b → ⊥) → widthsOf b table ≡ widthsOf b (drop (k + 1) table)
   unfolding widthsOf layoutAt table
   row-later h e = searched ∙ rw (add-one k, drop-cons table k (record { byte = 0; widths = [] }) h, ne-eqb (layoutAt k .byte) b)
 
   -- and past the last row it is not there
-  pub row-missing : 7 ≤ k → rowIn b none ≡ rowFor b
+  pub row-missing : 8 ≤ k → rowIn b none ≡ rowFor b
   unfolding widthsOf table rowFor
   row-missing h = ap (rowIn b) (sym (searched ∙ rw (drop-of-length-le table {i = k} h)))
 

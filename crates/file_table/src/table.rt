@@ -5,6 +5,8 @@ ghost use Rattle.file_table.specs.Table.{tableRow, layoutAt, rowFor};
 
 pub const CONTRACT_BYTE: u8 = 0x43;
 
+pub const DATE_BYTE: u8 = 0x54;
+
 pub const WINDOW_BYTE: u8 = 0x57;
 
 pub const INSTRUCTION_BYTE: u8 = 0x49;
@@ -29,6 +31,9 @@ pub const READING_LENGTH: u8 = 7;
 
 pub const REVISION_LENGTH: u8 = 8;
 
+// The year is the one number of a date that needs more than a byte.
+const YEAR_WIDTH: u8 = 2;
+
 // A command in the table.
 pub struct Row {
     pub byte: u8,
@@ -39,12 +44,18 @@ pub struct Row {
     pub widths: [u8; 11],
 }
 
-const TABLE: [Row; 7] = [
+const TABLE: [Row; 8] = [
     Row {
         byte: CONTRACT_BYTE,
         length: 32,
         count: 11,
         widths: [1, 1, 1, 4, 4, 4, 2, 2, 4, 4, 4],
+    },
+    Row {
+        byte: DATE_BYTE,
+        length: 5,
+        count: 3,
+        widths: [YEAR_WIDTH, 1, 1, 0, 0, 0, 0, 0, 0, 0, 0],
     },
     Row {
         byte: WINDOW_BYTE,
@@ -93,7 +104,7 @@ const MISSING: Row = Row {
 };
 
 fn row_at(place: usize) -> Row
-    requires { ⌜ place < 7 ⌝ }
+    requires { ⌜ place < 8 ⌝ }
     ensures { λ r. ⌜ r ≡ tableRow (layoutAt place) ⌝ }
 {
     TABLE[place]
@@ -104,7 +115,7 @@ pub fn row_of(byte: u8) -> Row
     ensures { λ r. ⌜ r ≡ rowFor byte ⌝ }
 {
     let mut place: usize = 0;
-    while place < 7 {
+    while place < 8 {
         let row = row_at(place);
         if row.byte == byte {
             return row;

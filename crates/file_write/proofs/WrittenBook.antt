@@ -1,6 +1,6 @@
 -- Laws of a whole book's file: what is known of a book that commands leave, and that the rules write it as its parts.
 use mathlib.Core.Path.{_≡_, refl, sym, ap, ap₂, _∙_}
-use mathlib.Core.Bool.{Bool, true, false, cond}
+use mathlib.Core.Bool.{Bool, true, false, cond, not}
 use mathlib.Core.List.{List, [], _∷_, _++_, map}
 use mathlib.Core.Option.{none}
 use Prim.Native.Nat.{ℕ, zero, suc, _+_, _-_, _≤_, _<_}
@@ -9,11 +9,14 @@ use native.Mathlib.Omega.{arith}
 use borrow.Author.Tests.{lt-ltb, le-ltb}
 use lib.ListN.{length, length-map}
 use Rattle.energy.specs.Lists.{concatMap, run, between, putAt}
+use Rattle.calendar.specs.Calendar.{isNoDate}
+use Rattle.calendar.specs.declared.Date.{Date}
 use Rattle.commands.specs.Input.{firstMet, mostMinute}
 use Rattle.rules.specs.File.{readingAt, written, fileOf}
 use Rattle.commands.specs.declared.contract.Contract.{Contract}
 use Rattle.rules.specs.declared.answer.Answer.the-variants.{Taken, Refused}
-use Rattle.commands.specs.declared.entries.Command.the-variants.{Contract as contractᶜ, Window as windowᶜ, Instruction as instructionᶜ, Default as defaultᶜ}
+use Rattle.commands.specs.declared.entries.Command.the-variants.{Contract as contractᶜ, Date as dateᶜ, Window as windowᶜ, Instruction as instructionᶜ}
+use Rattle.commands.specs.declared.entries.Command.the-variants.{Default as defaultᶜ}
 use Rattle.book_memory.specs.Meter.{Memory, roomIn, meteredAt}
 use Rattle.book.specs.Book.{bookSpan, bookCells, ledgerIn}
 use Rattle.book.specs.Sound.{sound, Shaped}
@@ -62,6 +65,11 @@ contract-part : (agreed : Bool) (k : Contract) → map contractᶜ (cond agreed 
 contract-part true k = refl
 contract-part false k = refl
 
+-- and a date
+date-part : (none : Bool) (d : Date) → map dateᶜ (cond none [] (d ∷ [])) ≡ cond (not none) (dateᶜ d ∷ []) []
+date-part true d = refl
+date-part false d = refl
+
 -- the readings, of which the ledger has none past the span
 readings-part : (b : Book) (meter : Memory) → concatMap (λ m. readingAt (ledgerIn b meter .reading m) m) (between 0 (bookSpan b)) ≡ readings meter (bookSpan b)
 unfolding between ledgerIn readings
@@ -74,6 +82,7 @@ unfolding fileOf written parts
 file-is b meter e =
     ap fileBytes (unfold ledgerIn in rw (
       contract-part (b .agreed) (b .contract),
+      date-part (isNoDate (b .date)) (b .date),
       ← take-map windowᶜ (b .nwindows) (b .windows),
       ← take-map instructionᶜ (b .ninstructions) (b .instructions),
       ← take-map defaultᶜ (b .ndefaults) (b .defaults),

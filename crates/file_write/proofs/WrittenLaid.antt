@@ -1,5 +1,5 @@
 -- Laws of commands laid out one after another in lent bytes.
-use mathlib.Core.Path.{_≡_, sym, ap, _∙_}
+use mathlib.Core.Path.{_≡_, sym, ap, _∙_, subst, subst⁻¹}
 use mathlib.Core.List.{List, [], _∷_, _++_, append-nil}
 use Prim.Native.Nat.{ℕ, zero, suc, _+_, _-_, _≤_, _<_}
 use native.Mathlib.Nat.{le-refl}
@@ -29,6 +29,14 @@ length-both cs ds = ap length (concatMap-append write cs ds) ∙ length-append (
 pub laid-none : (m : List ℕ) (at : ℕ) → Laid [] m at m at
 unfolding concatMap
 laid-none m at = bytes-none m at
+
+-- the same commands
+module _ {cs ds : List Command} (e : cs ≡ ds) where
+  pub laid-same : {m after : List ℕ} {at next : ℕ} → Laid cs m at after next → Laid ds m at after next
+  laid-same {m} {after} {at} {next} l = subst (λ cs. Laid cs m at after next) e l
+
+  pub room-same : {m : List ℕ} {at : ℕ} → Room ds m at → Room cs m at
+  room-same {m} {at} r = subst⁻¹ (λ cs. Room cs m at) e r
 
 -- one command, as the unit file's writer puts it where there is room for it
 module _ (c : Command) (m : List ℕ) (at : ℕ) (r : Room (c ∷ []) m at) where

@@ -1,6 +1,6 @@
 -- Laws of the parts of a book's file: entries and readings one after the other, and how long they are.
 use mathlib.Core.Path.{_≡_, refl, sym, ap, _∙_}
-use mathlib.Core.Bool.{Bool, true, false, cond}
+use mathlib.Core.Bool.{Bool, true, false, cond, not}
 use mathlib.Core.List.{List, [], _∷_, _++_, map, append-nil}
 use mathlib.Core.Option.{none, some}
 use Prim.Native.Nat.{ℕ, zero, suc, _+_, _*_, _≤_, _<_}
@@ -12,12 +12,13 @@ use lib.ListN.{length, getD, take, length-append, length-map, List·getD-map}
 use lib.Seq.{take-suc, length-take-le}
 use Rattle.energy.specs.Lists.{concatMap, run, between}
 use Rattle.energy.proofs.Sums.{between-snoc}
+use Rattle.calendar.specs.Calendar.{isNoDate}
 use Rattle.book.specs.Book.{bookSpan}
 use Rattle.commands.specs.Command.{revisedAs}
 use Rattle.commands.specs.Input.{isReading, mostMinute}
 use Rattle.rules.specs.File.{table, widthsOf, total, write, readingAt}
 use Rattle.commands.specs.declared.entries.Command.{Command}
-use Rattle.commands.specs.declared.entries.Command.the-variants.{Contract as contractᶜ, Window as windowᶜ, Instruction as instructionᶜ}
+use Rattle.commands.specs.declared.entries.Command.the-variants.{Contract as contractᶜ, Date as dateᶜ, Window as windowᶜ, Instruction as instructionᶜ}
 use Rattle.commands.specs.declared.entries.Command.the-variants.{Default as defaultᶜ, Reading as readingᶜ, Revision as revisionᶜ}
 use Rattle.commands.specs.declared.entries.Command.the-variants.{Close as closeᶜ}
 use Rattle.rules.proofs.Operands.{write-long}
@@ -35,6 +36,7 @@ use Rattle.file_write.proofs.WrittenLaid.{bytes-one, length-both, Turns
 pub write-short : (c : Command) → length (write c) ≤ 32
 unfolding table widthsOf total
 write-short (contractᶜ k) = omega (arith, write-long (contractᶜ k))
+write-short (dateᶜ d) = omega (arith, write-long (dateᶜ d))
 write-short (windowᶜ w) = omega (arith, write-long (windowᶜ w))
 write-short (instructionᶜ i) = omega (arith, write-long (instructionᶜ i))
 write-short (defaultᶜ d) = omega (arith, write-long (defaultᶜ d))
@@ -151,8 +153,9 @@ module _ (meter : Memory) where
 module _ (b : Book) (meter : Memory) where
   -- the length of the whole is that of the parts
   pub parts-length :
-      length (fileBytes (cond (b .agreed) (contractᶜ (b .contract) ∷ []) [])) + length (fileBytes (entries b Windows)) + length
-      (fileBytes (entries b Instructions)) + length (fileBytes (entries b Defaults))
+      length (fileBytes (cond (b .agreed) (contractᶜ (b .contract) ∷ []) []))
+      + length (fileBytes (cond (not (isNoDate (b .date))) (dateᶜ (b .date) ∷ []) []))
+      + length (fileBytes (entries b Windows)) + length (fileBytes (entries b Instructions)) + length (fileBytes (entries b Defaults))
       + length (fileBytes (readings meter (bookSpan b)))
       + length (fileBytes (cond (b .closed) (closeᶜ ∷ []) []))
       ≡ length (fileBytes (parts b meter))
@@ -166,6 +169,7 @@ module _ (b : Book) (meter : Memory) where
         arith,
         parts-length,
         once-short (b .agreed) (contractᶜ (b .contract)),
+        once-short (not (isNoDate (b .date))) (dateᶜ (b .date)),
         entries-short b Windows (tables Windows),
         entries-short b Instructions (tables Instructions),
         entries-short b Defaults (tables Defaults),
@@ -178,7 +182,8 @@ module _ (b : Book) (meter : Memory) where
   abbrev pub part : ℕ → List Command
   part k =
       getD
-      (cond (b .agreed) (contractᶜ (b .contract) ∷ []) [] ∷ entries b Windows ∷ entries b Instructions ∷ entries b Defaults
+      (cond (b .agreed) (contractᶜ (b .contract) ∷ []) [] ∷ cond (not (isNoDate (b .date))) (dateᶜ (b .date) ∷ []) []
+      ∷ entries b Windows ∷ entries b Instructions ∷ entries b Defaults
       ∷ readings meter (bookSpan b)
       ∷ cond (b .closed) (closeᶜ ∷ []) []
       ∷ [])
@@ -188,5 +193,5 @@ module _ (b : Book) (meter : Memory) where
   before zero = []
   before (suc k) = before k ++ part k
 
-  pub part-turns : Turns before part 6
+  pub part-turns : Turns before part 7
   part-turns = record { more = λ k h. rw (add-one k) }

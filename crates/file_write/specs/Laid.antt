@@ -1,14 +1,15 @@
 -- Inner, and proved equal to the rules: commands laid out one after another in lent bytes: what the parts of the writer promise each other. Nothing
 -- here is a rule of its own.
-use mathlib.Core.Bool.{cond}
+use mathlib.Core.Bool.{cond, not}
 use mathlib.Core.List.{List, [], _∷_, _++_, map}
 use Prim.Native.Nat.{ℕ, _+_, _≤_, _<_}
 use lib.ListN.{length, take}
 use Rattle.commands.specs.Input.{mostMinute}
 use Rattle.energy.specs.Lists.{concatMap, between, Laid as LaidBytes}
+use Rattle.calendar.specs.Calendar.{isNoDate}
 use Rattle.rules.specs.File.{write, readingAt}
 use Rattle.commands.specs.declared.entries.Command.{Command}
-use Rattle.commands.specs.declared.entries.Command.the-variants.{Contract as contractᶜ, Window as windowᶜ, Instruction as instructionᶜ}
+use Rattle.commands.specs.declared.entries.Command.the-variants.{Contract as contractᶜ, Date as dateᶜ, Window as windowᶜ, Instruction as instructionᶜ}
 use Rattle.commands.specs.declared.entries.Command.the-variants.{Default as defaultᶜ, Close as closeᶜ}
 use Rattle.book_memory.specs.Meter.{Memory, meteredAt}
 use Rattle.book.specs.Book.{bookSpan}
@@ -53,7 +54,8 @@ readings meter span = concatMap (λ m. readingAt (meteredAt meter m) m) (between
 -- what a book that commands leave is written as, table by table
 unfoldable pub parts : Book → Memory → List Command
 parts b meter =
-    cond (b .agreed) (contractᶜ (b .contract) ∷ []) [] ++ entries b Windows ++ entries b Instructions ++ entries b Defaults
+    cond (b .agreed) (contractᶜ (b .contract) ∷ []) [] ++ cond (not (isNoDate (b .date))) (dateᶜ (b .date) ∷ []) []
+    ++ entries b Windows ++ entries b Instructions ++ entries b Defaults
     ++ readings meter (bookSpan b)
     ++ cond (b .closed) (closeᶜ ∷ []) []
 

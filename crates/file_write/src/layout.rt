@@ -80,7 +80,10 @@ pub(crate) fn put_book(b: Book, meter: &[i32], revisions: &[u8], out: &mut [u8])
     ensures { λ r. ⌜ Laid (parts b (lent (now (meter .entry)) (now (revisions .entry)))) (now (out .entry)) 0 (now (out .exit)) r ⌝ }
 {
     let k = b.contract;
-    let windows = put_if(b.agreed, Command::Contract(k), out, 0);
+    let d = b.date;
+    let dated = !d.is_none();
+    let date = put_if(b.agreed, Command::Contract(k), out, 0);
+    let windows = put_if(dated, Command::Date(d), out, date);
     let instructions = put_table(b, Table::Windows, out, windows);
     let defaults = put_table(b, Table::Instructions, out, instructions);
     let readings = put_table(b, Table::Defaults, out, defaults);

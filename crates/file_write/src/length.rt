@@ -67,11 +67,13 @@ pub(crate) fn file_length(b: Book, meter: &[i32], revisions: &[u8]) -> usize
     ensures { λ r. ⌜ r ≡ length (fileBytes (parts b (lent (now (meter .entry)) (now (revisions .entry))))) ⌝ }
 {
     let k = b.contract;
+    let d = b.date;
     let contract = as_long(once(b.agreed), Command::Contract(k));
+    let date = as_long(once(!d.is_none()), Command::Date(d));
     let windows = table_length(b, Table::Windows);
     let instructions = table_length(b, Table::Instructions);
     let defaults = table_length(b, Table::Defaults);
     let readings = readings_length(meter, revisions, b.span());
     let close = as_long(once(b.closed), Command::Close);
-    contract + windows + instructions + defaults + readings + close
+    contract + date + windows + instructions + defaults + readings + close
 }

@@ -17,8 +17,9 @@ use Rattle.file_load.specs.declared.file.Loaded.{Loaded}
 use Rattle.file_write.specs.Write.{writeBook}
 use Rattle.file_write.specs.declared.Written.{Written}
 use Rattle.watch_month.specs.MonthOf.{monthBook, monthLaid}
+use Rattle.host_day.specs.DayAnswer.{AnswersDay}
 use Rattle.host_settle.specs.Answers.{numberOf, packed}
-use Rattle.host.specs.Calls.{enteredFile, enterFile, rewrittenFile, settledFile, settleFile, watchedFile, watchFile, writeFile}
+use Rattle.host.specs.Calls.{dayFile, enteredFile, enterFile, rewrittenFile, settledFile, settleFile, watchedFile, watchFile, writeFile}
 use Rattle.host_settle.specs.SettleInto.{settledBook, settleInto}
 
 -- the windows of a sound book are few
@@ -65,6 +66,18 @@ module _
       → rewrittenFile r meter′ memory ≡ writeFile file meter memory
   unfolding writeFile
   not-written memory n r e er = rw (ended, e, er)
+
+  -- taken, and asked for a day
+  pub day-asked : (day : ℕ) (holidays : List ℕ) (r : ℕ) → l .answer ≡ Taken → AnswersDay (l .book) day holidays r
+      → enteredFile r meter′ ≡ dayFile file meter day holidays
+  unfolding dayFile
+  day-asked day holidays r e a = rw (ended, e, a meter′)
+
+  -- refused, and not asked
+  pub day-refused : (day : ℕ) (holidays : List ℕ) (n r : ℕ) → l .answer ≡ Refused n → r ≡ packed n (l .at)
+      → enteredFile r meter′ ≡ dayFile file meter day holidays
+  unfolding dayFile
+  day-refused day holidays n r e er = rw (ended, e, er)
 
   -- taken, and its month worked out
   pub watched : (month month′ : List ℕ) (a : Answer) (n r : ℕ) → l .answer ≡ Taken → monthLaid a month′ ≡ monthBook (l .book) month

@@ -2,21 +2,22 @@
 -- say came to.
 use mathlib.Core.Path.{_≡_}
 use mathlib.Core.Bool.{Bool, true, false, not}
-use mathlib.Core.List.{List}
+use mathlib.Core.List.{List, []}
 use Prim.Native.Nat.{ℕ, _^_, _<_}
 use native.Mathlib.Omega.{arith}
 use lib.IntN.{ℤ}
 use lib.ListN.{length}
 use borrow.Author.Tests.{not-true, not-false}
-use Rattle.book_memory.specs.Meter.{Memory}
+use Rattle.book_memory.specs.Meter.{Memory, lent}
 use Rattle.book.specs.declared.Book.{Book}
 use Rattle.file_write.specs.Write.{writeBook}
 use Rattle.file_write.specs.declared.Written.{Written}
 use Rattle.rules.specs.declared.answer.Answer.{Answer}
 use Rattle.watch_month.specs.MonthOf.{monthBook, monthLaid}
 use Rattle.host_tables.specs.Tables.{Tables, bookOf, entire}
+use Rattle.host_day.specs.DayAnswer.{AnswersDay}
 use Rattle.host_settle.specs.Answers.{numberOf, packed}
-use Rattle.host.specs.Calls.{settleTables, watchedBook, watchTables, writeTables, writtenFile}
+use Rattle.host.specs.Calls.{dayTables, settleTables, watchedBook, watchTables, writeTables, writtenFile}
 use Rattle.host_settle.specs.SettleInto.{settledBook, settleInto}
 
 -- the windows that a table says are few
@@ -53,6 +54,17 @@ module _ (t : Tables) (meter : Memory) (whole : Bool) (et : whole ≡ entire t) 
   written file file′ b w n r h eb ew ef en er = rw (← et, not-false whole h, ← eb, ← ew, ← ef, er, en)
 
 module _ (t : Tables) (whole : Bool) (et : whole ≡ entire t) where
+  -- a row cut short: no day
+  pub day-refused : (day : ℕ) (holidays : List ℕ) (r : ℕ) → whole ≡ false → r ≡ packed 11 0 → r ≡ dayTables t day holidays
+  unfolding dayTables
+  day-refused day holidays r h er = rw (← et, h, er)
+
+  -- whole rows, and asked for a day
+  pub day-asked : (day : ℕ) (holidays : List ℕ) (b : Book) (r : ℕ) → whole ≡ true → b ≡ bookOf t → AnswersDay b day holidays r
+      → r ≡ dayTables t day holidays
+  unfolding dayTables
+  day-asked day holidays b r h eb a = rw (← et, h, ← eb) (a (lent [] []))
+
   -- a row cut short: no month worked out
   pub not-watched : (month : List ℕ) → whole ≡ false → watchedBook 11 month ≡ watchTables t month
   unfolding watchTables

@@ -1,13 +1,15 @@
 -- The calls for hosts: what each answers, and what all lent memory holds after it, by one equation over the rules, refusals included.
 use mathlib.Core.Bool.{cond}
-use mathlib.Core.List.{List}
+use mathlib.Core.List.{List, []}
 use Prim.Native.Nat.{ℕ}
 use lib.IntN.{ℤ}
-use Rattle.book_memory.specs.Meter.{Memory}
+use Rattle.book_memory.specs.Meter.{Memory, lent}
 use Rattle.rules.specs.declared.answer.Answer.{Answer}
 use Rattle.rules.specs.declared.answer.Answer.the-variants.{Taken, Refused}
 use Rattle.book.specs.Book.{emptyBook}
 use Rattle.file_load.specs.Load.{LoadedFile, load}
+use Rattle.working_days.specs.Days.{dayBook}
+use Rattle.host_day.specs.DayAnswer.{dayAnswer}
 use Rattle.host_settle.specs.Answers.{numberOf, packed}
 use Rattle.host_settle.specs.SettleInto.{SettledBook, settledBook, settleInto}
 use Rattle.host_tables.specs.Tables.{Tables, bookOf, entire}
@@ -105,6 +107,21 @@ writesBy (Refused n) l memory = rewrittenFile (packed n (l .loaded .at)) (l .met
 -- a whole file, entered and written
 unfoldable pub writeFile : List ℕ → Memory → List ℕ → RewrittenFile
 writeFile file meter memory = let l : LoadedFile = load file emptyBook meter in writesBy (l .loaded .answer) l memory
+
+-- ---- a day of a month
+
+-- the kind of a day of the month of a file that was entered whole; a file with a refusal is answered that
+abbrev pub dayBy : Answer → LoadedFile → ℕ → List ℕ → EnteredFile
+dayBy Taken l day holidays = enteredFile (dayAnswer (dayBook (l .loaded .book) (l .meter) day holidays)) (l .meter)
+dayBy (Refused n) l day holidays = enteredFile (packed n (l .loaded .at)) (l .meter)
+
+-- a whole file, entered, and a day of its month
+unfoldable pub dayFile : List ℕ → Memory → ℕ → List ℕ → EnteredFile
+dayFile file meter day holidays = let l : LoadedFile = load file emptyBook meter in dayBy (l .loaded .answer) l day holidays
+
+-- a day of the month of the book that tables say, which has no readings yet. Tables with a row cut short say no book: 11
+unfoldable pub dayTables : Tables → ℕ → List ℕ → ℕ
+dayTables t day holidays = cond (entire t) (dayAnswer (dayBook (bookOf t) (lent [] []) day holidays)) (packed 11 0)
 
 -- ---- a book's month worked out
 

@@ -4,20 +4,24 @@ use mathlib.Core.Path.{_≡_}
 use mathlib.Core.List.{List, [], _∷_, _++_, map}
 use Prim.Native.Nat.{ℕ, _*_}
 use lib.IntN.{ℤ, pos}
-use lib.ListN.{replicate}
+use lib.ListN.{set, replicate}
 use Rattle.book_memory.specs.Meter.{Memory, lent, missing}
-use Rattle.rules.specs.Examples.{guide, times}
+use Rattle.rules.specs.Examples.{days, guide, times}
 use Rattle.host_tables.specs.Tables.{Tables, tables}
-use Rattle.host.specs.Calls.{settleTables}
+use Rattle.host.specs.Calls.{dayTables, settleTables}
 use Rattle.host_settle.specs.SettleInto.{settledBook}
+
+-- Appendix 2's contract without a date
+abbrev pub undated : List ℕ
+undated = guide ++ (0 ∷ 0 ∷ 0 ∷ [])
 
 -- Appendix 2's contract, window and instruction
 abbrev pub appendix : Tables
-appendix = tables guide (0 ∷ 180 ∷ 0 ∷ []) (5 ∷ 85 ∷ []) []
+appendix = tables undated (0 ∷ 180 ∷ 0 ∷ []) (5 ∷ 85 ∷ []) []
 
 -- the same with its instruction's row cut short
 abbrev pub cut : Tables
-cut = tables guide (0 ∷ 180 ∷ 0 ∷ []) (5 ∷ []) []
+cut = tables undated (0 ∷ 180 ∷ 0 ∷ []) (5 ∷ []) []
 
 -- its metered MW, from minute 19 to minute 90
 abbrev pub meteredMw : List ℕ
@@ -57,3 +61,18 @@ pub record Example : Type 0 where
   pub fewMinutes : settleTables appendix (lent (replicate 1439 (pos 0)) (replicate 1440 9)) (sevens 48) (sevens 261) ≡ settledBook 15 (sevens 48) (sevens 261)
   pub fewBytes : settleTables appendix (lent (replicate 1440 (pos 0)) (replicate 1439 9)) (sevens 48) (sevens 261) ≡ settledBook 15 (sevens 48) (sevens 261)
   pub cutShort : settleTables cut exampleDay (sevens 48) (sevens 261) ≡ settledBook 11 (sevens 48) (sevens 261)
+
+-- Appendix 2's contract over 31 days, with this date
+abbrev pub month : ℕ → ℕ → ℕ → Tables
+month y m d = tables (set guide days 31 ++ (y ∷ m ∷ d ∷ [])) [] [] []
+
+-- days of October 2024, with a holiday on the 1st: working 256, non-working 512, no such day 0; 11 for a date that no list leaves, and for a row cut short
+pub record DayExample : Type 0 where
+  pub holiday : dayTables (month 2024 10 1) 1 (1 ∷ []) ≡ 512
+  pub working : dayTables (month 2024 10 1) 2 (1 ∷ []) ≡ 256
+  pub sunday : dayTables (month 2024 10 1) 27 [] ≡ 512
+  pub last : dayTables (month 2024 10 1) 31 [] ≡ 256
+  pub missing : dayTables (month 2024 10 1) 32 [] ≡ 0
+  pub undated : dayTables (month 0 0 0) 1 [] ≡ 0
+  pub second : dayTables (month 2024 10 2) 1 [] ≡ 11
+  pub cutShort : dayTables (tables guide [] [] []) 1 [] ≡ 11

@@ -6,12 +6,13 @@ ghost use mathlib.Core.Path.{_≡_};
 ghost use Rattle.book_memory.specs.Meter.{lent};
 ghost use Rattle.host.specs.Calls.{enterFile, settleFile, settleTables, writeFile, writeTables};
 ghost use Rattle.host.specs.Calls.{enteredFile, rewrittenFile, settledFile, writtenFile};
-ghost use Rattle.host.specs.Calls.{watchFile, watchTables, watchedBook, watchedFile};
+ghost use Rattle.host.specs.Calls.{dayFile, dayTables, watchFile, watchTables, watchedBook, watchedFile};
 ghost use Rattle.host_settle.specs.SettleInto.{settledBook};
 ghost use Rattle.host_tables.specs.Tables.{tables};
 ghost use Rattle.host_watch.specs.StepNumbers.{stepNumbers, steppedNumbers};
 use file_load::file::load_file;
 use file_write::write_book;
+use host_day::answer_day;
 use host_settle::answers::number_of;
 use host_settle::answers::pack;
 use host_settle::settle_book;
@@ -141,6 +142,53 @@ pub extern "C" fn stor_write_file(
         }
         Answer::Refused(n) => pack(n, stopped),
     }
+}
+
+// Enters a whole unit file and answers what kind of day a day of its book's month is, where these days are holidays. The answer is the refusal's number,
+// or 0, and 256 times the offset of the refused command, or the kind of the day.
+#[no_mangle]
+pub extern "C" fn stor_day_file(
+    file: &[u8],
+    meter: &mut [i32],
+    revisions: &mut [u8],
+    day: u32,
+    holidays: &[u32],
+) -> u64
+    ensures { λ r.
+        ⌜ enteredFile r (lent (now (meter .exit)) (now (revisions .exit)))
+        ≡ dayFile (now (file .entry)) (lent (now (meter .entry)) (now (revisions .entry))) day (now (holidays .entry)) ⌝ }
+{
+    let l = load_file(file, meter, revisions);
+    let loaded = l.answer;
+    let book = l.book;
+    let offset = l.at;
+    match loaded {
+        Answer::Taken => answer_day(book, day, holidays),
+        Answer::Refused(n) => pack(n, offset),
+    }
+}
+
+// The same of the book that tables say.
+#[no_mangle]
+pub extern "C" fn stor_day_tables(
+    contract: &[u32],
+    windows: &[u32],
+    instructions: &[u32],
+    defaults: &[u32],
+    day: u32,
+    holidays: &[u32],
+) -> u64
+    ensures { λ r.
+        ⌜ r ≡ dayTables
+        (tables (now (contract .entry)) (now (windows .entry)) (now (instructions .entry)) (now (defaults .entry)))
+        day (now (holidays .entry)) ⌝ }
+{
+    let entire = entire_tables(contract, windows, instructions, defaults);
+    if entire {
+        let b = book_of(contract, windows, instructions, defaults);
+        return answer_day(b, day, holidays);
+    }
+    pack(11, 0)
 }
 
 // Enters a whole unit file and works out the month of its book, open or closed, as numbers that steps read. The answer is the refusal's number, or 0,

@@ -2,18 +2,19 @@
 -- is too wide. All fields of an entry differ, so no two can be read from one another's places.
 use mathlib.Core.Path.{_≡_}
 use mathlib.Core.Bool.{true, false}
-use mathlib.Core.List.{List, [], _∷_}
+use mathlib.Core.List.{List, [], _∷_, _++_}
 use Prim.Native.Nat.{ℕ}
 use lib.IntN.{pos}
-use lib.ListN.{take}
+use lib.ListN.{take, replicate}
 use Rattle.commands.specs.declared.entries.Window.{Window}
 use Rattle.commands.specs.declared.entries.Instruction.{Instruction}
 use Rattle.commands.specs.declared.entries.Default.{Default}
-use Rattle.host_tables.specs.Tables.{Tables, tables, contractOfRow, windowOfRow, instructionOfRow, defaultOfRow, bookOf, entire}
+use Rattle.host_tables.specs.Tables.{Tables, tables, contractOfRow, dateOfRow, windowOfRow, instructionOfRow, defaultOfRow, bookOf, entire}
 
--- a contract's row: days, kind, service, contracted kW, ramp up, ramp down, response, recovery, availability, utilisation and optional rate
+-- a contract's row: days, kind, service, contracted kW, ramp up, ramp down, response, recovery, availability, utilisation and optional rate, and the
+-- date's year, month and day
 abbrev pub contractRow : List ℕ
-contractRow = 31 ∷ 1 ∷ 0 ∷ 12000 ∷ 2000 ∷ 3000 ∷ 20 ∷ 60 ∷ 900 ∷ 30000 ∷ 55000 ∷ []
+contractRow = 31 ∷ 1 ∷ 0 ∷ 12000 ∷ 2000 ∷ 3000 ∷ 20 ∷ 60 ∷ 900 ∷ 30000 ∷ 55000 ∷ 2024 ∷ 10 ∷ 1 ∷ []
 
 -- two windows, two instructions, two defaults
 abbrev pub exampleTables : Tables
@@ -49,6 +50,9 @@ pub record Example : Type 0 where
         utilisation = 30000;
         optional = 55000;
       }
+  -- the date, and that of a row of zeros
+  pub date : bookOf exampleTables .date ≡ record { year = 2024; month = 10; day = 1 }
+  pub noDate : dateOfRow (replicate 14 0) ≡ record { year = 0; month = 0; day = 0 }
   -- the entries, and the first place after them
   pub windows : take 3 (bookOf exampleTables .windows) ≡ window 30 90 1 ∷ window 120 180 0 ∷ window 0 0 0 ∷ []
   pub instructions : take 3 (bookOf exampleTables .instructions) ≡ instruction 5 85 ∷ instruction 200 240 ∷ instruction 0 0 ∷ []
@@ -63,12 +67,14 @@ pub record Example : Type 0 where
   -- a number too wide for its field, which would be in its range if it were cut to the field
   pub wideDays : contractOfRow (257 ∷ []) .days ≡ 255
   pub wideResponse : contractOfRow (1 ∷ 0 ∷ 0 ∷ 0 ∷ 0 ∷ 0 ∷ 65556 ∷ []) .response .0 ≡ 65535
+  pub wideDate : dateOfRow (replicate 11 0 ++ (67560 ∷ 266 ∷ 257 ∷ [])) ≡ record { year = 65535; month = 255; day = 255 }
   pub wideWindow : windowOfRow (65536 ∷ 65566 ∷ 256 ∷ []) ≡ window 65535 65535 255
   pub wideInstruction : instructionOfRow (65541 ∷ 65621 ∷ []) ≡ instruction 65535 65535
   pub wideDefault : defaultOfRow (65536 ∷ 257 ∷ 257 ∷ []) ≡ default 65535 255 255
   -- rows that are whole, and tables with one cut short or with a number too many
   pub wholeRows : entire exampleTables ≡ true
-  pub shortContract : entire (tables (31 ∷ 1 ∷ 0 ∷ 12000 ∷ 2000 ∷ 3000 ∷ 20 ∷ 60 ∷ 900 ∷ 30000 ∷ []) [] [] []) ≡ false
+  pub shortContract : entire (tables (take 13 contractRow) [] [] []) ≡ false
+  pub noDateNumbers : entire (tables (take 11 contractRow) [] [] []) ≡ false
   pub longContract : entire (tables (0 ∷ contractRow) [] [] []) ≡ false
   pub shortWindow : entire (tables contractRow (30 ∷ 90 ∷ []) [] []) ≡ false
   pub shortInstruction : entire (tables contractRow [] (5 ∷ []) []) ≡ false

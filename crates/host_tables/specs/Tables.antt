@@ -1,5 +1,5 @@
--- Inner, and for hosts: the book that a host's tables say: a contract, windows, instructions and defaults, each a row of numbers, its operands in the
--- unit file's order. A number past a table's end is 0, as in every unused place, and one that is too wide for its field stands as the field's largest
+-- Inner, and for hosts: the book that a host's tables say: a contract with its date, windows, instructions and defaults, each a row of numbers, its
+-- operands in the unit file's order. A number past a table's end is 0, as in every unused place, and one that is too wide for its field stands as the field's largest
 -- value, which is in no operand's range.
 use mathlib.Core.Bool.{Bool, true, _&&_}
 use mathlib.Core.List.{List, map}
@@ -8,6 +8,7 @@ use lib.Dec.{eqb}
 use lib.IntN.{pos}
 use lib.ListN.{length, getD, drop}
 use Rattle.energy.specs.Lists.{between}
+use Rattle.calendar.specs.declared.Date.{Date}
 use Rattle.commands.specs.declared.contract.Contract.{Contract}
 use Rattle.commands.specs.declared.entries.Window.{Window}
 use Rattle.commands.specs.declared.entries.Instruction.{Instruction}
@@ -30,7 +31,7 @@ tables contract windows instructions defaults =
 
 -- how many numbers the contract's row has
 abbrev pub contractNumbers : ℕ
-contractNumbers = 11
+contractNumbers = 14
 
 -- how many numbers a window's row has
 abbrev pub windowNumbers : ℕ
@@ -73,6 +74,10 @@ contractOfRow r =
       optional = numberAt r 10;
     }
 
+-- the date of a contract's row: its last three numbers, zeros for none
+unfoldable pub dateOfRow : List ℕ → Date
+dateOfRow r = record { year = wordAt r 11; month = byteAt r 12; day = byteAt r 13 }
+
 -- the window of a row
 unfoldable pub windowOfRow : List ℕ → Window
 windowOfRow r = record { start = record { 0 = wordAt r 0 }; end = record { 0 = wordAt r 1 }; verdict = byteAt r 2 }
@@ -103,6 +108,7 @@ bookOf t =
       agreed = true;
       closed = true;
       contract = contractOfRow (t .contract);
+      date = dateOfRow (t .contract);
       windows = entriesOf windowOfRow windowNumbers 128 (t .windows);
       nwindows = length (t .windows) / windowNumbers;
       instructions = entriesOf instructionOfRow instructionNumbers 64 (t .instructions);

@@ -1,9 +1,10 @@
 // The book that a host's tables of numbers say.
 ghost use mathlib.Core.Path.{_≡_};
 ghost use Prim.Native.Nat.{_+_, min};
-ghost use Rattle.host_tables.specs.Tables.{bookOf, contractOfRow, defaultOfRow, entire, entriesOf, instructionOfRow, tables, windowOfRow};
+ghost use Rattle.host_tables.specs.Tables.{bookOf, contractOfRow, dateOfRow, defaultOfRow, entire, entriesOf, instructionOfRow, tables, windowOfRow};
 ghost use Rattle.host_tables.specs.Tables.{byteAt, defaultNumbers, instructionNumbers, numberAt, windowNumbers, wordAt};
 use book::Book;
+use calendar::Date;
 use commands::contract::Contract;
 use commands::entries::Default;
 use commands::entries::Instruction;
@@ -12,7 +13,7 @@ use energy::units::Kw;
 use energy::units::Minutes;
 
 // How many numbers a row of each table has.
-const CONTRACT_NUMBERS: usize = 11;
+const CONTRACT_NUMBERS: usize = 14;
 
 const WINDOW_NUMBERS: usize = 3;
 
@@ -71,6 +72,17 @@ fn contract_in(r: &[u32]) -> Contract
         availability: number_at(r, 8),
         utilisation: number_at(r, 9),
         optional: number_at(r, 10),
+    }
+}
+
+// The date of a contract's row: its last three numbers, zeros for none.
+fn date_in(r: &[u32]) -> Date
+    ensures { λ d. ⌜ d ≡ dateOfRow (now (r .entry)) ⌝ }
+{
+    Date {
+        year: word_at(r, 11),
+        month: byte_at(r, 12),
+        day: byte_at(r, 13),
     }
 }
 
@@ -205,6 +217,7 @@ pub fn book_of(contract: &[u32], windows: &[u32], instructions: &[u32], defaults
         ⌜ r ≡ bookOf (tables (now (contract .entry)) (now (windows .entry)) (now (instructions .entry)) (now (defaults .entry))) ⌝ }
 {
     let k = contract_in(contract);
+    let date = date_in(contract);
     let ws = windows_of(windows);
     let is = instructions_of(instructions);
     let ds = defaults_of(defaults);
@@ -212,6 +225,7 @@ pub fn book_of(contract: &[u32], windows: &[u32], instructions: &[u32], defaults
         agreed: true,
         closed: true,
         contract: k,
+        date: date,
         windows: ws,
         nwindows: windows.len() / WINDOW_NUMBERS,
         instructions: is,

@@ -22,10 +22,10 @@ use Rattle.rules.specs.Reached.{Reached, untouched, agreed}
 use Rattle.rules.specs.FileLength.{FileLength·theorem, mostTaken, mostWritten}
 use Rattle.commands.specs.declared.entries.Reading.{Reading}
 use Rattle.commands.specs.declared.entries.Command.{Command}
-use Rattle.commands.specs.declared.entries.Command.the-variants.{Contract as contractᶜ, Window as windowᶜ, Instruction as instructionᶜ}
+use Rattle.commands.specs.declared.entries.Command.the-variants.{Contract as contractᶜ, Date as dateᶜ, Window as windowᶜ, Instruction as instructionᶜ}
 use Rattle.commands.specs.declared.entries.Command.the-variants.{Default as defaultᶜ, Reading as readingᶜ, Revision as revisionᶜ}
 use Rattle.commands.specs.declared.entries.Command.the-variants.{Close as closeᶜ}
-use Rattle.rules.proofs.Reached.{step as keeps, start}
+use Rattle.rules.proofs.Reached.{step as keeps, start, bare}
 use Rattle.rules.proofs.Operands.{write-long}
 use Rattle.rules.proofs.Span.{span-cells, cells-none}
 use Rattle.rules.proofs.Taken.{grown, ledgerOf-snoc, concatMap-append, concatMap-snoc, Allowed, allowed, taken-ind}
@@ -66,7 +66,7 @@ toClose false = 1
 
 unfoldable room : ℕ → Ledger → ℕ
 room size g =
-    32 * (1 - length (g .contracts)) + 6 * (128 - length (g .windows)) + 5 * (64 - length (g .instructions)) + 5 * (128 - length (g .defaults))
+    32 * (1 - length (g .contracts)) + 5 * (1 - length (g .dates)) + 6 * (128 - length (g .windows)) + 5 * (64 - length (g .instructions)) + 5 * (128 - length (g .defaults))
     + sumℕ (λ m. left (g .reading m)) (between 0 size)
     + toClose (g .closed)
 
@@ -112,6 +112,8 @@ step : (size : ℕ) (g : Ledger) (c : Command) → spanIn g ≤ size → Allowed
 unfolding room later table widthsOf total
 step size g (contractᶜ k) s a =
     simp (append-nil, length-append, or-false) (omega (arith, write-long (contractᶜ k), none-yet (g .contracts) (a .book .only)))
+step size g (dateᶜ d) s a =
+    simp (append-nil, length-append, or-false) (omega (arith, write-long (dateᶜ d), ap length (bare g d (a .kind .early) .dates)))
 step size g (windowᶜ w) s a =
     simp (append-nil, length-append, or-false) (omega (arith, write-long (windowᶜ w), leb-false 128 (length (g .windows)) (a .kind .room)))
 step size g (instructionᶜ i) s a =
@@ -134,7 +136,7 @@ step size g closeᶜ s a = simp append-nil (rw (a .book .notClosed) (omega (arit
 
 -- lent memory has room for the span
 pub cells-fit : {size : ℕ} {g : Ledger} → Reached size g → cellsIn g ≤ size
-cells-fit {g = g} (untouched u) = omega (arith, cells-none g (u .contracts))
+cells-fit {g = g} (untouched u) = omega (arith, cells-none g (u .contracts) (u .dates))
 cells-fit (agreed a) = a .cells
 
 -- and so holds it
@@ -205,6 +207,7 @@ close-long false = omega arith
 -- tables with no more entries than they have room for
 record Few (g : Ledger) : Type 0 where
   contracts : length (g .contracts) ≤ 1
+  dates : length (g .dates) ≤ 1
   windows : length (g .windows) ≤ 128
   instructions : length (g .instructions) ≤ 64
   defaults : length (g .defaults) ≤ 128
@@ -213,12 +216,19 @@ few : {size : ℕ} {g : Ledger} → Reached size g → Few g
 few (untouched u) =
     record {
       contracts = omega (arith, ap length (u .contracts));
+      dates = omega (arith, ap length (u .dates));
       windows = omega (arith, ap length (u .windows));
       instructions = omega (arith, ap length (u .instructions));
       defaults = omega (arith, ap length (u .defaults));
     }
 few (agreed a) =
-    record { contracts = omega (arith, ap length (a .contract)); windows = a .windows; instructions = a .instructions; defaults = a .defaults }
+    record {
+      contracts = omega (arith, ap length (a .contract));
+      dates = a .dates;
+      windows = a .windows;
+      instructions = a .instructions;
+      defaults = a .defaults;
+    }
 
 written-most : (size : ℕ) (g : Ledger) → Reached size g → length (fileOf g) ≤ mostWritten size
 unfolding mostWritten fileOf written table widthsOf total
@@ -228,11 +238,13 @@ written-most size g r =
     (omega (
       arith,
       f .contracts,
+      f .dates,
       f .windows,
       f .instructions,
       f .defaults,
       span-fits r,
       lengths 32 contractᶜ (λ k. write-long (contractᶜ k)) (g .contracts),
+      lengths 5 dateᶜ (λ d. write-long (dateᶜ d)) (g .dates),
       lengths 6 windowᶜ (λ w. write-long (windowᶜ w)) (g .windows),
       lengths 5 instructionᶜ (λ i. write-long (instructionᶜ i)) (g .instructions),
       lengths 5 defaultᶜ (λ d. write-long (defaultᶜ d)) (g .defaults),

@@ -16,6 +16,8 @@ pub mod Definitions
 pub mod Conditions
 pub mod Figures
 pub mod Examples
+pub mod Dates
+pub mod HalfHours
 pub mod Revisions
 pub mod Bounds
 pub mod Operands

@@ -1,17 +1,23 @@
--- The number of a statement's lines: at most 48 a day less 1, and 3 for each instruction.
+-- The number of a statement's lines: at most one for each period but the first, and 3 for each instruction.
 use mathlib.Core.Path.{_≡_, refl, sym, ap, ap₂, _∙_}
 use mathlib.Core.List.{List, [], _∷_}
-use Prim.Native.Nat.{ℕ, suc, _+_, _-_, _*_, _/_, _≤_, _<_}
+use Prim.Native.Nat.{ℕ, suc, _+_, _-_, _*_, _/_, _%_, _≤_, _<_}
 use native.Mathlib.Nat.{le-refl}
 use native.Mathlib.Omega.{arith}
-use lib.Dec.{T}
+use lib.Dec.{T, eqb, eqb→eq}
 use lib.ListN.{length, length-append, length-map}
-use Rattle.energy.specs.Lists.{sumℕ}
-use Rattle.rules.specs.Ledger.{Ledger, ledgerOf, contractOf, spanIn, expiry, rampStart, endOf}
+use Rattle.energy.specs.Lists.{all, first, sumℕ}
+use Rattle.energy.proofs.Tests.{T-and}
+use Rattle.calendar.specs.Calendar.{daysOf, isDate, noDate, gainedIn, lostIn}
+use Rattle.calendar.specs.declared.Date.{Date}
+use Rattle.calendar.proofs.Months.{days-least}
+use Rattle.commands.specs.Input.{mostMinute}
+use Rattle.commands.proofs.Chain.{apart}
+use Rattle.rules.specs.Ledger.{Ledger, ledgerOf, contractOf, dateOf, spanOf, fullSpan, spanIn, expiry, rampStart, endOf}
 use Rattle.rules.specs.Refusal.{taken}
 use Rattle.rules.specs.Segment.{segmentsOf, segmentsFrom, segments}
 use Rattle.rules.specs.Statement.{lineOf, lines}
-use Rattle.rules.specs.Reached.{instructionsSound, Reached}
+use Rattle.rules.specs.Reached.{dateSound, instructionsSound, Reached}
 use Rattle.rules.specs.Reached.Reached.{untouched, agreed}
 use Rattle.rules.specs.Lines.{LineBound, LineBound·theorem}
 use Rattle.commands.specs.declared.contract.Contract.{Contract}
@@ -22,6 +28,7 @@ use Rattle.rules.specs.Cuts.{touched}
 use Rattle.commands.proofs.Terms.{Terms}
 use Rattle.rules.proofs.Tables.{InstructionFits, instructions-cons}
 use Rattle.rules.proofs.Reached.{parts-of, terms-of, reached}
+use Rattle.rules.proofs.Span.{span-cells, cells-most, span-some, span-periods}
 
 -- the periods that each stage of an instruction touches, together
 abbrev pub touches : Contract → Instruction → ℕ
@@ -77,9 +84,29 @@ unfolding segments
 lines-count g (untouched u) = let z = none (contractOf g) (g .instructions) (u .instructions) in lines-segments g ∙ z .0 ∙ sym (z .1)
 lines-count g (agreed a) = lines-segments g ∙ segments-count (contractOf g) (spanIn g) (terms-of a) (g .instructions) 1 0 (parts-of a .instructions)
 
+-- the last period of whole ones
+whole-periods : (span : ℕ) → span % 30 ≡ 0 → 0 < span → (span - 1) / 30 ≤ span / 30 - 1
+whole-periods span e h = omega arith
+
+-- a month of 11 days or fewer has no date
+undated : (k : Contract) (dates : List Date) → T (all (dateSound k) dates) → k .days ≤ 11 → first noDate dates ≡ noDate
+unfolding all first
+undated k [] t h = refl
+undated k (d ∷ dates) t h =
+    let here = T-and (dateSound k d) (all (dateSound k) dates) t .0 in
+    let p = apart (isDate d) (eqb (d .day) 1 ∷ eqb (daysOf (d .year) (d .month)) (k .days) ∷ []) here in
+    absurd (omega (arith, eqb→eq (daysOf (d .year) (d .month)) (k .days) (p .1 .1 .0), days-least d (p .0)))
+
+-- and then its span is that of its days
+undated-span : (g : Ledger) → dateOf g ≡ noDate → spanIn g ≡ spanOf (contractOf g)
+unfolding spanIn gainedIn lostIn
+undated-span g e =
+    let now : spanIn g ≡ spanOf (contractOf g) + 0 - 0 = ap (λ d. fullSpan (contractOf g) d - lostIn (d .month)) e in
+    omega (arith, now)
+
 -- and its bound
 bound : {size : ℕ} (g : Ledger) → Reached size g → LineBound g
-unfolding segments spanIn
+unfolding segments
 bound g (untouched u) =
     let z : length (lines g) ≡ 0 = lines-segments g ∙ none (contractOf g) (g .instructions) (u .instructions) .0 in
     record { most = omega arith; elevenDays = λ h. omega arith; inAll = omega arith }
@@ -87,12 +114,18 @@ bound g (agreed a) =
     let k : Contract = contractOf g in
     let span : ℕ = spanIn g in
     let t : Terms k = terms-of a in
-    let days : (1 ≤ k .days) × (k .days ≤ 31) = t .ranges .days in
     let few : length (g .instructions) ≤ 64 = a .instructions in
+    let some : 0 < span = span-some g t in
+    let long : span ≤ mostMinute = omega (arith, span-cells g, cells-most g t) in
     let most : length (segmentsFrom k 1 (g .instructions)) + 0 / 30 ≤ 3 * length (g .instructions) + (span - 1) / 30 =
-    segments-most k span t (g .instructions) 1 0 0 (parts-of a .instructions) (le-refl 0) (omega arith) in
+    segments-most k span t (g .instructions) 1 0 0 (parts-of a .instructions) (le-refl 0) some in
     let same : length (lines g) ≡ length (segmentsFrom k 1 (g .instructions)) = lines-segments g in
-    record { most = omega arith; elevenDays = λ h. omega arith; inAll = omega arith }
+    let whole : (span - 1) / 30 ≤ span / 30 - 1 = whole-periods span (span-periods g) some in
+    record {
+      most = omega arith;
+      elevenDays = λ h. let short : span ≡ 1440 * k .days = undated-span g (unfold dateOf in undated k (g .dates) (a .dated) h) in omega arith;
+      inAll = omega arith;
+    }
 
 pub line-bound : LineBound·theorem
 line-bound size cs = bound (ledgerOf (taken size cs)) (reached size cs)

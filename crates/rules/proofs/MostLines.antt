@@ -1,4 +1,4 @@
--- The bounds on the number of lines are met: 64 instructions that share their first and last periods, in 11 days and in 31.
+-- The bounds on the number of lines are met: 64 instructions that share their first and last periods, in 11 days and in an October.
 use mathlib.Core.Path.{_≡_, refl, _∙_}
 use mathlib.Core.List.{List, [], _∷_, _++_}
 use Prim.Native.Nat.{ℕ, zero, suc, _+_, _-_, _*_}
@@ -8,7 +8,7 @@ use Rattle.rules.specs.Ledger.{Ledger, ledgerOf, contractOf}
 use Rattle.rules.specs.Refusal.{taken}
 use Rattle.rules.specs.Lines.{LinesMet·theorem}
 use Rattle.commands.specs.declared.entries.Command.{Command}
-use Rattle.commands.specs.declared.entries.Command.the-variants.{Contract as contractᶜ, Instruction as instructionᶜ}
+use Rattle.commands.specs.declared.entries.Command.the-variants.{Contract as contractᶜ, Date as dateᶜ, Instruction as instructionᶜ}
 use Rattle.rules.proofs.Definitions.{opened}
 use Rattle.rules.specs.Cuts.{touched}
 use Rattle.rules.proofs.Reached.{reached}
@@ -40,24 +40,32 @@ abbrev spaced : ℕ → ℕ → ℕ → List Command
 spaced d zero m = []
 spaced d (suc n) m = call (m + 10) (m + d - 1) ∷ spaced d n (m + d)
 
--- 63 of them, and one to the end of the last day
+-- 63 of them, and one to the end of the last of so many minutes
 abbrev busy : ℕ → ℕ → List Command
-busy days d = brisk days ∷ (spaced d 63 0 ++ (call (63 * d + 10) (1440 * days - 6) ∷ []))
+busy minutes d = spaced d 63 0 ++ (call (63 * d + 10) (minutes - 6) ∷ [])
+
+-- 11 days, and an October, which has an hour more
+abbrev elevenDays : List Command
+elevenDays = brisk 11 ∷ busy 15840 240
+
+abbrev october : List Command
+october = brisk 31 ∷ dateᶜ (record { year = 2024; month = 10; day = 1 }) ∷ busy 44700 690
 
 -- all of them are taken
-abbrev left : ℕ → ℕ → Ledger
-left days d = ledgerOf (taken (1440 * days) (busy days d))
+abbrev left : ℕ → List Command → Ledger
+left size cs = ledgerOf (taken size cs)
 
-count-11 : (contractOf (left 11 240) .days ≡ 11) × (sumℕ (touches (contractOf (left 11 240))) (left 11 240 .instructions) ≡ 719)
+count-11 : (contractOf (left 15840 elevenDays) .days ≡ 11)
+    × (sumℕ (touches (contractOf (left 15840 elevenDays))) (left 15840 elevenDays .instructions) ≡ 719)
 unfolding opened touched
 count-11 = (refl, refl)
 
-count-31 : (contractOf (left 31 690) .days ≡ 31) × (sumℕ (touches (contractOf (left 31 690))) (left 31 690 .instructions) ≡ 1679)
+count-31 : (contractOf (left 44700 october) .days ≡ 31) × (sumℕ (touches (contractOf (left 44700 october))) (left 44700 october .instructions) ≡ 1681)
 unfolding opened touched
 count-31 = (refl, refl)
 
 pub lines-met : LinesMet·theorem
 lines-met = (
-  record { size = 15840; commands = busy 11 240; month = count-11 .0; busy = lines-count (left 11 240) (reached 15840 (busy 11 240)) ∙ count-11 .1 },
-  record { size = 44640; commands = busy 31 690; month = count-31 .0; busy = lines-count (left 31 690) (reached 44640 (busy 31 690)) ∙ count-31 .1 },
+  record { size = 15840; commands = elevenDays; month = count-11 .0; busy = lines-count (left 15840 elevenDays) (reached 15840 elevenDays) ∙ count-11 .1 },
+  record { size = 44700; commands = october; month = count-31 .0; busy = lines-count (left 44700 october) (reached 44700 october) ∙ count-31 .1 },
 )

@@ -12,7 +12,7 @@ use Rattle.energy.proofs.Tests.{T-and}
 use Rattle.rules.specs.File.{table, widthsOf, total, wordFrom, bytesOf, operands, writeOperands, widthsFor, write}
 use Rattle.rules.specs.Reread.{fit}
 use Rattle.commands.specs.declared.entries.Command.{Command}
-use Rattle.commands.specs.declared.entries.Command.the-variants.{Contract as contractᶜ, Window as windowᶜ, Instruction as instructionᶜ}
+use Rattle.commands.specs.declared.entries.Command.the-variants.{Contract as contractᶜ, Date as dateᶜ, Window as windowᶜ, Instruction as instructionᶜ}
 use Rattle.commands.specs.declared.entries.Command.the-variants.{Default as defaultᶜ, Reading as readingᶜ, Revision as revisionᶜ}
 use Rattle.commands.specs.declared.entries.Command.the-variants.{Close as closeᶜ}
 
@@ -62,6 +62,7 @@ length-operands (w ∷ ws) (n ∷ v) t =
 pub write-long : (c : Command) → length (write c) ≡ 1 + total (widthsFor c)
 unfolding table widthsOf total bytesOf writeOperands write
 write-long (contractᶜ k) = refl
+write-long (dateᶜ d) = refl
 write-long (windowᶜ w) = refl
 write-long (instructionᶜ i) = refl
 write-long (defaultᶜ d) = refl

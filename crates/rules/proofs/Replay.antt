@@ -1,29 +1,34 @@
--- Commands that are all taken one after the other, and what they leave: in general, and for the tables under a contract.
+-- Commands that are all taken one after the other, and what they leave: in general, and for the date and the tables under a contract.
 use mathlib.Core.Path.{_≡_, refl, sym, ap, _∙_, subst}
-use mathlib.Core.Bool.{Bool, false, not, _&&_}
+use mathlib.Core.Bool.{Bool, true, false, not, _&&_}
 use mathlib.Core.List.{List, [], _∷_, _++_, map, append-nil}
 use mathlib.Core.Option.{Option, none}
-use Prim.Native.Nat.{ℕ, _+_, _≤_, _<_}
+use Prim.Native.Nat.{ℕ, _+_, _≤_, _<_, max}
+use native.Mathlib.Nat.{max-eq-right}
 use native.Mathlib.Omega.{arith}
 use borrow.Author.Tests.{le-ltb, lt-leb}
 use lib.Dec.{T, eqb, ltb, leb→le, ltb→lt}
 use lib.ListN.{length, length-append}
 use lib.Seq.{append-snoc}
-use Rattle.energy.specs.Lists.{all, any, concatMap, first, isEmpty, later}
+use Rattle.energy.specs.Lists.{all, any, between, concatMap, first, isEmpty, isSome, later}
+use Rattle.energy.proofs.Sums.{any-none}
+use Rattle.calendar.specs.Calendar.{isDate, daysOf, gainedIn}
+use Rattle.calendar.specs.declared.Date.{Date}
 use Rattle.energy.proofs.Tests.{T-and, of-T}
 use Rattle.commands.specs.Input.{firstMet, inRange, rampTooLong, badWindow}
-use Rattle.rules.specs.Ledger.{Ledger, Metered, ledgerOf, contractOf, spanOf, spanIn, cellsIn, expiry, endOf, within, readingOf}
+use Rattle.rules.specs.Ledger.{Ledger, Metered, ledgerOf, contractOf, dateOf, spanOf, fullSpan, spanIn, cellsIn, expiry, endOf, within, readingOf}
 use Rattle.rules.specs.Refusal.{conditions, refusal, joined, takenAfter}
-use Rattle.rules.specs.Reached.{windowsSound, instructionsSound, defaultSound}
+use Rattle.rules.specs.Reached.{dateSound, windowsSound, instructionsSound, defaultSound}
 use Rattle.commands.specs.declared.contract.Contract.{Contract}
 use Rattle.commands.specs.declared.entries.Window.{Window}
 use Rattle.commands.specs.declared.entries.Instruction.{Instruction}
 use Rattle.commands.specs.declared.entries.Default.{Default}
 use Rattle.commands.specs.declared.entries.Command.{Command}
-use Rattle.commands.specs.declared.entries.Command.the-variants.{Contract as contractᶜ, Window as windowᶜ, Instruction as instructionᶜ, Default as defaultᶜ}
+use Rattle.commands.specs.declared.entries.Command.the-variants.{Contract as contractᶜ, Date as dateᶜ, Window as windowᶜ}
+use Rattle.commands.specs.declared.entries.Command.the-variants.{Instruction as instructionᶜ, Default as defaultᶜ}
 use Rattle.commands.proofs.Chain.{chain, apart, not-on}
 use Rattle.rules.proofs.Taken.{grown, ledgerOf-snoc}
-use Rattle.rules.proofs.Span.{span-same, cells-same, cells-new}
+use Rattle.rules.proofs.Span.{span-same, cells-same}
 use Rattle.rules.proofs.Tables.{windowTests, instructionTests, lastOf, last-of, last-snoc, lastEnd, ready, ready-recovered}
 
 -- ---- commands that are all taken
@@ -91,48 +96,86 @@ module _ {A : Type 0} (size room : ℕ) (command : A → Command) (holding : Lis
 
 -- ---- under a contract
 
--- what has been entered under a contract
-abbrev pub held : Contract → List Window → List Instruction → List Default → Bool → (ℕ → Option Metered) → Ledger
-held k ws is ds z f = record { contracts = k ∷ []; windows = ws; instructions = is; defaults = ds; closed = z; reading = f }
+-- what has been entered under a contract with these dates
+abbrev pub held : Contract → List Date → List Window → List Instruction → List Default → Bool → (ℕ → Option Metered) → Ledger
+held k dates ws is ds z f = record { contracts = k ∷ []; dates = dates; windows = ws; instructions = is; defaults = ds; closed = z; reading = f }
 
 -- no reading in any minute
 abbrev pub unread : ℕ → Option Metered
 unread m = none
 
--- a contract alone
-abbrev pub agreedOn : Contract → Ledger
-agreedOn k = held k [] [] [] false unread
+-- a contract with these dates alone
+abbrev pub agreedOn : Contract → List Date → Ledger
+agreedOn k dates = held k dates [] [] [] false unread
 
--- a contract whose span it is, and for which lent memory has the cells
-module _ (size : ℕ) (k : Contract) (span : ℕ) (spans : spanIn (agreedOn k) ≡ span) (fit : cellsIn (agreedOn k) ≤ size) where
-  -- so with entries under it
-  span-held : (ws : List Window) (is : List Instruction) (ds : List Default) → spanIn (held k ws is ds false unread) ≡ span
-  span-held ws is ds = span-same (held k ws is ds false unread) (agreedOn k) refl ∙ spans
+-- ---- the contract
 
-  cells-held : (ws : List Window) (is : List Instruction) (ds : List Default) → ltb size (cellsIn (held k ws is ds false unread)) ≡ false
-  cells-held ws is ds = le-ltb size (cellsIn (held k ws is ds false unread)) (omega (arith, cells-same (held k ws is ds false unread) (agreedOn k) refl))
-
-  none-yet : ledgerOf [] .contracts ≡ []
-  unfolding ledgerOf concatMap
-  none-yet = refl
-
-  own-cells : spanOf k ≤ size
-  unfolding ledgerOf concatMap any readingOf later
-  own-cells = omega (arith, cells-new (ledgerOf []) k none-yet)
-
+module _ (size : ℕ) (k : Contract) (fit : spanOf k ≤ size) where
   contract-taken : T (inRange (contractᶜ k)) → T (not (rampTooLong (contractᶜ k))) → refusal false size (ledgerOf []) (contractᶜ k) ≡ none
   unfolding refusal conditions firstMet isEmpty ledgerOf concatMap any
-  contract-taken t s = rw (of-T (inRange (contractᶜ k)) t, not-on (rampTooLong (contractᶜ k)) s, le-ltb size (spanOf k) own-cells)
+  contract-taken t s = rw (of-T (inRange (contractᶜ k)) t, not-on (rampTooLong (contractᶜ k)) s, le-ltb size (spanOf k) fit)
 
   -- the contract of an untouched ledger
   pub contract-replay : T (inRange (contractᶜ k)) → T (not (rampTooLong (contractᶜ k)))
-      → Replays size (ledgerOf []) (contractᶜ k ∷ []) (held k [] [] [] false unread)
+      → Replays size (ledgerOf []) (contractᶜ k ∷ []) (agreedOn k [])
   unfolding ledgerOf concatMap any readingOf later
   contract-replay t s = replay-cons (contract-taken t s) refl (replay-none refl)
 
+-- ---- the date
+
+-- no minute of an unread span has a reading
+all-unread : (span : ℕ) → any (λ m. isSome (unread m)) (between 0 span) ≡ false
+unfolding isSome
+all-unread span = any-none (λ m. isSome (unread m)) 0 span (λ m h l. refl)
+
+-- a contract alone asks for its own cells
+alone-cells : (k : Contract) → cellsIn (agreedOn k []) ≡ spanOf k
+unfolding cellsIn contractOf dateOf first gainedIn
+alone-cells k = omega arith
+
+-- what is asked of a date under a contract alone is what the contract asks with it
+dated-cells : (k : Contract) (d : Date) → max (cellsIn (agreedOn k [])) (fullSpan k d) ≡ cellsIn (agreedOn k (d ∷ []))
+unfolding cellsIn contractOf dateOf first
+dated-cells k d = max-eq-right (omega (arith, alone-cells k))
+
+module _ (size : ℕ) (k : Contract) (d : Date) (fit : cellsIn (agreedOn k (d ∷ [])) ≤ size) where
+  date-taken : T (dateSound k d) → refusal false size (agreedOn k []) (dateᶜ d) ≡ none
+  unfolding refusal conditions firstMet contractOf first isEmpty
+  date-taken t =
+      let p = apart (isDate d) (eqb (d .day) 1 ∷ eqb (daysOf (d .year) (d .month)) (k .days) ∷ []) t in
+      rw (
+        of-T (isDate d) (p .0),
+        dated-cells k d,
+        le-ltb size (cellsIn (agreedOn k (d ∷ []))) fit,
+        all-unread (spanIn (agreedOn k [])),
+        of-T (eqb (d .day) 1) (p .1 .0),
+        of-T (eqb (daysOf (d .year) (d .month)) (k .days)) (p .1 .1 .0),
+      )
+
+-- the dates of a contract alone: none, or one that is sound
+pub dates-replay : (size : ℕ) (k : Contract) (dates : List Date) → length dates ≤ 1 → T (all (dateSound k) dates) → cellsIn (agreedOn k dates) ≤ size
+    → Replays size (agreedOn k []) (map dateᶜ dates) (agreedOn k dates)
+unfolding all later
+dates-replay size k [] l t h = replay-none refl
+dates-replay size k (d ∷ []) l t h = replay-cons (date-taken size k d h (T-and (dateSound k d) true t .0)) refl (replay-none refl)
+dates-replay size k (d ∷ e ∷ dates) l t h = absurd (omega arith)
+
+-- ---- the tables
+
+-- a contract and dates whose span it is, and for which lent memory has the cells
+module _ (size : ℕ) (k : Contract) (dates : List Date) (span : ℕ) (spans : spanIn (agreedOn k dates) ≡ span) (fit : cellsIn (agreedOn k dates) ≤ size) where
+  -- so with entries under it
+  span-held : (ws : List Window) (is : List Instruction) (ds : List Default) → spanIn (held k dates ws is ds false unread) ≡ span
+  span-held ws is ds = span-same (held k dates ws is ds false unread) (agreedOn k dates) refl refl ∙ spans
+
+  cells-held : (ws : List Window) (is : List Instruction) (ds : List Default) → ltb size (cellsIn (held k dates ws is ds false unread)) ≡ false
+  cells-held ws is ds =
+      le-ltb size (cellsIn (held k dates ws is ds false unread))
+      (omega (arith, cells-same (held k dates ws is ds false unread) (agreedOn k dates) refl refl))
+
   -- a window that could be taken next is taken, and leaves the rest so
   window-taken : (ws : List Window) (w : Window) (rest : List Window) → T (windowsSound k span (lastEnd 0 ws) (w ∷ rest)) → length ws < 128
-      → (refusal false size (held k ws [] [] false unread) (windowᶜ w) ≡ none) × T (windowsSound k span (lastEnd 0 (ws ++ (w ∷ []))) rest)
+      → (refusal false size (held k dates ws [] [] false unread) (windowᶜ w) ≡ none) × T (windowsSound k span (lastEnd 0 (ws ++ (w ∷ []))) rest)
   unfolding refusal conditions firstMet contractOf first isEmpty windowsSound
   window-taken ws w rest t l =
       let rejected : Bool = eqb (k .service) 0 && eqb (w .verdict) 1 in
@@ -155,16 +198,16 @@ module _ (size : ℕ) (k : Contract) (span : ℕ) (spans : spanIn (agreedOn k) �
 
   -- all windows
   pub windows-replay : (ws : List Window) → T (windowsSound k span 0 ws) → length ws ≤ 128
-      → Replays size (held k [] [] [] false unread) (map windowᶜ ws) (held k ws [] [] false unread)
+      → Replays size (held k dates [] [] [] false unread) (map windowᶜ ws) (held k dates ws [] [] false unread)
   unfolding lastOf later
   windows-replay ws t l =
-      table-replay size 128 windowᶜ (λ ws. held k ws [] [] false unread) (λ ws rest. T (windowsSound k span (lastEnd 0 ws) rest)) (λ ws w. refl) window-taken
+      table-replay size 128 windowᶜ (λ ws. held k dates ws [] [] false unread) (λ ws rest. T (windowsSound k span (lastEnd 0 ws) rest)) (λ ws w j. held k (append-nil dates j) (ws ++ (w ∷ [])) [] [] false unread) window-taken
       [] ws t (omega arith)
 
   -- an instruction
   instruction-taken : (ws : List Window) (is : List Instruction) (i : Instruction) (rest : List Instruction)
       → T (instructionsSound k span (ready k 0 is) (i ∷ rest)) → length is < 64
-      → (refusal false size (held k ws is [] false unread) (instructionᶜ i) ≡ none) × T (instructionsSound k span (ready k 0 (is ++ (i ∷ []))) rest)
+      → (refusal false size (held k dates ws is [] false unread) (instructionᶜ i) ≡ none) × T (instructionsSound k span (ready k 0 (is ++ (i ∷ []))) rest)
   unfolding refusal conditions firstMet contractOf first isEmpty instructionsSound
   instruction-taken ws is i rest t l =
       let tests : List Bool = instructionTests k span (ready k 0 is) i in
@@ -185,17 +228,17 @@ module _ (size : ℕ) (k : Contract) (span : ℕ) (spans : spanIn (agreedOn k) �
 
   -- all instructions
   pub instructions-replay : (ws : List Window) (is : List Instruction) → T (instructionsSound k span 0 is) → length is ≤ 64
-      → Replays size (held k ws [] [] false unread) (map instructionᶜ is) (held k ws is [] false unread)
+      → Replays size (held k dates ws [] [] false unread) (map instructionᶜ is) (held k dates ws is [] false unread)
   unfolding lastOf later
   instructions-replay ws is t l =
-      table-replay size 64 instructionᶜ (λ is. held k ws is [] false unread) (λ is rest. T (instructionsSound k span (ready k 0 is) rest))
-      (λ is i j. held k (append-nil ws j) (is ++ (i ∷ [])) [] false unread) (instruction-taken ws)
+      table-replay size 64 instructionᶜ (λ is. held k dates ws is [] false unread) (λ is rest. T (instructionsSound k span (ready k 0 is) rest))
+      (λ is i j. held k (append-nil dates j) (append-nil ws j) (is ++ (i ∷ [])) [] false unread) (instruction-taken ws)
       [] is t (omega arith)
 
   -- a default
   default-taken : (ws : List Window) (is : List Instruction) (ds : List Default) (d : Default) (rest : List Default)
       → T (all (defaultSound k span ws) (d ∷ rest)) → length ds < 128
-      → (refusal false size (held k ws is ds false unread) (defaultᶜ d) ≡ none) × T (all (defaultSound k span ws) rest)
+      → (refusal false size (held k dates ws is ds false unread) (defaultᶜ d) ≡ none) × T (all (defaultSound k span ws) rest)
   unfolding refusal conditions firstMet contractOf first isEmpty all
   default-taken ws is ds d rest t l =
       let q = T-and (defaultSound k span ws d) (all (defaultSound k span ws) rest) t in
@@ -214,9 +257,9 @@ module _ (size : ℕ) (k : Contract) (span : ℕ) (spans : spanIn (agreedOn k) �
 
   -- all defaults
   pub defaults-replay : (ws : List Window) (is : List Instruction) (ds : List Default) → T (all (defaultSound k span ws) ds) → length ds ≤ 128
-      → Replays size (held k ws is [] false unread) (map defaultᶜ ds) (held k ws is ds false unread)
+      → Replays size (held k dates ws is [] false unread) (map defaultᶜ ds) (held k dates ws is ds false unread)
   unfolding later
   defaults-replay ws is ds t l =
-      table-replay size 128 defaultᶜ (λ ds. held k ws is ds false unread) (λ ds rest. T (all (defaultSound k span ws) rest))
-      (λ ds d j. held k (append-nil ws j) (append-nil is j) (ds ++ (d ∷ [])) false unread) (default-taken ws is)
+      table-replay size 128 defaultᶜ (λ ds. held k dates ws is ds false unread) (λ ds rest. T (all (defaultSound k span ws) rest))
+      (λ ds d j. held k (append-nil dates j) (append-nil ws j) (append-nil is j) (ds ++ (d ∷ [])) false unread) (default-taken ws is)
       [] ds t (omega arith)

@@ -1,6 +1,6 @@
 -- A command written and read again, one after the other in a file, and that reading a file on finds no more.
 use mathlib.Core.Path.{_≡_, refl, sym, ap, _∙_}
-use mathlib.Core.Bool.{Bool, true, false, cond}
+use mathlib.Core.Bool.{Bool, true, false, not, _&&_, _||_, cond}
 use mathlib.Core.List.{List, [], _∷_, _++_, append-nil, append-assoc}
 use mathlib.Core.Option.{Option, none, some}
 use Prim.Native.Nat.{ℕ, zero, suc, _+_, _-_, _^_, _≤_, _<_}
@@ -11,21 +11,24 @@ use lib.Dec.{T, eqb, leb, ltb, leb→le, le→leb}
 use lib.ListN.{length, drop, getD, length-append}
 use lib.Seq.{getD-append-seam, drop-append-add}
 use lib.Signed.{leZ-yes, yes-nonNeg, pos-natAbs}
-use borrow.Author.Tests.{lt-ltb, le-ltb, le-leb, lt-leb}
+use borrow.Author.Tests.{lt-ltb, le-ltb, le-leb, lt-leb, eq-eqb, not-true}
 use Rattle.energy.specs.Lists.{all, concatMap, isSome}
-use Rattle.energy.proofs.Tests.{T-and, and-T}
-use Rattle.commands.specs.Input.{inRange, isReading, meterable, from-to, from-toℤ, mostMinute}
+use Rattle.energy.proofs.Tests.{T-and, and-T, to-T, on-and, off-or, off-not}
+use Rattle.calendar.specs.Calendar.{isDate}
+use Rattle.calendar.proofs.Months.{ranges-of}
+use Rattle.commands.specs.Input.{inRange, isReading, meterable, from-to, from-toℤ, mostMinute, rampTooLong, badWindow, noSuchDate, inputRefusal}
 use Rattle.rules.specs.File.{table, widthsOf, total, signedOf, unsignedOf, operands, commandOf, readAs, readBody, readAt, byteOf, operandsOf}
 use Rattle.rules.specs.File.{writeOperands, widthsFor, write, readOn, commandsFrom, commandsIn}
 use Rattle.rules.specs.Reread.{fit, signFits, fitsBytes, Reread}
 use Rattle.commands.specs.declared.entries.Command.{Command}
-use Rattle.commands.specs.declared.entries.Command.the-variants.{Contract as contractᶜ, Window as windowᶜ, Instruction as instructionᶜ}
+use Rattle.commands.specs.declared.entries.Command.the-variants.{Contract as contractᶜ, Date as dateᶜ, Window as windowᶜ, Instruction as instructionᶜ}
 use Rattle.commands.specs.declared.entries.Command.the-variants.{Default as defaultᶜ, Reading as readingᶜ, Revision as revisionᶜ}
 use Rattle.commands.specs.declared.entries.Command.the-variants.{Close as closeᶜ}
 use Rattle.rules.specs.declared.file.Read.{Read}
 use Rattle.rules.specs.declared.file.Read.the-variants.{Got, End, Refused}
 use Rattle.rules.proofs.Operands.{operands-back, length-operands, write-long}
 use Rattle.commands.proofs.Chain.{apart}
+use Rattle.commands.proofs.Input.{input-none}
 use Rattle.commands.proofs.Terms.{ranges, bounds}
 
 -- ---- a command from its operands
@@ -43,6 +46,7 @@ signed-back (negsuc n) t =
 command-back : (c : Command) → T (signFits c) → commandOf (byteOf c) (operandsOf c) ≡ some c
 unfolding commandOf
 command-back (contractᶜ k) t = rw (pos-natAbs (k .contracted .0) (yes-nonNeg {z = k .contracted .0} (leZ-yes t)))
+command-back (dateᶜ d) t = refl
 command-back (windowᶜ w) t = refl
 command-back (instructionᶜ i) t = refl
 command-back (defaultᶜ d) t = refl
@@ -58,9 +62,9 @@ reading-says (negsuc n) t =
     let h : n ≤ 499999 = leb→le n 499999 (T-and (leb n 499999) true t .0) in
     (and-T (leb n 2147483647) true (le→leb n 2147483647 (omega arith)) tt, omega arith)
 
-ranged : (c : Command) → T (inRange c) → T (fitsBytes c)
+in-bytes : (c : Command) → T (inRange c) → noSuchDate c ≡ false → T (fitsBytes c)
 unfolding fitsBytes fit widthsOf table
-ranged (contractᶜ k) t =
+in-bytes (contractᶜ k) t h =
     let r = ranges k t in
     rw (
       r .positive,
@@ -77,37 +81,47 @@ ranged (contractᶜ k) t =
       lt-ltb (k .utilisation) (256 ^ 4) (omega arith),
       lt-ltb (k .optional) (256 ^ 4) (omega arith),
     ) tt
-ranged (windowᶜ w) t =
+in-bytes (dateᶜ d) t h =
+    let r = ranges-of d (off-not (isDate d) h) in
+    rw (lt-ltb (d .year) (256 ^ 2) (omega arith), lt-ltb (d .month) (256 ^ 1) (omega arith), lt-ltb (d .day) (256 ^ 1) (omega arith)) tt
+in-bytes (windowᶜ w) t h =
     let q = apart (from-to 0 mostMinute (w .start .0)) (from-to 0 mostMinute (w .end .0) ∷ from-to 0 1 (w .verdict) ∷ []) t in
     let a = bounds 0 mostMinute (w .start .0) (q .0) in let b = bounds 0 mostMinute (w .end .0) (q .1 .0) in let v = bounds 0 1 (w .verdict) (q .1 .1 .0) in
     rw (lt-ltb (w .start .0) (256 ^ 2) (omega arith), lt-ltb (w .end .0) (256 ^ 2) (omega arith), lt-ltb (w .verdict) (256 ^ 1) (omega arith)) tt
-ranged (instructionᶜ i) t =
+in-bytes (instructionᶜ i) t h =
     let q = T-and (from-to 3 mostMinute (i .issue .0)) (from-to 0 mostMinute (i .cease .0)) t in
     let a = bounds 3 mostMinute (i .issue .0) (q .0) in let b = bounds 0 mostMinute (i .cease .0) (q .1) in
     rw (lt-ltb (i .issue .0) (256 ^ 2) (omega arith), lt-ltb (i .cease .0) (256 ^ 2) (omega arith)) tt
-ranged (defaultᶜ d) t =
+in-bytes (defaultᶜ d) t h =
     let q = apart (from-to 0 mostMinute (d .minute .0)) (from-to 1 4 (d .kind) ∷ from-to 1 3 (d .reach) ∷ []) t in
     let m = bounds 0 mostMinute (d .minute .0) (q .0) in let a = bounds 1 4 (d .kind) (q .1 .0) in let b = bounds 1 3 (d .reach) (q .1 .1 .0) in
     rw (lt-ltb (d .minute .0) (256 ^ 2) (omega arith), lt-ltb (d .kind) (256 ^ 1) (omega arith), lt-ltb (d .reach) (256 ^ 1) (omega arith)) tt
-ranged (readingᶜ r) t =
+in-bytes (readingᶜ r) t h =
     let q = T-and (from-to 0 mostMinute (r .minute .0)) (isReading (r .kw .0)) t in
     let m = bounds 0 mostMinute (r .minute .0) (q .0) in let z = reading-says (r .kw .0) (q .1) in
     and-T (signFits (readingᶜ r)) (fit (2 ∷ 4 ∷ []) (operandsOf (readingᶜ r))) (z .0)
     (rw (lt-ltb (r .minute .0) (256 ^ 2) (omega arith), lt-ltb (unsignedOf (r .kw .0)) (256 ^ 4) (omega arith)) tt)
-ranged (revisionᶜ v) t =
+in-bytes (revisionᶜ v) t h =
     let r = v .reading in
     let p = T-and (from-to 1 255 (v .number)) (meterable r) t in
     let q = T-and (from-to 0 mostMinute (r .minute .0)) (isReading (r .kw .0)) (p .1) in
     let n = bounds 1 255 (v .number) (p .0) in let m = bounds 0 mostMinute (r .minute .0) (q .0) in let z = reading-says (r .kw .0) (q .1) in
     and-T (signFits (revisionᶜ v)) (fit (2 ∷ 1 ∷ 4 ∷ []) (operandsOf (revisionᶜ v))) (z .0)
     (rw (lt-ltb (r .minute .0) (256 ^ 2) (omega arith), lt-ltb (v .number) (256 ^ 1) (omega arith), lt-ltb (unsignedOf (r .kw .0)) (256 ^ 4) (omega arith)) tt)
-ranged closeᶜ t = tt
+in-bytes closeᶜ t h = tt
+
+ranged : (c : Command) → inputRefusal c ≡ 0 → T (fitsBytes c)
+ranged c e =
+    let p = on-and (inRange c) (not (rampTooLong c) && not (noSuchDate c || badWindow c)) (sym (input-none c) ∙ eq-eqb (inputRefusal c) 0 e) in
+    let q = on-and (not (rampTooLong c)) (not (noSuchDate c || badWindow c)) (p .1) in
+    in-bytes c (to-T (p .0)) (off-or (noSuchDate c) (badWindow c) (not-true (noSuchDate c || badWindow c) (q .1)) .0)
 
 -- ---- one command read where it stands
 
 in-table : (c : Command) → widthsOf (byteOf c) table ≡ some (widthsFor c)
 unfolding widthsOf table
 in-table (contractᶜ k) = refl
+in-table (dateᶜ d) = refl
 in-table (windowᶜ w) = refl
 in-table (instructionᶜ i) = refl
 in-table (defaultᶜ d) = refl
@@ -204,8 +218,8 @@ same-fuel (suc f) (suc h) s at p q = go (readAt s at) (forward s at) (λ next a 
 known : (b : ℕ) (v : List ℕ) → isSome (commandOf b v) ≡ isSome (widthsOf b table)
 unfolding isSome commandOf widthsOf table
 known b v =
-    both (eqb 0x43 b) _ _ _ _ (both (eqb 0x57 b) _ _ _ _ (both (eqb 0x49 b) _ _ _ _ (both (eqb 0x44 b) _ _ _ _
-    (both (eqb 0x4D b) _ _ _ _ (both (eqb 0x52 b) _ _ _ _ (both (eqb 0x5A b) _ _ none none refl))))))
+    both (eqb 0x43 b) _ _ _ _ (both (eqb 0x54 b) _ _ _ _ (both (eqb 0x57 b) _ _ _ _ (both (eqb 0x49 b) _ _ _ _ (both (eqb 0x44 b) _ _ _ _
+    (both (eqb 0x4D b) _ _ _ _ (both (eqb 0x52 b) _ _ _ _ (both (eqb 0x5A b) _ _ none none refl)))))))
   where
     -- one byte more
     both : (t : Bool) (c : Command) (ws : List ℕ) (o : Option Command) (p : Option (List ℕ)) → isSome o ≡ isSome p

@@ -1,4 +1,4 @@
--- A ledger that commands leave is left again by the commands that it is written as: the contract and the tables, then each reading in its turn, then the close.
+-- A ledger that commands leave is left again by the commands that it is written as: the contract, the date and the tables, then each reading in its turn, then the close.
 use mathlib.Core.Path.{_≡_, refl, sym, ap, _∙_, subst, fun-ext}
 use mathlib.Core.Bool.{Bool, true, false, cond}
 use mathlib.Core.List.{List, [], _∷_, _++_, append-nil}
@@ -12,7 +12,9 @@ use lib.IntN.{ℤ}
 use Rattle.energy.specs.Lists.{all, any, between, concatMap, first, isEmpty, isSome, later, run}
 use Rattle.energy.proofs.Tests.{and-T, of-T, either, either-eq}
 use Rattle.commands.specs.Input.{isReading, firstMet, mostMinute}
-use Rattle.rules.specs.Ledger.{Ledger, Metered, ledgerOf, contractOf, spanIn, cellsIn, readingOf}
+use Rattle.calendar.specs.Calendar.{gainedIn, lostIn}
+use Rattle.calendar.specs.declared.Date.{Date}
+use Rattle.rules.specs.Ledger.{Ledger, Metered, ledgerOf, contractOf, dateOf, spanIn, cellsIn, readingOf}
 use Rattle.rules.specs.Refusal.{conditions, refusal, taken}
 use Rattle.rules.specs.Reached.{Untouched, Agreed, Reached}
 use Rattle.rules.specs.Reached.Reached.{untouched, agreed}
@@ -23,12 +25,12 @@ use Rattle.commands.specs.declared.contract.Contract.{Contract}
 use Rattle.commands.specs.declared.entries.Command.{Command}
 use Rattle.commands.specs.declared.entries.Command.the-variants.{Close as closeᶜ}
 use Rattle.commands.proofs.Terms.{Terms}
-use Rattle.rules.proofs.Taken.{later-none, grown, allowed}
-use Rattle.rules.proofs.Reached.{Parts, parts-of, terms-of}
-use Rattle.rules.proofs.Span.{span-cells, cells-most, span-same, cells-same}
+use Rattle.rules.proofs.Taken.{later-none, grown, allowed, input-clear}
+use Rattle.rules.proofs.Reached.{PartsOf, parts-of, terms-of}
+use Rattle.rules.proofs.Span.{span-cells, cells-most, span-same, cells-same, own-cells}
 use Rattle.rules.proofs.Reread.{reread}
 use Rattle.rules.proofs.Replay.{Accepted, all-taken, ledger-grown, Replays, replay-none, replay-cons, replay-append, held, unread, agreedOn}
-use Rattle.rules.proofs.Replay.{contract-replay, windows-replay, instructions-replay, defaults-replay}
+use Rattle.rules.proofs.Replay.{contract-replay, dates-replay, windows-replay, instructions-replay, defaults-replay}
 
 -- ---- readings before a minute
 
@@ -54,15 +56,15 @@ with-none o false = refl
 
 -- ---- a ledger under a contract
 
--- the contract and tables of g
+-- the contract, dates and tables of g
 abbrev tablesOf : Ledger → Bool → (ℕ → Option Metered) → Ledger
-tablesOf g z f = held (contractOf g) (g .windows) (g .instructions) (g .defaults) z f
+tablesOf g z f = held (contractOf g) (g .dates) (g .windows) (g .instructions) (g .defaults) z f
 
 -- an entry in none of the tables leaves them
 tables-kept : (g : Ledger) (z : Bool) {f f′ : ℕ → Option Metered} → ((m : ℕ) → f m ≡ f′ m)
-    → held (contractOf g) (g .windows ++ []) (g .instructions ++ []) (g .defaults ++ []) z f ≡ tablesOf g z f′
+    → held (contractOf g) (g .dates ++ []) (g .windows ++ []) (g .instructions ++ []) (g .defaults ++ []) z f ≡ tablesOf g z f′
 tables-kept g z e j =
-    held (contractOf g) (append-nil (g .windows) j) (append-nil (g .instructions) j) (append-nil (g .defaults) j) z (λ m. e m j)
+    held (contractOf g) (append-nil (g .dates) j) (append-nil (g .windows) j) (append-nil (g .instructions) j) (append-nil (g .defaults) j) z (λ m. e m j)
 
 module _ {size : ℕ} {g : Ledger} (a : Agreed size g) (bytes : Revised g) where
   -- what is tested of the reading of a minute, whatever its revision
@@ -91,7 +93,7 @@ module _ {size : ℕ} {g : Ledger} (a : Agreed size g) (bytes : Revised g) where
   metered-replay : (m : ℕ) (kw : ℤ) (n : ℕ) → g .reading m ≡ some (record { kw = kw; revision = n })
       → Replays size (tablesOf g false (before (g .reading) m)) (readingAt (some (record { kw = kw; revision = n })) m)
       (tablesOf g false (before (g .reading) (suc m)))
-  unfolding refusal conditions firstMet spanIn cellsIn contractOf first isEmpty isSome later
+  unfolding refusal conditions firstMet spanIn cellsIn contractOf dateOf first isEmpty isSome later
   metered-replay m kw zero e =
       let x : Metered = record { kw = kw; revision = zero } in let t = tests m x e in
       replay-cons (rw (t .least, t .most, t .range, t .cells, t .inside, t .bare)) (tables-kept g false (with-next (g .reading) m (some x) e))
@@ -142,7 +144,7 @@ module _ {size : ℕ} {g : Ledger} (a : Agreed size g) (bytes : Revised g) where
 
   -- the close
   close-replay : (z : Bool) → Replays size (tablesOf g false (g .reading)) (cond z (closeᶜ ∷ []) []) (tablesOf g z (g .reading))
-  unfolding refusal conditions firstMet spanIn cellsIn contractOf first isEmpty later
+  unfolding refusal conditions firstMet spanIn cellsIn contractOf dateOf first isEmpty later
   close-replay false = replay-none refl
   close-replay true = replay-cons (rw (le-ltb size (cellsIn g) (a .cells))) (tables-kept g true (λ m. refl)) (replay-none refl)
 
@@ -152,18 +154,21 @@ module _ {size : ℕ} {g : Ledger} (a : Agreed size g) (bytes : Revised g) where
 
   -- all that it is written as
   agreed-replay : Replays size (ledgerOf []) (written g) g
-  unfolding written spanIn contractOf first
+  unfolding written spanIn contractOf dateOf first
   agreed-replay =
       let k : Contract = contractOf g in
-      let p : Parts k (spanIn g) (g .windows) (g .instructions) (g .defaults) = parts-of a in
-      let spans : spanIn (agreedOn k) ≡ spanIn g = span-same (agreedOn k) g (sym (a .contract)) in
-      let cells : cellsIn (agreedOn k) ≤ size = omega (arith, cells-same (agreedOn k) g (sym (a .contract)), a .cells) in
-      let contract = contract-replay size k (spanIn g) spans cells (p .operands) (p .ramps) in
-      let windows = windows-replay size k (spanIn g) spans cells (g .windows) (p .windows) (a .windows) in
-      let instructions = instructions-replay size k (spanIn g) spans cells (g .windows) (g .instructions) (p .instructions) (a .instructions) in
-      let defaults = defaults-replay size k (spanIn g) spans cells (g .windows) (g .instructions) (g .defaults) (p .defaults) (a .defaults) in
+      let dates : List Date = g .dates in
+      let p : PartsOf g = parts-of a in
+      let spans : spanIn (agreedOn k dates) ≡ spanIn g = span-same (agreedOn k dates) g (sym (a .contract)) refl in
+      let cells : cellsIn (agreedOn k dates) ≤ size = omega (arith, cells-same (agreedOn k dates) g (sym (a .contract)) refl, a .cells) in
+      let contract = contract-replay size k (omega (arith, own-cells (agreedOn k dates), cells)) (p .operands) (p .ramps) in
+      let dated = dates-replay size k dates (a .dates) (a .dated) cells in
+      let windows = windows-replay size k dates (spanIn g) spans cells (g .windows) (p .windows) (a .windows) in
+      let instructions = instructions-replay size k dates (spanIn g) spans cells (g .windows) (g .instructions) (p .instructions) (a .instructions) in
+      let defaults = defaults-replay size k dates (spanIn g) spans cells (g .windows) (g .instructions) (g .defaults) (p .defaults) (a .defaults) in
       subst (λ h. Replays size (ledgerOf []) (written h) h) whole
-      (replay-append (replay-append (replay-append (replay-append (replay-append contract windows) instructions) defaults) readings-replay)
+      (replay-append
+      (replay-append (replay-append (replay-append (replay-append (replay-append contract dated) windows) instructions) defaults) readings-replay)
       (close-replay (g .closed)))
 
 -- ---- an untouched ledger
@@ -173,6 +178,7 @@ unfolding ledgerOf concatMap any readingOf
 nothing u j =
     record {
       contracts = sym (u .contracts) j;
+      dates = sym (u .dates) j;
       windows = sym (u .windows) j;
       instructions = sym (u .instructions) j;
       defaults = sym (u .defaults) j;
@@ -181,7 +187,7 @@ nothing u j =
     }
 
 untouched-replay : (size : ℕ) {g : Ledger} → Untouched g → Replays size (ledgerOf []) (written g) g
-unfolding written ledgerOf concatMap any spanIn contractOf first between run
+unfolding written ledgerOf concatMap any spanIn contractOf dateOf first gainedIn lostIn between run
 untouched-replay size u = subst (λ h. Replays size (ledgerOf []) (written h) h) (nothing u) (replay-none refl)
 
 -- ---- every ledger that commands leave
@@ -203,7 +209,7 @@ pub accepted-sayable : (size : ℕ) (g : Ledger) (cs : List Command) → Accepte
 unfolding Accepted all
 accepted-sayable size g [] h = tt
 accepted-sayable size g (c ∷ cs) h =
-    and-T (fitsBytes c) (all fitsBytes cs) (reread .ranged c (allowed size g c (h .0) .input .operands)) (accepted-sayable size (grown g c) cs (h .1))
+    and-T (fitsBytes c) (all fitsBytes cs) (reread .ranged c (input-clear c (allowed size g c (h .0) .input))) (accepted-sayable size (grown g c) cs (h .1))
 
 -- the file that a ledger is written as has its commands
 pub file-commands : (size : ℕ) (g : Ledger) → Reached size g → Revised g → commandsIn (fileOf g) ≡ written g

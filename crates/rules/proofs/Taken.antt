@@ -5,11 +5,15 @@ use mathlib.Core.List.{List, [], _∷_, _++_, append-nil, append-assoc}
 use mathlib.Core.Option.{Option, none, some, Option·none-ne-some}
 use Prim.Native.Nat.{ℕ}
 use lib.Dec.{T, ltb}
+use borrow.Author.Tests.{eqb-true}
 use Rattle.energy.specs.Lists.{concatMap, isEmpty, later}
-use Rattle.energy.proofs.Tests.{off-not, any-snoc, either}
-use Rattle.commands.specs.Input.{Condition, firstMet, inRange, rampTooLong, badWindow, inputConditions}
-use Rattle.rules.specs.Ledger.{Ledger, ledgerOf, contractIn, windowIn, instructionIn, defaultIn, isClose, isContract, readingIn, readingOf}
-use Rattle.rules.specs.Refusal.{bookConditions, kindConditions, conditions, refusal, joined, takenAfter, cellsFor, beyondSpan}
+use Rattle.energy.proofs.Tests.{off-not, of-T, any-snoc, either}
+use Rattle.commands.specs.Input.{Condition, firstMet, inRange, rampTooLong, badWindow, noSuchDate, inputConditions, inputRefusal}
+use Rattle.commands.proofs.Input.{input-none}
+use Rattle.rules.specs.Ledger.{Ledger, ledgerOf, contractIn, dateIn, windowIn, instructionIn, defaultIn, isClose, isContract, readingIn}
+use Rattle.rules.specs.Ledger.{readingOf}
+use Rattle.rules.specs.Refusal.{bookConditions, kindConditions, conditions, refusal, joined, takenAfter, cellsFor}
+use Rattle.rules.specs.Refusal.{dateLate, otherMonth, beyondSpan}
 use Rattle.rules.specs.Refusal.{rejectedCommitted, windowOverlaps, ceaseEarly, issueEarly, outsideWindows, hasReading, revisionHeld, tableFull}
 use Rattle.commands.specs.declared.entries.Command.{Command}
 
@@ -20,6 +24,7 @@ abbrev pub grown : Ledger → Command → Ledger
 grown g c =
     record {
       contracts = g .contracts ++ contractIn c;
+      dates = g .dates ++ dateIn c;
       windows = g .windows ++ windowIn c;
       instructions = g .instructions ++ instructionIn c;
       defaults = g .defaults ++ defaultIn c;
@@ -56,6 +61,7 @@ unfolding ledgerOf
 ledgerOf-snoc t c i =
     record {
       contracts = concatMap-snoc contractIn t c i;
+      dates = concatMap-snoc dateIn t c i;
       windows = concatMap-snoc windowIn t c i;
       instructions = concatMap-snoc instructionIn t c i;
       defaults = concatMap-snoc defaultIn t c i;
@@ -96,6 +102,7 @@ pub record InputAllowed (c : Command) : Type 0 where
   pub operands : T (inRange c)
   pub ramps : rampTooLong c ≡ false
   pub shape : badWindow c ≡ false
+  pub dated : noSuchDate c ≡ false
 
 -- from the book
 pub record BookAllowed (size : ℕ) (g : Ledger) (c : Command) : Type 0 where
@@ -106,6 +113,8 @@ pub record BookAllowed (size : ℕ) (g : Ledger) (c : Command) : Type 0 where
 
 -- from its kind
 pub record KindAllowed (g : Ledger) (c : Command) : Type 0 where
+  pub early : dateLate g c ≡ false
+  pub month : otherMonth g c ≡ false
   pub inside : beyondSpan g c ≡ false
   pub verdict : rejectedCommitted g c ≡ false
   pub after : windowOverlaps g c ≡ false
@@ -122,7 +131,7 @@ pub record Allowed (size : ℕ) (g : Ledger) (c : Command) : Type 0 where
   pub kind : KindAllowed g c
 
 input-allowed : (c : Command) → Clear (inputConditions c) → InputAllowed c
-input-allowed c h = record { operands = off-not (inRange c) (h .0); ramps = h .1 .0; shape = h .1 .1 .0 }
+input-allowed c h = record { operands = off-not (inRange c) (h .0); ramps = h .1 .0; shape = h .1 .1 .0; dated = h .1 .1 .1 .0 }
 
 book-allowed : (unsound : Bool) (size : ℕ) (g : Ledger) (c : Command) → Clear (bookConditions unsound size g c) → BookAllowed size g c
 book-allowed unsound size g c h =
@@ -131,8 +140,10 @@ book-allowed unsound size g c h =
 
 kind-allowed : (g : Ledger) (c : Command) → Clear (kindConditions g c) → KindAllowed g c
 kind-allowed g c h =
-    let (inside, (verdict, (after, (ceased, (recovered, (windowed, (unread, (above, (room, end))))))))) = h in
+    let (early, (month, (inside, (verdict, (after, (ceased, (recovered, (windowed, (unread, (above, (room, end))))))))))) = h in
     record {
+      early = early;
+      month = month;
       inside = inside;
       verdict = verdict;
       after = after;
@@ -151,6 +162,11 @@ allowed size g c e =
     let first = clear-apart (inputConditions c) (book ++ kindConditions g c) (clear (conditions false size g c) e) in
     let rest = clear-apart book (kindConditions g c) (first .1) in
     record { input = input-allowed c (first .0); book = book-allowed false size g c (rest .0); kind = kind-allowed g c (rest .1) }
+
+-- operands that are not turned down have no number
+pub input-clear : (c : Command) → InputAllowed c → inputRefusal c ≡ 0
+input-clear c a =
+    eqb-true (inputRefusal c) 0 (input-none c ∙ rw (of-T (inRange c) (a .operands), a .ramps, a .dated, a .shape))
 
 -- ---- any list of commands
 

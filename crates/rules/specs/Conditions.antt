@@ -21,9 +21,10 @@ numbers cs = map (λ c. c .number) cs
 
 -- whatever the command, the book and the memory. 1 and 2 are the reader's
 pub record Numbered : Type 0 where
-  -- a command meets 3 to 5 from its input and 11 to 23 from the state, with 27 after 22
+  -- a command meets 3 to 5 and 28 from its input and 11 to 23 from the state, with 29 and 30 after 15 and 27 after 22
   pub command :
-      (unsound : Bool) (size : ℕ) (g : Ledger) (c : Command) → numbers (conditions unsound size g c) ≡ between 3 6 ++ between 11 23 ++ 27 ∷ 23 ∷ []
+      (unsound : Bool) (size : ℕ) (g : Ledger) (c : Command)
+      → numbers (conditions unsound size g c) ≡ between 3 6 ++ 28 ∷ between 11 16 ++ 29 ∷ 30 ∷ between 16 23 ++ 27 ∷ 23 ∷ []
   -- settling meets 11, 15, 24, 25 and 26
   pub settling :
       (unsound : Bool) (size room : ℕ) (g : Ledger) → numbers (settleConditions unsound size room g) ≡ 11 ∷ 15 ∷ 24 ∷ 25 ∷ 26 ∷ []

@@ -84,5 +84,5 @@ pub record Figures : Type 0 where
   pub F12 :
       first (exampleLine 0 0 Up Optional (pos 0) (pos 0) (pos 0) (pos 0)) (lines (ledger (month (set guide service flexible) rejected generated)))
       ≡ exampleLine 1 1 Up Optional (pos 600) (pos 500) (pos 500) (pos 27500)
-  -- the table's whole lengths: contract, window, instruction, default, reading, revision, close
-  pub lengths : map whole table ≡ 32 ∷ 6 ∷ 5 ∷ 5 ∷ 7 ∷ 8 ∷ 1 ∷ []
+  -- the table's whole lengths: contract, date, window, instruction, default, reading, revision, close
+  pub lengths : map whole table ≡ 32 ∷ 5 ∷ 6 ∷ 5 ∷ 5 ∷ 7 ∷ 8 ∷ 1 ∷ []

@@ -8,6 +8,7 @@ use lib.IntN.{ℤ, pos, negsuc, natAbs}
 use lib.Dec.{eqb, leb, ltb}
 use lib.ListN.{length, getD, take, drop}
 use Rattle.energy.specs.Lists.{concatMap, between}
+use Rattle.calendar.specs.declared.Date.{Date}
 use Rattle.rules.specs.Ledger.{Ledger, Metered, spanIn, cellsIn}
 use Rattle.commands.specs.Command.{revisedAs}
 use Rattle.commands.specs.Input.{Condition, _when_}
@@ -18,7 +19,7 @@ use Rattle.commands.specs.declared.entries.Default.{Default}
 use Rattle.commands.specs.declared.entries.Reading.{Reading}
 use Rattle.commands.specs.declared.entries.Revision.{Revision}
 use Rattle.commands.specs.declared.entries.Command.{Command}
-use Rattle.commands.specs.declared.entries.Command.the-variants.{Contract as contractᶜ, Window as windowᶜ, Instruction as instructionᶜ}
+use Rattle.commands.specs.declared.entries.Command.the-variants.{Contract as contractᶜ, Date as dateᶜ, Window as windowᶜ, Instruction as instructionᶜ}
 use Rattle.commands.specs.declared.entries.Command.the-variants.{Default as defaultᶜ, Reading as readingᶜ, Revision as revisionᶜ}
 use Rattle.commands.specs.declared.entries.Command.the-variants.{Close as closeᶜ}
 use Rattle.rules.specs.declared.file.Read.{Read}
@@ -33,10 +34,11 @@ pub record Layout : Type 0 where
 abbrev row : ℕ → List ℕ → Layout
 row b ws = record { byte = b; widths = ws }
 
--- contract, window, instruction, default, reading, revision, close
+-- contract, date, window, instruction, default, reading, revision, close
 unfoldable pub table : List Layout
 table =
     row 0x43 (1 ∷ 1 ∷ 1 ∷ 4 ∷ 4 ∷ 4 ∷ 2 ∷ 2 ∷ 4 ∷ 4 ∷ 4 ∷ [])
+    ∷ row 0x54 (2 ∷ 1 ∷ 1 ∷ [])
     ∷ row 0x57 (2 ∷ 2 ∷ 1 ∷ [])
     ∷ row 0x49 (2 ∷ 2 ∷ [])
     ∷ row 0x44 (2 ∷ 1 ∷ 1 ∷ [])
@@ -102,6 +104,10 @@ contractFrom v =
       optional = getD v 10 0;
     }
 
+-- a date
+abbrev pub dateFrom : List ℕ → Date
+dateFrom v = record { year = getD v 0 0; month = getD v 1 0; day = getD v 2 0 }
+
 -- a window
 abbrev pub windowFrom : List ℕ → Window
 windowFrom v = record { start = record { 0 = getD v 0 0 }; end = record { 0 = getD v 1 0 }; verdict = getD v 2 0 }
@@ -126,12 +132,13 @@ revisionFrom v = record { number = getD v 1 0; reading = record { minute = recor
 unfoldable pub commandOf : ℕ → List ℕ → Option Command
 commandOf b v =
     cond (eqb 0x43 b) (some (contractᶜ (contractFrom v)))
+    (cond (eqb 0x54 b) (some (dateᶜ (dateFrom v)))
     (cond (eqb 0x57 b) (some (windowᶜ (windowFrom v)))
     (cond (eqb 0x49 b) (some (instructionᶜ (instructionFrom v)))
     (cond (eqb 0x44 b) (some (defaultᶜ (defaultFrom v)))
     (cond (eqb 0x4D b) (some (readingᶜ (readingFrom v)))
     (cond (eqb 0x52 b) (some (revisionᶜ (revisionFrom v)))
-    (cond (eqb 0x5A b) (some closeᶜ) none))))))
+    (cond (eqb 0x5A b) (some closeᶜ) none)))))))
 
 -- ---- reading
 
@@ -157,6 +164,7 @@ readAt s at = cond (leb (length s) at) End (readBody (widthsOf (getD s at 0) tab
 -- a command's byte
 abbrev pub byteOf : Command → ℕ
 byteOf (contractᶜ k) = 0x43
+byteOf (dateᶜ d) = 0x54
 byteOf (windowᶜ w) = 0x57
 byteOf (instructionᶜ i) = 0x49
 byteOf (defaultᶜ d) = 0x44
@@ -171,6 +179,7 @@ operandsOf (contractᶜ k) =
     ∷ k .utilisation
     ∷ k .optional
     ∷ []
+operandsOf (dateᶜ d) = d .year ∷ d .month ∷ d .day ∷ []
 operandsOf (windowᶜ w) = w .start .0 ∷ w .end .0 ∷ w .verdict ∷ []
 operandsOf (instructionᶜ i) = i .issue .0 ∷ i .cease .0 ∷ []
 operandsOf (defaultᶜ d) = d .minute .0 ∷ d .kind ∷ d .reach ∷ []
@@ -202,10 +211,10 @@ abbrev pub readingAt : Option Metered → ℕ → List Command
 readingAt none m = []
 readingAt (some x) m = revisedAs (x .revision) (record { minute = record { 0 = m }; kw = record { 0 = x .kw } }) ∷ []
 
--- the commands that a book is written as: contract, windows, instructions, defaults, readings by rising minute, close if closed
+-- the commands that a book is written as: contract, date, windows, instructions, defaults, readings by rising minute, close if closed
 unfoldable pub written : Ledger → List Command
 written g =
-    map contractᶜ (g .contracts) ++ map windowᶜ (g .windows) ++ map instructionᶜ (g .instructions) ++ map defaultᶜ (g .defaults)
+    map contractᶜ (g .contracts) ++ map dateᶜ (g .dates) ++ map windowᶜ (g .windows) ++ map instructionᶜ (g .instructions) ++ map defaultᶜ (g .defaults)
     ++ concatMap (λ m. readingAt (g .reading m) m) (between 0 (spanIn g))
     ++ cond (g .closed) (closeᶜ ∷ []) []
 

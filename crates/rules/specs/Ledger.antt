@@ -1,4 +1,4 @@
--- "The book" and "The lists of demand 3": what the commands taken give. Every condition and every sum reads contract, windows, instructions,
+-- "The book" and "The lists of demand 3": what the commands taken give. Every condition and every sum reads contract, date, windows, instructions,
 -- defaults, close, span and what a minute holds off a ledger.
 use mathlib.Core.Bool.{Bool, true, false, cond, _&&_}
 use mathlib.Core.List.{List, [], _∷_}
@@ -7,7 +7,9 @@ use Prim.Native.Nat.{ℕ, _+_, _-_, _*_}
 use lib.IntN.{ℤ, pos}
 use lib.Dec.{eqb, leb, ltb}
 use Rattle.energy.specs.Lists.{first, later, concatMap, any}
-use Rattle.commands.specs.Command.{onContract, onWindow, onInstruction, onDefault, onMetered, onClose, always}
+use Rattle.calendar.specs.Calendar.{noDate, gainedIn, lostIn}
+use Rattle.calendar.specs.declared.Date.{Date}
+use Rattle.commands.specs.Command.{onContract, onDate, onWindow, onInstruction, onDefault, onMetered, onClose, always}
 use Rattle.commands.specs.Input.{upMinutes, downMinutes}
 use Rattle.commands.specs.declared.contract.Contract.{Contract}
 use Rattle.commands.specs.declared.entries.Window.{Window}
@@ -25,9 +27,10 @@ abbrev pub kwIn : Option Metered → ℤ
 kwIn none = pos 0
 kwIn (some x) = x .kw
 
--- what has been entered. There is at most one contract
+-- what has been entered. There is at most one contract, and at most one date
 pub record Ledger : Type 0 where
   pub contracts : List Contract
+  pub dates : List Date
   pub windows : List Window
   pub instructions : List Instruction
   pub defaults : List Default
@@ -39,6 +42,10 @@ pub record Ledger : Type 0 where
 -- the contract that a command brings
 abbrev pub contractIn : Command → List Contract
 contractIn c = onContract (λ k. k ∷ []) (always []) c
+
+-- the date that a command brings
+abbrev pub dateIn : Command → List Date
+dateIn c = onDate (λ d. d ∷ []) (always []) c
 
 -- the window that a command brings
 abbrev pub windowIn : Command → List Window
@@ -75,6 +82,7 @@ unfoldable pub ledgerOf : List Command → Ledger
 ledgerOf t =
     record {
       contracts = concatMap contractIn t;
+      dates = concatMap dateIn t;
       windows = concatMap windowIn t;
       instructions = concatMap instructionIn t;
       defaults = concatMap defaultIn t;
@@ -105,17 +113,25 @@ noContract =
 unfoldable pub contractOf : Ledger → Contract
 contractOf g = first noContract (g .contracts)
 
--- the minutes of a contract's month
+-- the date of a ledger; zeros where it has none
+unfoldable pub dateOf : Ledger → Date
+dateOf g = first noDate (g .dates)
+
+-- the minutes of a contract's month, as if undated
 abbrev pub spanOf : Contract → ℕ
 spanOf k = 1440 * k .days
 
--- the span: the minutes of a ledger's month
-unfoldable pub spanIn : Ledger → ℕ
-spanIn g = spanOf (contractOf g)
+-- the minutes of a contract's month with the hour that an October gains
+abbrev pub fullSpan : Contract → Date → ℕ
+fullSpan k d = spanOf k + gainedIn (d .month)
 
--- 15: the minutes that lent memory must have room for
+-- the span: the minutes of a ledger's month, with the hour that its date gains or loses
+unfoldable pub spanIn : Ledger → ℕ
+spanIn g = fullSpan (contractOf g) (dateOf g) - lostIn (dateOf g .month)
+
+-- 15: the minutes that lent memory must have room for: an hour more in an October, no less in a March
 unfoldable pub cellsIn : Ledger → ℕ
-cellsIn g = spanOf (contractOf g)
+cellsIn g = fullSpan (contractOf g) (dateOf g)
 
 -- in place of a window that is not there, and in an unused entry of a table: zeros; so for the two below
 abbrev pub noWindow : Window

@@ -15,6 +15,7 @@ pub mod Delivered
 pub mod Availability
 pub mod Amounts
 pub mod WrittenOrder
+pub mod Dates
 pub mod Revisions
 pub mod Bounds
 pub mod Reread

@@ -1,4 +1,4 @@
--- Inner, and proved equal to the rules: the ledgers that commands leave: what the contract, windows, instructions and defaults taken always are, as a
+-- Inner, and proved equal to the rules: the ledgers that commands leave: what the contract, date, windows, instructions and defaults taken always are, as a
 -- test that 11 asks of a book too.
 use mathlib.Core.Path.{_≡_}
 use mathlib.Core.Bool.{Bool, true, false, not, _&&_}
@@ -8,6 +8,8 @@ use Prim.Native.Nat.{ℕ, _+_, _≤_, _<_}
 use lib.Dec.{T, eqb, leb, ltb}
 use lib.ListN.{length}
 use Rattle.energy.specs.Lists.{all, any, pass}
+use Rattle.calendar.specs.Calendar.{daysOf, isDate}
+use Rattle.calendar.specs.declared.Date.{Date}
 use Rattle.commands.specs.Input.{inRange, rampTooLong, badWindow, isReading}
 use Rattle.rules.specs.Ledger.{Ledger, Metered, ledgerOf, contractOf, spanIn, cellsIn, expiry, endOf, within}
 use Rattle.rules.specs.Refusal.{taken}
@@ -37,6 +39,10 @@ instructionsSound k span e (i ∷ is) =
 abbrev pub defaultSound : Contract → ℕ → List Window → Default → Bool
 defaultSound k span ws d = inRange (defaultᶜ d) && ltb (d .minute .0) span && any (λ w. within w (d .minute .0)) ws
 
+-- a date that could be entered under a contract: the 1st of a month with its days
+abbrev pub dateSound : Contract → Date → Bool
+dateSound k d = isDate d && eqb (d .day) 1 && eqb (daysOf (d .year) (d .month)) (k .days)
+
 -- beside a contract: each entry could be taken
 unfoldable pub agreedTests : Contract → ℕ → List Window → List Instruction → List Default → List Bool
 agreedTests k span ws is ds =
@@ -52,16 +58,19 @@ agreedTests k span ws is ds =
 -- nothing has been entered
 pub record Untouched (g : Ledger) : Type 0 where
   pub contracts : g .contracts ≡ []
+  pub dates : g .dates ≡ []
   pub windows : g .windows ≡ []
   pub instructions : g .instructions ≡ []
   pub defaults : g .defaults ≡ []
   pub notClosed : g .closed ≡ false
   pub readings : (m : ℕ) → g .reading m ≡ none
 
--- one contract, entries that could be taken under it and fit their tables, and lent memory of this size with room for it
+-- one contract, a date at most and entries that could be taken under it and fit their tables, and lent memory of this size with room for it
 pub record Agreed (size : ℕ) (g : Ledger) : Type 0 where
   pub contract : g .contracts ≡ contractOf g ∷ []
   pub tests : T (pass (agreedTests (contractOf g) (spanIn g) (g .windows) (g .instructions) (g .defaults)))
+  pub dates : length (g .dates) ≤ 1
+  pub dated : T (all (dateSound (contractOf g)) (g .dates))
   pub windows : length (g .windows) ≤ 128
   pub instructions : length (g .instructions) ≤ 64
   pub defaults : length (g .defaults) ≤ 128

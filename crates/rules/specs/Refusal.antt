@@ -1,14 +1,15 @@
 -- "When a command or call is turned down": after the conditions on the input each condition on the state, under its number, and what is taken of a list.
-use mathlib.Core.Bool.{Bool, false, not, _&&_}
+use mathlib.Core.Bool.{Bool, false, not, _&&_, _||_}
 use mathlib.Core.List.{List, [], _∷_, _++_}
 use mathlib.Core.Option.{Option, none, some}
-use Prim.Native.Nat.{ℕ, _+_}
+use Prim.Native.Nat.{ℕ, _+_, max}
 use lib.Dec.{eqb, leb, ltb}
 use lib.ListN.{length}
-use Rattle.energy.specs.Lists.{any, last, isEmpty, isSome}
-use Rattle.commands.specs.Command.{onContract, onWindow, onInstruction, onDefault, onReading, onRevision, onMetered, always}
+use Rattle.energy.specs.Lists.{any, last, isEmpty, isSome, between}
+use Rattle.calendar.specs.Calendar.{daysOf}
+use Rattle.commands.specs.Command.{onContract, onDate, onWindow, onInstruction, onDefault, onReading, onRevision, onMetered, always}
 use Rattle.commands.specs.Input.{Condition, _when_, inputConditions, firstMet}
-use Rattle.rules.specs.Ledger.{Ledger, Metered, ledgerOf, contractOf, isContract, spanOf, spanIn, cellsIn, expiry, endOf, within, noWindow}
+use Rattle.rules.specs.Ledger.{Ledger, Metered, ledgerOf, contractOf, isContract, spanOf, fullSpan, spanIn, cellsIn, expiry, endOf, within, noWindow}
 use Rattle.commands.specs.declared.contract.Contract.{Contract}
 use Rattle.commands.specs.declared.entries.Instruction.{Instruction}
 use Rattle.commands.specs.declared.entries.Command.{Command}
@@ -17,9 +18,22 @@ use Rattle.rules.specs.declared.answer.Answer.the-variants.{Taken, Refus
 
 -- ---- from the state
 
--- 15: the minutes that lent memory must have room for: for a contract its own span, or what the book needs
+-- 15: the minutes that lent memory must have room for: for a contract its own span; what the book needs; and for a date what its own month needs too
 abbrev pub cellsFor : Ledger → Command → ℕ
-cellsFor g c = onContract spanOf (always (cellsIn g)) c
+cellsFor g c = onContract spanOf (onDate (λ d. max (cellsIn g) (fullSpan (contractOf g) d)) (always (cellsIn g))) c
+
+-- 29: a date where the book has a date, a window or an instruction, or the span a reading
+abbrev pub dateLate : Ledger → Command → Bool
+dateLate g c =
+    onDate
+    (λ d. not (isEmpty (g .dates)) || not (isEmpty (g .windows)) || not (isEmpty (g .instructions))
+    || any (λ m. isSome (g .reading m)) (between 0 (spanIn g)))
+    (always false)
+    c
+
+-- 30: a date that is not the 1st, or whose month has other than the contract's days
+abbrev pub otherMonth : Ledger → Command → Bool
+otherMonth g c = onDate (λ d. not (eqb (d .day) 1) || not (eqb (daysOf (d .year) (d .month)) (contractOf g .days))) (always false) c
 
 -- 16: window end or instruction end above the span, or the minute of a default or of a reading of either kind not below it
 abbrev pub beyondSpan : Ledger → Command → Bool
@@ -97,7 +111,9 @@ bookConditions unsound size g c =
 -- what a command meets for its own kind
 abbrev pub kindConditions : Ledger → Command → List Condition
 kindConditions g c =
-    (16 when beyondSpan g c)
+    (29 when dateLate g c)
+    ∷ (30 when otherMonth g c)
+    ∷ (16 when beyondSpan g c)
     ∷ (17 when rejectedCommitted g c)
     ∷ (18 when windowOverlaps g c)
     ∷ (19 when ceaseEarly g c)

@@ -9,7 +9,7 @@ use lib.ListN.{length}
 use lib.Signed.{leZ}
 use Rattle.energy.specs.Lists.{all, concatMap, isSome}
 use Rattle.commands.specs.Command.{onContract, onMetered, always}
-use Rattle.commands.specs.Input.{from-toℤ, inRange}
+use Rattle.commands.specs.Input.{from-toℤ, inputRefusal}
 use Rattle.rules.specs.File.{table, widthsOf, total, commandOf, readAt, operandsOf, widthsFor, write, commandsFrom, commandsIn}
 use Rattle.commands.specs.declared.entries.Command.{Command}
 use Rattle.rules.specs.declared.file.Read.the-variants.{Got}
@@ -44,7 +44,7 @@ pub record Reread : Type 0 where
       → readAt (before ++ write c ++ after) (length before) ≡ Got c (length before + length (write c))
   -- commands written one after the other are the commands of their file
   pub file : (cs : List Command) → T (all fitsBytes cs) → commandsIn (concatMap write cs) ≡ cs
-  -- every command in range is one
-  pub ranged : (c : Command) → T (inRange c) → T (fitsBytes c)
+  -- every command whose operands are not turned down is one
+  pub ranged : (c : Command) → inputRefusal c ≡ 0 → T (fitsBytes c)
   -- the commands of a file end at an end, 1 or 2: no more are found by reading on
   pub enough : (s : List ℕ) (more : ℕ) → commandsFrom (length s + more) s 0 ≡ commandsIn s

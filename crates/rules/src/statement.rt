@@ -2,8 +2,9 @@
 use energy::units::Kwh;
 use energy::units::Pence;
 
-// The most lines that a month of 31 days gives, and those that 11 days give, for which the lister has records: `mostLines` and `mostListed` of the rules.
-pub const LINES_MOST: usize = 1679;
+// The most lines that a month gives, an October with its hour more, and those that 11 days give, for which the lister has records: `mostLines` and
+// `mostListed` of the rules.
+pub const LINES_MOST: usize = 1681;
 
 pub const LISTED_MOST: usize = 719;
 

@@ -2,9 +2,10 @@
 -- hold at once, that the first number in the list is given. 11 is a book's, so its examples stand with the book; here is where it stands among the
 -- others.
 use mathlib.Core.Path.{_≡_}
-use mathlib.Core.Bool.{Bool, true, false, not}
+use mathlib.Core.Bool.{Bool, true, false, cond, not}
 use mathlib.Core.List.{List, [], _∷_, _++_, map}
-use Prim.Native.Nat.{ℕ, _*_, min}
+use mathlib.Core.Option.{none}
+use Prim.Native.Nat.{ℕ, _-_, _*_, min}
 use lib.IntN.{pos}
 use lib.Dec.{eqb}
 use lib.ListN.{set, take, replicate}
@@ -16,6 +17,7 @@ use Rattle.rules.specs.File.{readAt, write}
 use Rattle.rules.specs.Examples.{minus, agree, guide, days, kind, service, contracted, rampup, rampdown, response, recovery, availability}
 use Rattle.rules.specs.Examples.{utilisation, optional, flexible, accepted, rejected, offer, instructed, defaulted, metered, revised, readingsFrom}
 use Rattle.rules.specs.Examples.{periods, manyInstructed, opening, appendix2, sample, sampleBytes}
+use Rattle.rules.specs.Dates.{dated, lasting, march, october, january}
 use Rattle.commands.specs.declared.entries.Command.{Command}
 use Rattle.commands.specs.declared.entries.Command.the-variants.{Contract as contractᶜ, Close as closeᶜ}
 use Rattle.rules.specs.declared.answer.Answer.{Answer}
@@ -124,6 +126,20 @@ revisedAt n = day (agree guide ∷ revised 7 n (pos 0) ∷ [])
 abbrev pub corrected : Setting
 corrected = day (agree guide ∷ metered 7 (pos 0) ∷ revised 7 4 (pos 0) ∷ revised 7 9 (pos 0) ∷ [])
 
+-- a month with a date and commands after it, with lent memory of so many minutes
+abbrev pub dating : ℕ → List Command → List Command → Setting
+dating n month cs = record { size = n; commands = month ++ cs; now = n }
+
+-- January, March and October of 2024, with the lent memory that they need
+abbrev pub inJanuary : Setting
+inJanuary = dating 44640 january []
+
+abbrev pub inMarch : Setting
+inMarch = dating 44640 march []
+
+abbrev pub inOctober : Setting
+inOctober = dating 44700 october []
+
 -- Appendix 2's contract with a negative kW, which no unit file can say
 abbrev pub negative : Command
 negative =
@@ -170,21 +186,26 @@ operandCases =
     ∷ empty enters agree (set guide optional 1000001) gets Refused 3
     ∷ empty enters agree (1 ∷ 0 ∷ 0 ∷ 3000 ∷ 3000 ∷ 3000 ∷ 1 ∷ 0 ∷ 0 ∷ 0 ∷ 0 ∷ []) gets Taken
     ∷ lending 44640 empty enters agree (31 ∷ 1 ∷ 1 ∷ 500000 ∷ 500000 ∷ 500000 ∷ 240 ∷ 1200 ∷ 1000000 ∷ 1000000 ∷ 1000000 ∷ []) gets Taken
-    ∷ begun enters offer 44641 210 accepted gets Refused 3
-    ∷ begun enters offer 44640 210 accepted gets Refused 5
+    ∷ begun enters offer 44701 210 accepted gets Refused 3
+    ∷ begun enters offer 44700 210 accepted gets Refused 5
     ∷ begun enters offer 180 0 accepted gets Refused 5
-    ∷ begun enters offer 180 44641 accepted gets Refused 3
+    ∷ begun enters offer 180 44701 accepted gets Refused 3
+    ∷ begun enters offer 180 44700 accepted gets Refused 16
     ∷ over 31 [] enters offer 0 44640 accepted gets Taken
+    ∷ over 31 [] enters offer 0 44700 accepted gets Refused 16
     ∷ begun enters offer 180 210 2 gets Refused 3
     ∷ begun enters instructed 2 85 gets Refused 3
     ∷ begun enters instructed 3 85 gets Taken
     ∷ begun enters instructed 44640 85 gets Refused 19
-    ∷ begun enters instructed 44641 85 gets Refused 3
+    ∷ begun enters instructed 44700 85 gets Refused 19
+    ∷ begun enters instructed 44701 85 gets Refused 3
     ∷ begun enters instructed 5 0 gets Refused 19
     ∷ begun enters instructed 5 44640 gets Refused 16
-    ∷ begun enters instructed 5 44641 gets Refused 3
+    ∷ begun enters instructed 5 44700 gets Refused 16
+    ∷ begun enters instructed 5 44701 gets Refused 3
     ∷ begun enters defaulted 44640 1 1 gets Refused 16
-    ∷ begun enters defaulted 44641 1 1 gets Refused 3
+    ∷ begun enters defaulted 44700 1 1 gets Refused 16
+    ∷ begun enters defaulted 44701 1 1 gets Refused 3
     ∷ begun enters defaulted 0 0 1 gets Refused 3
     ∷ begun enters defaulted 0 1 0 gets Refused 3
     ∷ begun enters defaulted 0 1 1 gets Taken
@@ -194,13 +215,15 @@ operandCases =
     ∷ begun enters defaulted 0 5 1 gets Refused 3
     ∷ begun enters defaulted 0 1 4 gets Refused 3
     ∷ begun enters metered 44640 (pos 0) gets Refused 16
-    ∷ begun enters metered 44641 (pos 0) gets Refused 3
+    ∷ begun enters metered 44700 (pos 0) gets Refused 16
+    ∷ begun enters metered 44701 (pos 0) gets Refused 3
     ∷ begun enters metered 0 (minus 500001) gets Refused 3
     ∷ begun enters metered 0 (minus 500000) gets Taken
     ∷ begun enters metered 0 (pos 500000) gets Taken
     ∷ begun enters metered 0 (pos 500001) gets Refused 3
     ∷ begun enters revised 44640 1 (pos 0) gets Refused 16
-    ∷ begun enters revised 44641 1 (pos 0) gets Refused 3
+    ∷ begun enters revised 44700 1 (pos 0) gets Refused 16
+    ∷ begun enters revised 44701 1 (pos 0) gets Refused 3
     ∷ begun enters revised 0 0 (pos 0) gets Refused 3
     ∷ begun enters revised 0 1 (pos 0) gets Taken
     ∷ begun enters revised 0 255 (pos 0) gets Taken
@@ -231,12 +254,14 @@ inputCases =
 abbrev pub bookCases : List Case
 bookCases =
     shut begun enters agree guide gets Refused 12
+    ∷ shut begun enters dated 2024 1 1 gets Refused 12
     ∷ shut begun enters offer 180 210 accepted gets Refused 12
     ∷ shut begun enters instructed 5 85 gets Refused 12
     ∷ shut begun enters defaulted 0 1 1 gets Refused 12
     ∷ shut begun enters metered 0 (pos 0) gets Refused 12
     ∷ shut begun enters revised 0 1 (pos 0) gets Refused 12
     ∷ shut begun enters closeᶜ gets Refused 12
+    ∷ empty enters dated 2024 1 1 gets Refused 13
     ∷ empty enters offer 0 180 accepted gets Refused 13
     ∷ empty enters instructed 5 85 gets Refused 13
     ∷ empty enters defaulted 0 1 1 gets Refused 13
@@ -321,6 +346,132 @@ tableCases =
     ∷ day (opening ++ (instructed 3 23 ∷ replicate 127 (defaulted 0 1 1))) enters defaulted 0 1 1 gets Taken
     ∷ []
 
+-- ---- a date
+
+-- 28: year, month and day at both ends of their ranges, and days that a month lacks; whatever the book. What gets 29 is a date
+abbrev pub calendarCases : List Case
+calendarCases =
+    begun enters dated 2006 12 31 gets Refused 28
+    ∷ begun enters dated 2007 1 1 gets Refused 29
+    ∷ begun enters dated 2099 12 31 gets Refused 29
+    ∷ begun enters dated 2100 1 1 gets Refused 28
+    ∷ begun enters dated 65535 1 1 gets Refused 28
+    ∷ begun enters dated 2024 0 1 gets Refused 28
+    ∷ begun enters dated 2024 1 1 gets Refused 29
+    ∷ begun enters dated 2024 12 1 gets Refused 29
+    ∷ begun enters dated 2024 13 1 gets Refused 28
+    ∷ begun enters dated 2024 255 1 gets Refused 28
+    ∷ begun enters dated 2024 1 0 gets Refused 28
+    ∷ begun enters dated 2024 1 31 gets Refused 29
+    ∷ begun enters dated 2024 1 32 gets Refused 28
+    ∷ begun enters dated 2024 1 255 gets Refused 28
+    ∷ begun enters dated 2023 2 28 gets Refused 29
+    ∷ begun enters dated 2023 2 29 gets Refused 28
+    ∷ begun enters dated 2024 2 29 gets Refused 29
+    ∷ begun enters dated 2024 2 30 gets Refused 28
+    ∷ begun enters dated 2024 3 31 gets Refused 29
+    ∷ begun enters dated 2024 4 30 gets Refused 29
+    ∷ begun enters dated 2024 4 31 gets Refused 28
+    ∷ begun enters dated 2024 6 31 gets Refused 28
+    ∷ begun enters dated 2024 9 31 gets Refused 28
+    ∷ begun enters dated 2024 11 31 gets Refused 28
+    ∷ begun enters dated 2024 12 31 gets Refused 29
+    ∷ begun enters dated 2024 12 32 gets Refused 28
+    ∷ begun enters dated 0 0 0 gets Refused 28
+    ∷ shut begun enters dated 2024 13 1 gets Refused 28
+    ∷ empty enters dated 2024 13 1 gets Refused 28
+    ∷ []
+
+-- 15: an October needs an hour more, a March no less, and the greater of what the book asks and what the date asks counts. 29: a date, a window, an
+-- instruction, a reading of either kind in the span. 30: the 1st, and the contract's days
+abbrev pub dateCases : List Case
+dateCases =
+    lending 44699 (over 31 []) enters dated 2024 10 1 gets Refused 15
+    ∷ lending 44700 (over 31 []) enters dated 2024 10 1 gets Taken
+    ∷ lending 44639 (over 31 []) enters dated 2024 3 1 gets Refused 15
+    ∷ over 31 [] enters dated 2024 3 1 gets Taken
+    ∷ lending 44580 (over 31 []) enters dated 2024 3 1 gets Refused 15
+    ∷ lending 44639 (over 31 []) enters dated 2024 1 1 gets Refused 15
+    ∷ over 31 [] enters dated 2024 1 1 gets Taken
+    ∷ over 1 (offer 0 30 accepted ∷ []) enters dated 2024 1 1 gets Refused 29
+    ∷ over 1 (instructed 5 85 ∷ []) enters dated 2024 1 1 gets Refused 29
+    ∷ over 1 (metered 0 (pos 0) ∷ []) enters dated 2024 1 1 gets Refused 29
+    ∷ over 1 (metered 1439 (pos 0) ∷ []) enters dated 2024 1 1 gets Refused 29
+    ∷ over 1 (revised 0 1 (pos 0) ∷ []) enters dated 2024 1 1 gets Refused 29
+    ∷ over 1 (revised 1439 1 (pos 0) ∷ []) enters dated 2024 1 1 gets Refused 29
+    ∷ over 31 (metered 44639 (pos 0) ∷ []) enters dated 2024 1 1 gets Refused 29
+    ∷ over 31 [] enters dated 2024 1 2 gets Refused 30
+    ∷ over 30 [] enters dated 2024 1 1 gets Refused 30
+    ∷ over 29 [] enters dated 2024 2 1 gets Taken
+    ∷ over 28 [] enters dated 2024 2 1 gets Refused 30
+    ∷ over 28 [] enters dated 2023 2 1 gets Taken
+    ∷ []
+
+-- a book with a date. 29: a second one. 15 and 16: by the hour that its month gains or loses; a month that keeps its hours
+abbrev pub januaryCases : List Case
+januaryCases =
+    lending 44639 inJanuary enters dated 2024 1 1 gets Refused 15
+    ∷ inJanuary enters dated 2024 1 1 gets Refused 29
+    ∷ lending 44699 inJanuary enters dated 2024 10 1 gets Refused 15
+    ∷ lending 44700 inJanuary enters dated 2024 10 1 gets Refused 29
+    ∷ lending 44639 inJanuary enters closeᶜ gets Refused 15
+    ∷ inJanuary enters closeᶜ gets Taken
+    ∷ inJanuary enters metered 44639 (pos 0) gets Taken
+    ∷ lending 44700 inJanuary enters metered 44640 (pos 0) gets Refused 16
+    ∷ []
+
+-- one that gains an hour. A window that ends after it gets 3
+abbrev pub octoberCases : List Case
+octoberCases =
+    lending 44699 inOctober enters dated 2024 1 1 gets Refused 15
+    ∷ inOctober enters dated 2024 1 1 gets Refused 29
+    ∷ lending 44699 inOctober enters offer 0 30 accepted gets Refused 15
+    ∷ lending 44699 inOctober enters instructed 5 85 gets Refused 15
+    ∷ lending 44699 inOctober enters metered 0 (pos 0) gets Refused 15
+    ∷ lending 44699 inOctober enters revised 0 1 (pos 0) gets Refused 15
+    ∷ lending 44699 inOctober enters closeᶜ gets Refused 15
+    ∷ inOctober enters closeᶜ gets Taken
+    ∷ inOctober enters offer 44670 44700 accepted gets Taken
+    ∷ inOctober enters offer 44670 44730 accepted gets Refused 3
+    ∷ inOctober enters instructed 5 44694 gets Taken
+    ∷ inOctober enters instructed 5 44695 gets Refused 16
+    ∷ inOctober enters metered 44699 (pos 0) gets Taken
+    ∷ inOctober enters metered 44700 (pos 0) gets Refused 16
+    ∷ inOctober enters revised 44699 1 (pos 0) gets Taken
+    ∷ inOctober enters revised 44700 1 (pos 0) gets Refused 16
+    ∷ []
+
+-- one that loses an hour, and still needs room for it
+abbrev pub marchCases : List Case
+marchCases =
+    lending 44639 inMarch enters dated 2024 3 1 gets Refused 15
+    ∷ inMarch enters dated 2024 3 1 gets Refused 29
+    ∷ lending 44639 inMarch enters offer 0 30 accepted gets Refused 15
+    ∷ lending 44580 inMarch enters closeᶜ gets Refused 15
+    ∷ inMarch enters closeᶜ gets Taken
+    ∷ inMarch enters offer 44550 44580 accepted gets Taken
+    ∷ inMarch enters offer 44550 44610 accepted gets Refused 16
+    ∷ inMarch enters instructed 5 44574 gets Taken
+    ∷ inMarch enters instructed 5 44575 gets Refused 16
+    ∷ inMarch enters metered 44579 (pos 0) gets Taken
+    ∷ inMarch enters metered 44580 (pos 0) gets Refused 16
+    ∷ inMarch enters revised 44579 1 (pos 0) gets Taken
+    ∷ inMarch enters revised 44580 1 (pos 0) gets Refused 16
+    ∷ []
+
+-- the period that ends at minute m, as a window
+abbrev pub lastWindow : ℕ → Command
+lastWindow m = offer (m - 30) m accepted
+
+-- defaults in the last window of either
+abbrev pub lastWindowCases : List Case
+lastWindowCases =
+    dating 44640 march (lastWindow 44580 ∷ []) enters defaulted 44579 1 1 gets Taken
+    ∷ dating 44640 march (lastWindow 44580 ∷ []) enters defaulted 44580 1 1 gets Refused 16
+    ∷ dating 44700 october (lastWindow 44700 ∷ []) enters defaulted 44699 1 1 gets Taken
+    ∷ dating 44700 october (lastWindow 44700 ∷ []) enters defaulted 44700 1 1 gets Refused 16
+    ∷ []
+
 -- ---- the first number in the list is given: beside the number that each of these gets, the later ones of its group hold too
 
 abbrev pub firstCases : List Case
@@ -332,8 +483,19 @@ firstCases =
     ∷ lending 1439 begun enters agree guide gets Refused 14
     ∷ begun enters agree (set guide days 2) gets Refused 14
     ∷ lending 1439 empty enters agree (set guide rampup 1) gets Refused 4
+    -- a date: 28 12 15 29 30, and 13 without a contract, where 15 holds in an October
+    ∷ lending 1439 (shut begun) enters dated 2024 1 0 gets Refused 28
+    ∷ lending 1439 (shut begun) enters dated 2024 1 2 gets Refused 12
+    ∷ lending 1439 begun enters dated 2024 1 2 gets Refused 15
+    ∷ lending 1499 begun enters dated 2024 10 2 gets Refused 15
+    ∷ lending 1500 begun enters dated 2024 10 2 gets Refused 29
+    ∷ begun enters dated 2024 1 2 gets Refused 29
+    ∷ lending 1439 (over 1 []) enters dated 2024 1 2 gets Refused 15
+    ∷ over 1 [] enters dated 2024 1 2 gets Refused 30
+    ∷ lending 0 empty enters dated 2024 10 0 gets Refused 28
+    ∷ lending 0 empty enters dated 2024 10 2 gets Refused 13
     -- a window: 3 5 12 15 16 17 18 23
-    ∷ lending 4319 (shut (windows 128)) enters offer 31 44641 rejected gets Refused 3
+    ∷ lending 4319 (shut (windows 128)) enters offer 31 44701 rejected gets Refused 3
     ∷ lending 4319 (shut (windows 128)) enters offer 31 44640 rejected gets Refused 5
     ∷ lending 4319 (shut (windows 128)) enters offer 30 44640 rejected gets Refused 12
     ∷ lending 4319 (windows 128) enters offer 30 44640 rejected gets Refused 15
@@ -341,12 +503,12 @@ firstCases =
     ∷ windows 128 enters offer 30 60 rejected gets Refused 17
     ∷ windows 128 enters offer 30 60 accepted gets Refused 18
     -- without a contract: 3 5 13, and 16 with a span of 0
-    ∷ empty enters offer 31 44641 rejected gets Refused 3
+    ∷ empty enters offer 31 44701 rejected gets Refused 3
     ∷ empty enters offer 31 60 rejected gets Refused 5
     ∷ empty enters offer 30 60 rejected gets Refused 13
     -- an instruction: 3 12 15 16 19 20 23, but 3 holds with 16 only where 20 does not
     ∷ lending 2879 (shut called) enters instructed 2 10 gets Refused 3
-    ∷ called enters instructed 44641 44640 gets Refused 3
+    ∷ called enters instructed 44701 44700 gets Refused 3
     ∷ lending 2879 (shut called) enters instructed 2870 2875 gets Refused 12
     ∷ lending 2879 called enters instructed 2870 2875 gets Refused 15
     ∷ called enters instructed 2870 2875 gets Refused 16
@@ -354,7 +516,7 @@ firstCases =
     ∷ called enters instructed 2850 2874 gets Refused 20
     ∷ empty enters instructed 2 10 gets Refused 3
     -- a default: 3 12 15 16 21 23
-    ∷ lending 1439 (shut (faulty 128)) enters defaulted 44641 1 1 gets Refused 3
+    ∷ lending 1439 (shut (faulty 128)) enters defaulted 44701 1 1 gets Refused 3
     ∷ lending 1439 (shut (faulty 128)) enters defaulted 1440 1 1 gets Refused 12
     ∷ lending 1439 (faulty 128) enters defaulted 1440 1 1 gets Refused 15
     ∷ faulty 128 enters defaulted 1440 1 1 gets Refused 16
@@ -383,10 +545,10 @@ firstCases =
     ∷ lending 1439 (shut begun) enters closeᶜ gets Refused 12
     ∷ []
 
--- 11 comes after 5 and before 12: the answer in a book that no list of commands leaves
+-- 11 comes after 5 and 28 and before 12: the answer in a book that no list of commands leaves
 abbrev pub orEleven : Answer → Answer
 orEleven Taken = Refused 11
-orEleven (Refused n) = Refused (min n 11)
+orEleven (Refused n) = Refused (cond (eqb n 28) 28 (min n 11))
 
 -- ---- settling
 
@@ -432,7 +594,20 @@ settlings =
     ∷ lending 1439 (day appendix2) settles-into 6 gets Refused 15
     ∷ []
 
+-- 15 by the date's month
+abbrev pub datedSettlings : List Settling
+datedSettlings =
+    lending 44699 (shut inOctober) settles-into 0 gets Refused 15
+    ∷ shut inOctober settles-into 0 gets Taken
+    ∷ lending 44639 (shut inMarch) settles-into 0 gets Refused 15
+    ∷ shut inMarch settles-into 0 gets Taken
+    ∷ []
+
 -- ---- reading
+
+-- the bytes of a date
+abbrev pub dateBytes : List ℕ
+dateBytes = 0x54 ∷ 0x07 ∷ 0xE8 ∷ 0x0A ∷ 0x01 ∷ []
 
 -- each command whole; 2 with a byte less, or its own byte alone; 1 at another byte; the end, and past it
 abbrev pub findings : List Finding
@@ -446,6 +621,10 @@ findings =
     ∷ sampleBytes at 63 gets Got closeᶜ 64
     ∷ sampleBytes at 64 gets End
     ∷ sampleBytes at 65 gets End
+    ∷ dateBytes at 0 gets Got (dated 2024 10 1) 5
+    ∷ take 4 dateBytes at 0 gets Stopped 2
+    ∷ take 1 dateBytes at 0 gets Stopped 2
+    ∷ (0x54 ∷ 0xFF ∷ 0xFF ∷ 0xFF ∷ 0xFF ∷ []) at 0 gets Got (dated 65535 255 255) 5
     ∷ [] at 0 gets End
     ∷ take 31 sampleBytes at 0 gets Stopped 2
     ∷ take 32 sampleBytes at 0 gets Got (agree guide) 32
@@ -457,9 +636,9 @@ findings =
     ∷ take 54 sampleBytes at 48 gets Stopped 2
     ∷ take 62 sampleBytes at 55 gets Stopped 2
     ∷ sampleBytes at 1 gets Stopped 1
-    ∷ (0x4D ∷ 0xAE ∷ 0x61 ∷ 0x7F ∷ 0xFF ∷ 0xFF ∷ 0xFF ∷ []) at 0 gets Got (metered 44641 (pos 2147483647)) 7
+    ∷ (0x4D ∷ 0xAE ∷ 0x9D ∷ 0x7F ∷ 0xFF ∷ 0xFF ∷ 0xFF ∷ []) at 0 gets Got (metered 44701 (pos 2147483647)) 7
     ∷ (0x4D ∷ 0x00 ∷ 0x00 ∷ 0x80 ∷ 0x00 ∷ 0x00 ∷ 0x00 ∷ []) at 0 gets Got (metered 0 (minus 2147483648)) 7
-    ∷ (0x52 ∷ 0xAE ∷ 0x61 ∷ 0xFF ∷ 0x7F ∷ 0xFF ∷ 0xFF ∷ 0xFF ∷ []) at 0 gets Got (revised 44641 255 (pos 2147483647)) 8
+    ∷ (0x52 ∷ 0xAE ∷ 0x9D ∷ 0xFF ∷ 0x7F ∷ 0xFF ∷ 0xFF ∷ 0xFF ∷ []) at 0 gets Got (revised 44701 255 (pos 2147483647)) 8
     ∷ (0x52 ∷ 0x00 ∷ 0x00 ∷ 0x00 ∷ 0x80 ∷ 0x00 ∷ 0x00 ∷ 0x00 ∷ []) at 0 gets Got (revised 0 0 (minus 2147483648)) 8
     ∷ []
 
@@ -500,11 +679,21 @@ pub record Refusals : Type 0 where
   pub spans : EntryCases spanCases
   pub orders : EntryCases orderCases
   pub tables : EntryCases tableCases
+  pub calendars : EntryCases calendarCases
+  pub dates : EntryCases dateCases
+  pub keptHours : EntryCases januaryCases
+  pub gainedHour : EntryCases octoberCases
+  pub lostHour : EntryCases marchCases
+  pub lastWindows : EntryCases lastWindowCases
   pub first : EntryCases firstCases
+  -- 29 does not look past the span: no list of commands leaves a reading there, but lent memory may hold one
+  pub pastSpan : refusal false 44700 (ledgerOf (lasting 31 ∷ metered 44640 (pos 0) ∷ [])) (dated 2024 10 1) ≡ none
   pub settling : SettlementCases settlings
+  pub datedSettling : SettlementCases datedSettlings
   -- what is found at each position
   pub reading : map (λ f. readAt (f .bytes) (f .position)) findings ≡ map (λ f. f .found) findings
   -- the only bytes that do not get 1
-  pub known : filter (λ b. not (isUnknown (readAt (b ∷ []) 0))) (between 0 256) ≡ 0x43 ∷ 0x44 ∷ 0x49 ∷ 0x4D ∷ 0x52 ∷ 0x57 ∷ 0x5A ∷ []
+  pub known : filter (λ b. not (isUnknown (readAt (b ∷ []) 0))) (between 0 256) ≡ 0x43 ∷ 0x44 ∷ 0x49 ∷ 0x4D ∷ 0x52 ∷ 0x54 ∷ 0x57 ∷ 0x5A ∷ []
   -- a command of each kind is written as it is read
   pub writing : concatMap write sample ≡ sampleBytes
+  pub dateWriting : write (dated 2024 10 1) ≡ dateBytes

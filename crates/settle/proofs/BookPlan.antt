@@ -30,7 +30,7 @@ use Rattle.book.specs.Book.{noWindow, noInstruction, noDefault, bookSpan, bookC
 use Rattle.book.specs.Sound.{Shaped}
 use Rattle.book.specs.declared.Book.{Book}
 use Rattle.settle_terms.specs.declared.Terms.{Terms}
-use Rattle.settle_terms.specs.Terms.{termsOf, issueOf, ceaseOf, Timed}
+use Rattle.settle_terms.specs.Terms.{termsOf, periodPlaces, issueOf, ceaseOf, Timed}
 use Rattle.settle_survey.specs.Survey.{SurveyableAt, has, surveyOf, surveyTo}
 use Rattle.settle_live.specs.Live.{Cleared, Windows, isLive, LiveTable}
 use Rattle.settle_availability.specs.Paid.{windowNumberOf, windowOf, Placed, Spans}
@@ -193,7 +193,7 @@ module _ {b : Book} {times : List ℕ} {readings : Memory} (G : Grounds b times 
         small = λ j h. omega (arith, terms .each j h, span-small);
       }
 
-  pub windows-fit : Windows (b .windows) (b .nwindows) 1490
+  pub windows-fit : Windows (b .windows) (b .nwindows) periodPlaces
   windows-fit =
       record {
         few = S .counts .0;
@@ -209,7 +209,7 @@ module _ {b : Book} {times : List ℕ} {readings : Memory} (G : Grounds b times 
         inside = λ i h. rw (windows .window i h) (omega (arith, windows .each i h, span-small));
       }
 
-  module _ {live : List ℕ} (size : length live ≡ 1490) (L : LiveTable (isLive times t (k .recovery .0)) (b .windows) (b .nwindows) live) where
+  module _ {live : List ℕ} (size : length live ≡ periodPlaces) (L : LiveTable (isLive times t (k .recovery .0)) (b .windows) (b .nwindows) live) where
     pub priced : Priced g live (b .windows) (b .nwindows) (b .defaults) (b .ndefaults)
     unfolding ledgerIn
     priced =
@@ -223,7 +223,7 @@ module _ {b : Book} {times : List ℕ} {readings : Memory} (G : Grounds b times 
         }
 
     -- a default of the book marks inside the tables
-    pub placed : (j : ℕ) → j < b .ndefaults → Placed live (b .windows) 1490 (getD (b .defaults) j noDefault)
+    pub placed : (j : ℕ) → j < b .ndefaults → Placed live (b .windows) periodPlaces (getD (b .defaults) j noDefault)
     placed j h =
         let x : Default = getD (b .defaults) j noDefault in
         let m : x .minute .0 < bookSpan b = rw (priced .default j h) (default-sound j h .inside) in

@@ -30,7 +30,7 @@ use Rattle.settle.specs.declared.Settlement.{Settlement}
 use Rattle.settle_availability.specs.declared.paid.Entries.{Entries}
 use Rattle.settle.specs.declared.prepare.Prepared.{Prepared}
 use Rattle.settle_terms.specs.declared.Terms.{Terms}
-use Rattle.settle_terms.specs.Terms.{Timed, termsOf}
+use Rattle.settle_terms.specs.Terms.{Timed, periodPlaces, termsOf}
 use Rattle.settle_live.specs.Live.{isLive, numberTo, LiveTable}
 use Rattle.settle_availability.specs.Paid.{countedTo, penaltyBy, entriesBy, eachBy, availabilityBy}
 use Rattle.settle_lines.specs.Cursor.{cursorAt, steppedLine, stored}
@@ -49,7 +49,7 @@ each-is : (n : ℕ) → pos (natAbs (penceOfParts n)) ≡ penceOfParts n
 each-is n = let e = half-up n 200000 (lit< tt) in ap (λ z. pos (natAbs z)) (sym e) ∙ e
 
 -- the availability, and with it the statement without the lines' sums
-module _ {b : Book} {times : List ℕ} {readings : Memory} (G : Grounds b times readings) {live : List ℕ} (size : length live ≡ 1490)
+module _ {b : Book} {times : List ℕ} {readings : Memory} (G : Grounds b times readings) {live : List ℕ} (size : length live ≡ periodPlaces)
     (L : LiveTable (isLive times (termsOf (b .contract) (b .ninstructions)) (b .contract .recovery .0)) (b .windows) (b .nwindows) live) where
   abbrev k : Contract
   k = b .contract
@@ -127,7 +127,7 @@ module _ {b : Book} {times : List ℕ} {readings : Memory} (G : Grounds b times 
       let count : p .lines ≡ length (segments ledger) = O .lines ∙ N in
       let table : p .times ≡ timesOf (b .instructions) = O .times ∙ times-are (b .instructions) times (G .shape .instructions) (G .timed) in
       let periods : p .live ≡ liveOf ledger =
-      first-are (numberTo (live ledger) (ledger .windows) (length (ledger .windows))) 0 (p .live) 1490 (O .size)
+      first-are (numberTo (live ledger) (ledger .windows) (length (ledger .windows))) 0 (p .live) periodPlaces (O .size)
       (λ q h. priced G (O .size) (O .live) .numbers .period q ∙ ap (λ m. numberTo (live ledger) (ledger .windows) m q) (windows G .count)) in
       λ i. record { settlement = settlement-is i; lines = count i; terms = O .terms i; times = table i; live = periods i }
 

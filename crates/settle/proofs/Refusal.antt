@@ -19,6 +19,7 @@ use Rattle.book.specs.Sound.{sound}
 use Rattle.book.specs.declared.Book.{Book}
 use Rattle.settle_lines.specs.declared.cursor.Cursor.{Cursor}
 use Rattle.settle_lines.specs.Cursor.{startOf, enterOf}
+use Rattle.settle_terms.specs.Terms.{periodPlaces}
 use Rattle.settle.specs.Settle.{noStatement, settleBook}
 use Rattle.settle.specs.Prepared.{summed, refusalOf, preparedBy, preparedOf, lastCursor, settledWith, Prepares}
 use Rattle.book.proofs.Month.{cells-sound}
@@ -70,8 +71,8 @@ refused {b} {meter} {room} {n} e =
     let c : lastCursor (refusalOf n) (meter .cells) ≡ startOf = rw (le-ltb 0 0 (omega arith)) refl in
     record {
       is = ap (λ z. preparedBy z b (ledgerIn b meter)) (sym e);
-      size = length-replicate {A = ℕ} 1490 0;
-      plan = omega (arith, length-replicate {A = ℕ} 128 0, length-replicate {A = ℕ} 1490 0);
+      size = length-replicate {A = ℕ} periodPlaces 0;
+      plan = omega (arith, length-replicate {A = ℕ} 128 0, length-replicate {A = ℕ} periodPlaces 0);
       few = omega arith;
       count = refl;
       ready = λ k h. absurd (omega arith);

@@ -26,7 +26,7 @@ use Rattle.rules.proofs.Cuts.{cut, cutsFrom, segmentAt, segments-cuts}
 use Rattle.book.specs.Book.{noInstruction}
 use Rattle.settle_terms.specs.declared.Terms.{Terms}
 use Rattle.settle_lines.specs.declared.cursor.Cursor.{Cursor}
-use Rattle.settle_terms.specs.Terms.{issueOf}
+use Rattle.settle_terms.specs.Terms.{issueOf, periodPlaces}
 use Rattle.settle_lines.specs.Cursor.{activeOf, lineBy, startOf, cursorAt, steppedLine, stored, enterOf, moved, cutBy, stepOf, either, Ready}
 use Rattle.settle_lines.proofs.Step.{Next, next, stored-first}
 use Rattle.settle_lines.proofs.First.{first-are, sum-first}
@@ -63,7 +63,7 @@ module _ {g : Ledger} {t : Terms} {times live : List ℕ} {meter : List ℤ} (T 
   abbrev Here : Cursor → List Segment → Type 0
   Here c ss = Open c ss ⊎ ((ss ≡ []) × Within 100000000000000 (c .pence .0))
 
-  enter-here : (c : Cursor) → Within (500000 * c .minute .0) (c .capped .0) → Within (500000000 * c .minute .0) (c .pence .0) → c .minute .0 ≤ 44700
+  enter-here : (c : Cursor) → Within (500000 * c .minute .0) (c .capped .0) → Within (500000000 * c .minute .0) (c .pence .0) → c .minute .0 ≤ 30 * periodPlaces
       → (c .at < t .instructions → c .minute .0 ≤ issueOf times (c .at))
       → Here (enterOf t times live meter c) (segmentsFrom k (suc (c .at)) (drop (c .at) (g .instructions)))
   unfolding enterOf segmentsFrom activeOf

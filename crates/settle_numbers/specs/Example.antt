@@ -25,7 +25,7 @@ pub record Example : Type 0 where
       ++ numbers (1 ∷ 3 ∷ 2 ∷ 0 ∷ 500 ∷ 750 ∷ 500 ∷ 15000 ∷ [])
       ++ numbers (1 ∷ 4 ∷ 2 ∷ 0 ∷ 100 ∷ 50 ∷ 50 ∷ 1500 ∷ [])
   pub backwards :
-      numbersOf (exampleLine 64 1488 Down Optional (pos 7) (minus 5) (minus 3) (minus 2))
-      ≡ numbers (64 ∷ 1488 ∷ 2 ∷ 1 ∷ 7 ∷ []) ++ (minus 5 ∷ minus 3 ∷ minus 2 ∷ [])
+      numbersOf (exampleLine 64 1490 Down Optional (pos 7) (minus 5) (minus 3) (minus 2))
+      ≡ numbers (64 ∷ 1490 ∷ 2 ∷ 1 ∷ 7 ∷ []) ++ (minus 5 ∷ minus 3 ∷ minus 2 ∷ [])
   pub stages : map stageNumber (Up ∷ Steady ∷ Down ∷ []) ≡ numbers (0 ∷ 1 ∷ 2 ∷ [])
   pub rates : map rateNumber (Utilisation ∷ Optional ∷ []) ≡ numbers (0 ∷ 1 ∷ [])

@@ -38,13 +38,13 @@ noTerms =
       instructions = 0;
     }
 
--- the periods of the longest month
+-- the periods of the longest month: an October of 31 days and an hour
 abbrev pub mostPeriods : ℕ
-mostPeriods = 1488
+mostPeriods = 1490
 
--- the places of a table of periods: those of the longest month, and more, so that the minute at which the last of them ends has a place too
+-- the places of a table of periods: those of the longest month and one more, so that the minute at which the last of them ends has a place too
 abbrev pub periodPlaces : ℕ
-periodPlaces = 1490
+periodPlaces = 1491
 
 -- the table of times: the issue of instruction j, from 0
 abbrev pub issueOf : List ℕ → ℕ → ℕ

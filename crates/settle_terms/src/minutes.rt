@@ -4,8 +4,8 @@ ghost use Prim.Native.Nat.{_/_};
 use commands::contract::Contract;
 use energy::units::Minutes;
 
-// The places of a table of periods: those of 31 days, and more, so that the minute at which the last of them ends has a place too.
-pub const PLACES: usize = 1490;
+// The places of a table of periods: those of the longest month and one more, so that the minute at which the last of them ends has a place too.
+pub const PLACES: usize = 1491;
 
 // The cell of a minute.
 pub fn cell_of(m: Minutes) -> usize

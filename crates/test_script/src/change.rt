@@ -9,6 +9,7 @@ use crate::text::u16_after;
 use crate::text::u32_after;
 use crate::text::usize_after;
 use book::Book;
+use calendar::Date;
 use commands::contract::Contract;
 use commands::entries::Default;
 use commands::entries::Instruction;
@@ -46,7 +47,19 @@ fn with_quantity(k: Contract, field: u8, line: &[u8]) -> Contract {
     changed
 }
 
-// A book with a field set: 0 agreed, 1 closed, 2 to 12 the contract's, 13 to 15 the counts of windows, instructions and defaults.
+// A date with a field set: 16 year, 17 month, 18 day.
+fn with_part(d: Date, field: u8, line: &[u8]) -> Date {
+    let mut changed = d;
+    match field {
+        16 => changed.year = u16_after(line, 2),
+        17 => changed.month = u8_after(line, 2),
+        _ => changed.day = u8_after(line, 2),
+    }
+    changed
+}
+
+// A book with a field set: 0 agreed, 1 closed, 2 to 12 the contract's, 13 to 15 the counts of windows, instructions and defaults, 16 to 18 the
+// date's.
 fn with_field(b: Book, field: u8, line: &[u8]) -> Book {
     let mut changed = b;
     match field {
@@ -55,6 +68,10 @@ fn with_field(b: Book, field: u8, line: &[u8]) -> Book {
         13 => changed.nwindows = usize_after(line, 2),
         14 => changed.ninstructions = usize_after(line, 2),
         15 => changed.ndefaults = usize_after(line, 2),
+        16..=18 => {
+            let d = b.date;
+            changed.date = with_part(d, field, line);
+        }
         _ => {
             let k = b.contract;
             changed.contract = with_term(k, field, line);

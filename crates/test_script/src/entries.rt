@@ -3,6 +3,7 @@ use crate::text::i64_after;
 use crate::text::u8_after;
 use crate::text::u16_after;
 use crate::text::u32_after;
+use calendar::Date;
 use commands::contract::Contract;
 use commands::entries::Command;
 use commands::entries::Default;
@@ -26,6 +27,14 @@ fn contract_of(line: &[u8]) -> Contract {
         availability: u32_after(line, 9),
         utilisation: u32_after(line, 10),
         optional: u32_after(line, 11),
+    }
+}
+
+pub(crate) fn date_of(line: &[u8]) -> Date {
+    Date {
+        year: u16_after(line, 1),
+        month: u8_after(line, 2),
+        day: u8_after(line, 3),
     }
 }
 
@@ -71,6 +80,7 @@ fn revision_of(line: &[u8]) -> Revision {
 pub(crate) fn command_of(letter: u8, line: &[u8]) -> Command {
     match letter {
         b'C' => Command::Contract(contract_of(line)),
+        b'Y' => Command::Date(date_of(line)),
         b'W' => Command::Window(window_of(line, 1)),
         b'I' => Command::Instruction(instruction_of(line, 1)),
         b'D' => Command::Default(default_of(line, 1)),

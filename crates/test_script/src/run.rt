@@ -7,7 +7,9 @@ use crate::cells::kw_of;
 use crate::cells::lent;
 use crate::cells::put_each;
 use crate::change::changed;
+use crate::days::show_day;
 use crate::entries::command_of;
+use crate::entries::date_of;
 use crate::entries::default_of;
 use crate::entries::instruction_of;
 use crate::entries::window_of;
@@ -73,6 +75,7 @@ fn entered(
 ) -> Entry {
     let room = room_of(meter, revisions);
     match own_method(letter, quiet) {
+        b'Y' => b.date(date_of(line), meter, revisions),
         b'W' => b.window(window_of(line, 1), room),
         b'I' => b.instruction(instruction_of(line, 1), room),
         b'D' => b.default(default_of(line, 1), room),
@@ -126,7 +129,7 @@ fn book_after(
     revisions: &mut [u8],
 ) -> Book {
     match letter {
-        b'C' | b'W' | b'I' | b'D' | b'M' | b'V' | b'Z' => enter(
+        b'C' | b'Y' | b'W' | b'I' | b'D' | b'M' | b'V' | b'Z' => enter(
             b,
             s,
             letter,
@@ -191,6 +194,7 @@ fn run_line(b: Book, s: Setting, letter: u8, line: &[u8], meter: &mut [i32], rev
         b'm' => put_cells(line, meter),
         b'v' => put_numbers(line, revisions),
         b'g' => show_minute(line, meter, revisions),
+        b'y' => show_day(b, line),
         b's' => settle_lent(b, s, line, meter, revisions),
         b'o' => settle_own(b, s, line, meter, revisions),
         b'#' => print_line(line),

@@ -22,6 +22,30 @@ pub(crate) fn letter_of(line: &[u8]) -> u8 {
     if line.len() == 0 { b'#' } else { line[0] }
 }
 
+// 1 for a space, 0 for another byte.
+fn one_if_space(c: u8) -> usize
+    ensures { λ r. ⌜ r ≤ 1 ⌝ }
+{
+    if c == b' ' { 1 } else { 0 }
+}
+
+// How many spaces a line has.
+fn spaces_in(line: &[u8]) -> usize {
+    let mut n = 0;
+    let mut at = 0;
+    while at < line.len() {
+        n += one_if_space(line[at]);
+        at += 1;
+    }
+    n
+}
+
+// How many numbers a line has behind its first: each has a space before it.
+pub(crate) fn further_numbers(line: &[u8]) -> usize {
+    let spaces = spaces_in(line);
+    if spaces == 0 { 0 } else { spaces - 1 }
+}
+
 // Where the number after so many spaces of a line begins.
 fn number_start(line: &[u8], spaces: usize) -> usize
     ensures { λ r. ⌜ r ≤ length (now (line .entry)) ⌝ }

@@ -12,7 +12,7 @@ use lib.ListN.{drop, length, getD, getElem?, length-append, List·getD-append}
 use borrow.Author.Tests.{ne-eqb, le-leb, le-ltb, leb-true}
 use Rattle.energy.specs.Lists.{any, concatMap, first}
 use Rattle.energy.proofs.Tests.{any-append, either, either-eq}
-use Rattle.commands.specs.Input.{kwOf}
+use Rattle.commands.specs.Input.{kwOf, mostMinute}
 use Rattle.commands.specs.declared.contract.Contract.{Contract}
 use Rattle.commands.specs.declared.entries.Command.{Command}
 use Rattle.commands.specs.declared.entries.Instruction.{Instruction}
@@ -23,7 +23,7 @@ use Rattle.rules.specs.Reached.{Agreed, Reached, instructionsSound}
 use Rattle.rules.specs.Reached.Reached.{untouched, agreed}
 use Rattle.rules.specs.Refusal.{joined, refusal, taken, takenAfter}
 use Rattle.rules.specs.Segment.{excludes, inLive, live}
-use Rattle.rules.proofs.Reached.{parts-of, reached, terms-of}
+use Rattle.rules.proofs.Reached.{parts-of, reached}
 use Rattle.rules.proofs.Tables.{instructions-cons}
 use Rattle.rules.proofs.Taken.{concatMap-append}
 use Rattle.watch_step.specs.Month.{monthNumbers, kwAt, kindAt, utilisationAt, optionalAt, countAt, startAt, expiryAt, ceaseAt, endAt, liveAt}
@@ -33,6 +33,7 @@ use Rattle.watch_step.specs.declared.step.Stepped.{Stepped}
 use Rattle.watch_month.specs.MonthOf.{MonthLaid, monthOf}
 use Rattle.watch.specs.Later.{Later·theorem}
 use Rattle.watch.proofs.Minute.{Figures, Row, figures-fit}
+use Rattle.watch.proofs.Steps.{span-most}
 use Rattle.watch.proofs.Watched.{figures, laid, row}
 
 -- ---- steps over two months that agree
@@ -236,11 +237,10 @@ module _ {size : ℕ} {g g′ : Ledger} (a : Agreed size g) (a′ : Agreed size 
         subst (λ z. T (instructionsSound z (spanIn g′) 0 (g .instructions ++ js))) ek
         (subst (λ z. T (instructionsSound (contractOf g′) (spanIn g′) 0 z)) ei (parts-of a′ .instructions))
 
-    times : (endOf k i ≤ 44640) × (expiry k i ≤ endOf k i)
-    unfolding spanIn
+    times : (endOf k i ≤ mostMinute) × (expiry k i ≤ endOf k i)
     times =
         let f = place-fits k (spanIn g) (g .instructions) 0 j (parts-of a .instructions) l in
-        omega (arith, f, terms-of a .ranges .days)
+        omega (arith, f, span-most a)
 
     lives : (p : ℕ) → p ≤ endOf k i → liveAt x p ≡ liveAt y p
     lives p h =

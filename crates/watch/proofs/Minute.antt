@@ -18,7 +18,7 @@ use Rattle.energy.proofs.Integers.{abs-parts, add-parts}
 use Rattle.energy.proofs.Rounding.{capped-within, payment-within}
 use Rattle.energy.proofs.Sums.{between-snoc, delivers-within, sum-within}
 use Rattle.energy.proofs.Tests.{either, off-or}
-use Rattle.commands.specs.Input.{isReading, kwOf}
+use Rattle.commands.specs.Input.{isReading, kwOf, mostMinute}
 use Rattle.commands.proofs.Terms.{reading-within}
 use Rattle.commands.specs.declared.contract.Contract.{Contract}
 use Rattle.commands.specs.declared.entries.Instruction.{Instruction}
@@ -32,7 +32,7 @@ use Rattle.rules.proofs.Cuts.{Rises, Timed, alike-rank, cut, rankOf, rises, seg
 use Rattle.rules.proofs.Folds.{sum-snoc}
 use Rattle.rules.proofs.OneRate.{Whole, same-rate}
 use Rattle.rules.proofs.Stages.{expects-stage, rate-stage}
-use Rattle.watch_step.specs.Month.{monthNumbers, kwAt, kindAt, utilisationAt, optionalAt, countAt, startAt, expiryAt, ceaseAt, endAt, liveAt}
+use Rattle.watch_step.specs.Month.{monthNumbers, monthPeriods, kwAt, kindAt, utilisationAt, optionalAt, countAt, startAt, expiryAt, ceaseAt, endAt, liveAt}
 use Rattle.watch_step.specs.Step.{advanced, answerTo, areBase, cutBefore, expectsAt, isNext, monthFits, over, priceAt, stepOf}
 use Rattle.watch_step.specs.declared.totals.Totals.{Totals}
 use Rattle.watch_step.specs.declared.step.Stepped.{Stepped}
@@ -53,7 +53,7 @@ pub record Figures (g : Ledger) (month : List ℕ) : Type 0 where
   pub utilisation : utilisationAt month ≡ contractOf g .utilisation
   pub optional : optionalAt month ≡ contractOf g .optional
   pub count : countAt month ≡ length (g .instructions)
-  pub live : (m : ℕ) → m < 44700 → liveAt month m ≡ inLive g m
+  pub live : (m : ℕ) → m < 30 * monthPeriods → liveAt month m ≡ inLive g m
   pub small : (kwOf (contractOf g) ≤ 500000) × (contractOf g .utilisation ≤ 1000000) × (contractOf g .optional ≤ 1000000)
   pub few : length (g .instructions) ≤ 64
   pub whole : Whole (g .windows)
@@ -81,7 +81,7 @@ pub record Read (g : Ledger) (i : Instruction) : Type 0 where
   pub timed : Timed (contractOf g) i
   pub issued : 3 ≤ i .issue .0
   pub ramps : i .issue .0 ≤ rampStart (contractOf g) i
-  pub inside : endOf (contractOf g) i ≤ 44640
+  pub inside : endOf (contractOf g) i ≤ mostMinute
   pub base : (m : ℕ) → i .issue .0 - 3 ≤ m → m < i .issue .0 + 1 → isReading (reads g m) ≡ true
   pub read : (m : ℕ) → rampStart (contractOf g) i ≤ m → m < endOf (contractOf g) i → isReading (reads g m) ≡ true
 

@@ -13,7 +13,7 @@ use Rattle.energy.specs.Number.{Within}
 use Rattle.energy.proofs.Integers.{abs-parts, leZ-yes}
 use Rattle.energy.proofs.Sums.{between-ind}
 use Rattle.energy.proofs.Tests.{either, on-and}
-use Rattle.commands.specs.Input.{from-toℤ}
+use Rattle.commands.specs.Input.{from-toℤ, mostMinute}
 use Rattle.commands.specs.declared.contract.Contract.{Contract}
 use Rattle.commands.specs.declared.entries.Instruction.{Instruction}
 use Rattle.commands.specs.declared.entries.Reading.{Reading}
@@ -36,7 +36,7 @@ use Rattle.watch.proofs.Steps.{Chain}
 
 -- an instruction's number and a minute that their types can hold
 abbrev Small : ℕ → ℕ → Type 0
-Small n m = (n ≤ 64) × (m ≤ 44640)
+Small n m = (n ≤ 64) × (m ≤ mostMinute)
 
 sum-yes : (z : ℤ) → Within 120000000 z → isSum z ≡ true
 sum-yes z h = rw (leZ-yes (negsuc 2147483647) z (omega arith), leZ-yes z (pos 2147483647) (omega arith)) refl
@@ -87,7 +87,7 @@ Minutes [] = Unit {0}
 Minutes (a ∷ rest) = Small (a .number) (a .minute) × Minutes rest
 
 -- every month's are
-pub minutes-small : (k : Contract) (span : ℕ) → span ≤ 44640 → (is : List Instruction) (n e : ℕ) → T (instructionsSound k span e is) → n + length is ≤ 65
+pub minutes-small : (k : Contract) (span : ℕ) → span ≤ mostMinute → (is : List Instruction) (n e : ℕ) → T (instructionsSound k span e is) → n + length is ≤ 65
     → Minutes (activeFrom k n is)
 unfolding activeFrom active
 minutes-small k span b [] n e t h = tt

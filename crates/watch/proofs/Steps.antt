@@ -13,7 +13,7 @@ use borrow.Author.Tests.{eq-eqb}
 use Rattle.energy.specs.Lists.{all, between, concatMap, filter, isSome, last, run, sum}
 use Rattle.energy.proofs.Sums.{all-in, between-cons}
 use Rattle.energy.proofs.Tests.{all-append, on-and, of-T}
-use Rattle.commands.specs.Input.{isReading, upMinutes}
+use Rattle.commands.specs.Input.{isReading, mostMinute, upMinutes}
 use Rattle.commands.specs.declared.contract.Contract.{Contract}
 use Rattle.commands.specs.declared.entries.Instruction.{Instruction}
 use Rattle.rules.specs.Ledger.{Ledger, Metered, contractOf, kwIn, spanIn, rampStart, endOf}
@@ -23,6 +23,7 @@ use Rattle.rules.specs.Statement.{reads}
 use Rattle.rules.specs.declared.statement.Line.{Line}
 use Rattle.rules.proofs.Cuts.{Timed}
 use Rattle.rules.proofs.Reached.{parts-of, terms-of}
+use Rattle.rules.proofs.Span.{span-cells, cells-most}
 use Rattle.rules.proofs.Tables.{InstructionFits, instructions-cons}
 use Rattle.watch_step.specs.Step.{over}
 use Rattle.watch_step.specs.declared.totals.Totals.{Totals}
@@ -74,6 +75,10 @@ abbrev pub Summed : Ledger → Totals → Type 0
 Summed g s = (s .capped .0 ≡ sum (cappedOf g) (segments g)) × (s .pence .0 ≡ sum (penceOf g) (segments g))
 
 -- ---- the months of a ledger
+
+-- no minute of theirs is above the greatest
+pub span-most : {size : ℕ} {g : Ledger} → Agreed size g → spanIn g ≤ mostMinute
+span-most {g = g} a = omega (arith, span-cells g, cells-most g (terms-of a))
 
 -- the columns of a month hold the times of instructions whose numbers start at n
 unfoldable pub Rows : Contract → List ℕ → ℕ → List Instruction → Type 0
@@ -145,7 +150,7 @@ module _ {size : ℕ} {g : Ledger} {month : List ℕ} (a : Agreed size g) (F : F
     needed = on-and (all some? (needs i)) (all some? (concatMap needs is)) (sym (all-append some? (needs i) (concatMap needs is)) ∙ b .read)
 
     read : Read g i
-    unfolding baseMinutes active spanIn
+    unfolding baseMinutes active
     read =
         let (base, own) =
         on-and (all some? (baseMinutes i)) (all some? (active k i)) (sym (all-append some? (baseMinutes i) (active k i)) ∙ needed .0) in
@@ -153,7 +158,7 @@ module _ {size : ℕ} {g : Ledger} {month : List ℕ} (a : Agreed size g) (F : F
           timed = timed;
           issued = x .0 .issue .0;
           ramps = omega (arith, up);
-          inside = omega (arith, x .0 .inside, terms-of a .ranges .days);
+          inside = omega (arith, x .0 .inside, span-most a);
           base = λ m p q. read-at m (all-in some? (i .issue .0 - 3) (i .issue .0 + 1) base m p q);
           read = λ m p q. read-at m (all-in some? (rampStart k i) (endOf k i) own m p q);
         }

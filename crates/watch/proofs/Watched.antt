@@ -29,7 +29,7 @@ use Rattle.book.specs.Book.{emptyBook, ledgerIn, putAll}
 use Rattle.book.specs.Sound.{sound}
 use Rattle.book.specs.declared.Book.{Book}
 use Rattle.book.proofs.FromCommands.{Leads, leads}
-use Rattle.watch_step.specs.Month.{monthNumbers, liveAt}
+use Rattle.watch_step.specs.Month.{monthNumbers, monthPeriods, liveAt}
 use Rattle.watch_step.specs.Step.{noTotals}
 use Rattle.watch_month.specs.MonthOf.{monthBook, monthLaid, monthOf, monthRefusal, unread}
 use Rattle.watch_month.proofs.Places as places
@@ -39,7 +39,7 @@ use Rattle.watch.proofs.Done.{sumTo}
 use Rattle.watch.proofs.Fits.{none-fit}
 use Rattle.watch.proofs.Minute.{Figures, Row, cappedOf, penceOf, sum-mapped}
 use Rattle.watch.proofs.Numbers.{Minutes, chain-numbers, minutes-small}
-use Rattle.watch.proofs.Steps.{Chain, Rows, Summed, chain-ends, chain-taken, chain-totals, goes}
+use Rattle.watch.proofs.Steps.{Chain, Rows, Summed, chain-ends, chain-taken, chain-totals, goes, span-most}
 
 -- ---- the month's numbers
 
@@ -55,16 +55,16 @@ module _ {size : ℕ} {g : Ledger} (a : Agreed size g) (more : List ℕ) where
   abbrev few : length (g .instructions) ≤ 64
   few = a .instructions
 
-  front : (p : ℕ) → p < 1815 → getD month p 0 ≡ getD (monthOf g) p 0
+  front : (p : ℕ) → p < monthNumbers → getD month p 0 ≡ getD (monthOf g) p 0
   front p h = List·getD-append (monthOf g) more 0 p (omega (arith, places.length-month g few))
 
   flagged : (b : Bool) → not (eqb (cond b 1 0) 0) ≡ b
   flagged true = refl
   flagged false = refl
 
-  live-is : (m : ℕ) → m < 44700 → liveAt month m ≡ inLive g m
+  live-is : (m : ℕ) → m < 30 * monthPeriods → liveAt month m ≡ inLive g m
   live-is m h =
-      rw (lt-ltb (m / 30) 1490 (omega arith), front (325 + m / 30) (omega arith), places.live-at g few (m / 30) (omega arith))
+      rw (lt-ltb (m / 30) monthPeriods (omega arith), front (325 + m / 30) (omega arith), places.live-at g few (m / 30) (omega arith))
       (flagged (inLive g (30 * (m / 30))) ∙ same-live (30 * (m / 30)) m (omega arith) g (whole g (agreed a)))
 
   pub figures : Figures g month
@@ -130,10 +130,10 @@ steps g (agreed a) c more =
     })
 
 minutes : {size : ℕ} (g : Ledger) → Reached size g → Minutes (activeMinutes g)
-unfolding activeMinutes activeFrom spanIn
+unfolding activeMinutes activeFrom
 minutes g (untouched u) = subst (λ is. Minutes (activeFrom (contractOf g) 1 is)) (sym (u .instructions)) tt
 minutes g (agreed a) =
-    minutes-small (contractOf g) (spanIn g) (omega (arith, terms-of a .ranges .days)) (g .instructions) 1 0 (parts-of a .instructions)
+    minutes-small (contractOf g) (spanIn g) (span-most a) (g .instructions) 1 0 (parts-of a .instructions)
     (omega (arith, a .instructions))
 
 watched-of : {size : ℕ} (g : Ledger) → Reached size g → complete g ≡ true → (more : List ℕ) → Watched g (monthOf g ++ more)

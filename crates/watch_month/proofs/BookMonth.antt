@@ -27,11 +27,12 @@ use Rattle.book.specs.declared.Book.{Book}
 use Rattle.book.proofs.SoundBook.{sound-book}
 use Rattle.book.proofs.SoundTests.{Empty, sound-empty}
 use Rattle.settle_terms.specs.declared.Terms.{Terms}
-use Rattle.settle_terms.specs.Terms.{Timed, termsOf}
+use Rattle.settle_terms.specs.Terms.{Timed, periodPlaces, termsOf}
 use Rattle.settle_live.specs.Live.{Cleared, LiveTable, Windows, isLive}
 use Rattle.settle.proofs.LedgerTables.{TermsOf}
 use Rattle.settle.proofs.LiveTable.{live-at}
 use Rattle.settle.proofs.BookPlan.{Grounds, cleared, contract-is, kw-upto, priced, surveyed, windows, windows-fit}
+use Rattle.watch_step.specs.Month.{monthNumbers, monthPeriods}
 use Rattle.watch_month.specs.MonthBy.{Figured, columnBy, figuresBy, flagBy, monthBy, periodsBy, timeBy, timesBy}
 use Rattle.watch_month.specs.MonthOf.{column, monthOf, monthRefusal, monthLaid, monthBook, unread}
 use Rattle.watch_month.proofs.Laying.{length-columnBy}
@@ -87,7 +88,8 @@ module _ {g : Ledger} {t : Terms} {times marks : List ℕ} (R : Read g t times m
       let expiries = column-is (expiry k) is times 0 n (t .response .0) (T .count) (R .few) (λ j h. rw (zero-add j) (T .each j h .expiry)) in
       let ceases = column-is (λ i. i .cease .0) is times 64 n 0 (T .count) (R .few) (λ j h. omega (arith, T .each j h .cease)) in
       let ends = column-is (endOf k) is times 64 n (t .downminutes .0) (T .count) (R .few) (λ j h. T .each j h .end) in
-      let flags : periodsBy marks ≡ map (λ p. cond (inLive g (30 * p)) 1 0) (between 0 1490) = λ i. map (λ p. R .periods p i) (between 0 1490) in
+      let flags : periodsBy marks ≡ map (λ p. cond (inLive g (30 * p)) 1 0) (between 0 monthPeriods) =
+      λ i. map (λ p. R .periods p i) (between 0 monthPeriods) in
       regroup (figuresBy t) (columnBy times 0 n 0) (columnBy times 0 n (t .response .0 - t .upminutes .0)) (columnBy times 0 n (t .response .0))
       (columnBy times 64 n 0) (columnBy times 64 n (t .downminutes .0)) (periodsBy marks)
       ∙ (λ z. figures-are z ++ issues z ++ starts z ++ expiries z ++ ceases z ++ ends z ++ flags z)
@@ -107,8 +109,8 @@ pub record Workable (b : Book) (times : List ℕ) : Type 0 where
   pub terms : Upto 500000 (b .contract .contracted .0) × (upMinutes (b .contract) ≤ 240) × (downMinutes (b .contract) ≤ 240)
   pub figured : Figured (termsOf (b .contract) (b .ninstructions))
   pub cleared : Cleared times (termsOf (b .contract) (b .ninstructions)) (b .contract .recovery .0)
-  pub windows : Windows (b .windows) (b .nwindows) 1490
-  pub month : (marks : List ℕ) → length marks ≡ 1490
+  pub windows : Windows (b .windows) (b .nwindows) periodPlaces
+  pub month : (marks : List ℕ) → length marks ≡ periodPlaces
       → LiveTable (isLive times (termsOf (b .contract) (b .ninstructions)) (b .contract .recovery .0)) (b .windows) (b .nwindows) marks
       → monthBy (termsOf (b .contract) (b .ninstructions)) times marks ≡ monthOf (unread b)
 
@@ -136,7 +138,7 @@ module _ (b : Book) (times : List ℕ) (S : sound b ≡ true) (shape : Shaped b)
           timed = timed;
         }
 
-    reads : (marks : List ℕ) → length marks ≡ 1490 → LiveTable (isLive times t (b .contract .recovery .0)) (b .windows) (b .nwindows) marks
+    reads : (marks : List ℕ) → length marks ≡ periodPlaces → LiveTable (isLive times t (b .contract .recovery .0)) (b .windows) (b .nwindows) marks
         → Read (ledgerIn b cells) t times marks
     unfolding termsOf
     reads marks size L =
@@ -243,14 +245,14 @@ module _ (b : Book) (memory : List ℕ) where
   unfolding monthBook monthRefusal firstMet
   is-11 e = rw e refl
 
-  pub is-26 : sound b ≡ true → length memory < 1815 → monthLaid (Refused 26) memory ≡ monthBook b memory
+  pub is-26 : sound b ≡ true → length memory < monthNumbers → monthLaid (Refused 26) memory ≡ monthBook b memory
   unfolding monthBook monthRefusal firstMet
-  is-26 e h = rw (e, lt-ltb (length memory) 1815 h) refl
+  is-26 e h = rw (e, lt-ltb (length memory) monthNumbers h) refl
 
-  pub is-laid : sound b ≡ true → 1815 ≤ length memory → (times marks : List ℕ) {after : List ℕ} {t u : Terms}
-      → after ≡ monthBy t times marks ++ drop 1815 memory
+  pub is-laid : sound b ≡ true → monthNumbers ≤ length memory → (times marks : List ℕ) {after : List ℕ} {t u : Terms}
+      → after ≡ monthBy t times marks ++ drop monthNumbers memory
       → t ≡ u
       → monthBy u times marks ≡ monthOf (unread b)
       → monthLaid Taken after ≡ monthBook b memory
   unfolding monthBook monthRefusal firstMet
-  is-laid e h times marks l q m = rw (e, le-ltb (length memory) 1815 h, l, q, m) refl
+  is-laid e h times marks l q m = rw (e, le-ltb (length memory) monthNumbers h, l, q, m) refl

@@ -10,7 +10,7 @@ use Rattle.energy.specs.Lists.{run, between, putAt, Laid}
 use Rattle.energy.proofs.Puts.{laid-none, laid-long, laid-both}
 use Rattle.settle_terms.specs.declared.Terms.{Terms}
 use Rattle.rules.proofs.Folds.{length-first, first-snoc}
-use Rattle.watch_step.specs.Month.{monthNumbers}
+use Rattle.watch_step.specs.Month.{monthNumbers, monthPeriods}
 use Rattle.watch_month.specs.MonthBy.{timeBy, columnBy, timesBy, figuresBy, flagBy, periodsBy, monthBy}
 
 -- what f gives of the first n numbers
@@ -91,6 +91,6 @@ module _ (t : Terms) (times live : List ℕ) where
       let n = length-times times (t .instructions) (t .response .0) (t .upminutes .0) (t .downminutes .0) in
       let l₁ : Laid (figuresBy t) m 0 m₁ 5 = record { ends = refl; holds = figures } in
       let l₂ : Laid columns m₁ 5 m₂ 325 = record { ends = omega (arith, n); holds = between-them } in
-      let l₃ : Laid (periodsBy live) m₂ 325 m₃ 1815 = record { ends = omega (arith, length-first (flagBy live) 1490); holds = periods } in
+      let l₃ : Laid (periodsBy live) m₂ 325 m₃ monthNumbers = record { ends = omega (arith, length-first (flagBy live) monthPeriods); holds = periods } in
       let l = laid-both (omega arith) (laid-both (omega arith) l₁ l₂) l₃ in
       l .holds ∙ rw (sym (l .ends)) refl

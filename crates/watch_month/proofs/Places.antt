@@ -15,7 +15,7 @@ use Rattle.rules.specs.Ledger.{Ledger, contractOf, expiry, rampStart, endOf, no
 use Rattle.rules.specs.Segment.{inLive}
 use Rattle.rules.proofs.Lists.{getD-within}
 use Rattle.rules.proofs.Folds.{length-first}
-use Rattle.watch_step.specs.Month.{kwAt, kindAt, utilisationAt, optionalAt, countAt, startAt, expiryAt, ceaseAt, endAt}
+use Rattle.watch_step.specs.Month.{monthNumbers, monthPeriods, kwAt, kindAt, utilisationAt, optionalAt, countAt, startAt, expiryAt, ceaseAt, endAt}
 use Rattle.watch_month.specs.MonthOf.{column, monthOf}
 
 -- ---- a column
@@ -95,7 +95,7 @@ module _ (g : Ledger) (few : length (g .instructions) ≤ 64) where
   to-ends = to-ceases ++ column (endOf k) is
 
   abbrev whole : List ℕ
-  whole = to-ends ++ map flag (between 0 1490)
+  whole = to-ends ++ map flag (between 0 monthPeriods)
 
   -- a front of so many numbers, and a column after it
   longer : (xs : List ℕ) (f : Instruction → ℕ) (n : ℕ) → length xs ≡ n → length (xs ++ column f is) ≡ n + 64
@@ -119,7 +119,8 @@ module _ (g : Ledger) (few : length (g .instructions) ≤ 64) where
   -- a place before the parts that come after it
   in-ceases : (p : ℕ) → p < 261 → getD whole p 0 ≡ getD to-ceases p 0
   in-ceases p h =
-      List·getD-append to-ends (map flag (between 0 1490)) 0 p (omega (arith, l5)) ∙ List·getD-append to-ceases (column (endOf k) is) 0 p (omega (arith, l4))
+      List·getD-append to-ends (map flag (between 0 monthPeriods)) 0 p (omega (arith, l5))
+      ∙ List·getD-append to-ceases (column (endOf k) is) 0 p (omega (arith, l4))
 
   in-expiries : (p : ℕ) → p < 197 → getD whole p 0 ≡ getD to-expiries p 0
   in-expiries p h = in-ceases p (omega arith) ∙ List·getD-append to-expiries (column (λ i. i .cease .0) is) 0 p (omega (arith, l3))
@@ -130,9 +131,9 @@ module _ (g : Ledger) (few : length (g .instructions) ≤ 64) where
   in-issues : (p : ℕ) → p < 69 → getD whole p 0 ≡ getD to-issues p 0
   in-issues p h = in-starts p (omega arith) ∙ List·getD-append to-issues (column (rampStart k) is) 0 p (omega (arith, l1))
 
-  pub length-month : length (monthOf g) ≡ 1815
+  pub length-month : length (monthOf g) ≡ monthNumbers
   unfolding monthOf
-  length-month = length-append to-ends (map flag (between 0 1490)) ∙ omega (arith, l5, length-first flag 1490)
+  length-month = length-append to-ends (map flag (between 0 monthPeriods)) ∙ omega (arith, l5, length-first flag monthPeriods)
 
   -- the figures
   pub kw-at : kwAt (monthOf g) ≡ kwOf k
@@ -183,10 +184,10 @@ module _ (g : Ledger) (few : length (g .instructions) ≤ 64) where
     pub end-at : endAt (monthOf g) (suc j) ≡ endOf k i
     unfolding monthOf
     end-at =
-        List·getD-append to-ends (map flag (between 0 1490)) 0 (260 + suc j) (omega (arith, l5))
+        List·getD-append to-ends (map flag (between 0 monthPeriods)) 0 (260 + suc j) (omega (arith, l5))
         ∙ stands to-ceases (endOf k) 261 (260 + suc j) l4 (omega arith)
 
   -- the number of period p, from 0
-  pub live-at : (p : ℕ) → p < 1490 → getD (monthOf g) (325 + p) 0 ≡ cond (inLive g (30 * p)) 1 0
+  pub live-at : (p : ℕ) → p < monthPeriods → getD (monthOf g) (325 + p) 0 ≡ cond (inLive g (30 * p)) 1 0
   unfolding monthOf
-  live-at p h = behind to-ends (map flag (between 0 1490)) 325 p (325 + p) l5 refl ∙ first-at flag 1490 p h
+  live-at p h = behind to-ends (map flag (between 0 monthPeriods)) 325 p (325 + p) l5 refl ∙ first-at flag monthPeriods p h

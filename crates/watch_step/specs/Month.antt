@@ -8,11 +8,11 @@ use lib.ListN.{getD}
 
 -- the numbers of a month
 abbrev pub monthNumbers : ℕ
-monthNumbers = 1815
+monthNumbers = 1816
 
--- the periods among them: those of the longest month, and two more, as where a month is settled
+-- the periods among them: those of the longest month and one more, as where a month is settled
 abbrev pub monthPeriods : ℕ
-monthPeriods = 1490
+monthPeriods = 1491
 
 -- contracted kW
 abbrev pub kwAt : List ℕ → ℕ

@@ -41,13 +41,13 @@ pub const CEASES: usize = 196;
 
 pub const ENDS: usize = 260;
 
-// The place of the first period's number, and how many there are: those of 31 days, and two more.
+// The place of the first period's number, and how many there are: those of the longest month and one more.
 pub const PERIODS: usize = 325;
 
-pub const MONTH_PERIODS: usize = 1490;
+pub const MONTH_PERIODS: usize = 1491;
 
 // All numbers of a month.
-pub const MONTH_NUMBERS: usize = 1815;
+pub const MONTH_NUMBERS: usize = 1816;
 
 // Whether a month has all its numbers, and its figures are in their ranges.
 pub(crate) fn month_fits(month: &[u32]) -> bool

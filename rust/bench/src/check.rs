@@ -2,11 +2,12 @@
 //! on months to order, on the comparison's files, also with too little memory,
 //! and on books that no commands leave.
 
+mod dated;
 mod watched;
 
 use crate::enter;
 use crate::month::{self, FILE_BYTES, MINUTES, REVISED_BYTES};
-use crate::plain::{self, Book, Contract, Fault, Instruction, Line, Window};
+use crate::plain::{self, Book, Contract, Date, Fault, Instruction, Line, Window};
 use crate::sides::{library_rows, rows, tables, LINES};
 use crate::watch::Month;
 use compare::random::Random;
@@ -20,8 +21,9 @@ use second::settle as second_settle;
 use second::switches::Switch;
 use second::write as second_write;
 use stor::rows::refusal_row;
-use stor::{library, Refusal, Tables, LINE_NUMBERS, MONTH_BYTES, SUMS};
+use stor::{library, Refusal, Tables, LINE_NUMBERS, MONTH_BYTES, MONTH_MINUTES, SUMS};
 
+/// What a month to order takes.
 const ROOM: Room = Room {
     minutes: MINUTES,
     lines: LINES,
@@ -51,6 +53,7 @@ pub fn check() -> Result<(), String> {
     println!("a dozen months to order: alike");
     let settled = (1..=800).map(check_file).sum::<Result<usize, String>>()?;
     println!("800 generated files, {settled} of them settled: alike");
+    dated::check()?;
     watched::check()?;
     let unsound = (1..=4_000)
         .map(check_made_up)
@@ -76,7 +79,7 @@ fn check_month(seed: u32) -> Result<(), String> {
         (&month.revised, month::numbers()),
     ];
     for (file, revisions) in files {
-        let (book, memory) = second_month(file);
+        let (book, memory) = second_month(file, MINUTES);
         let meter = month.meter.clone();
         if plain_book(&book) != month.book || memory != (Memory { meter, revisions }) {
             return Err(format!("seed {seed}: the file is not the book"));
@@ -93,9 +96,9 @@ fn check_month(seed: u32) -> Result<(), String> {
 }
 
 /// The book and readings that a file leaves, refused commands left out.
-fn second_month(file: &[u8]) -> (second_book::Book, Memory) {
+fn second_month(file: &[u8], minutes: usize) -> (second_book::Book, Memory) {
     let mut book = second_book::Book::default();
-    let mut memory = Memory::of_minutes(MINUTES);
+    let mut memory = Memory::of_minutes(minutes);
     second_book::enter_file(file, &mut book, &mut memory, false, Switch::RIGHT);
     (book, memory)
 }
@@ -407,26 +410,26 @@ fn file_written_alike(
 /// memory.
 fn check_file(seed: u64) -> Result<usize, String> {
     let file = scenes::file(seed, MONTHS);
-    let (book, memory) = second_month(&file);
+    let (book, memory) = second_month(&file, MONTH_MINUTES);
     let what = format!("file {seed}");
     let refusal = settled_alike(&what, &book, &memory, LINES, Any::No)?;
-    entered_alike(&what, &file, MINUTES, MINUTES)?;
+    entered_alike(&what, &file, MONTH_MINUTES, MONTH_MINUTES)?;
 
     let mut random = Random::new(seed);
     let room = Room {
-        minutes: random.between(0, MINUTES as i64) as usize,
+        minutes: random.between(0, MONTH_MINUTES as i64) as usize,
         lines: random.pick(&[0, 1, 5, 60, 719]),
     };
     // Either memory may be the longer one, and by a minute only.
-    let any = random.between(0, MINUTES as i64) as usize;
-    let span = book.span() as usize;
+    let any = random.between(0, MONTH_MINUTES as i64) as usize;
+    let asked = book.asked_minutes(Switch::RIGHT) as usize;
     let (cells, bytes) = random.pick(&[
         (room.minutes, room.minutes),
         (room.minutes, any),
-        (MINUTES, room.minutes),
-        (span, span),
-        (span, span.saturating_sub(1)),
-        (span.saturating_sub(1), span),
+        (MONTH_MINUTES, room.minutes),
+        (asked, asked),
+        (asked, asked.saturating_sub(1)),
+        (asked.saturating_sub(1), asked),
     ]);
     let what = format!("{what}, {cells} cells, {bytes} revision bytes, {room:?}");
     let mut short = first(&memory, cells, bytes);
@@ -462,7 +465,7 @@ impl std::iter::Sum for Unsound {
 /// Changes a book in one place, so that mostly no commands leave it.
 fn check_made_up(seed: u64) -> Result<Unsound, String> {
     let file = scenes::file(seed, TWO_DAYS);
-    let (mut book, memory) = second_month(&file);
+    let (mut book, memory) = second_month(&file, MINUTES);
     let mut random = Random::new(seed);
     let near = |random: &mut Random, value: &mut i64| {
         let wide = random.between(-40, 40);
@@ -552,11 +555,13 @@ fn plain_book(book: &second_book::Book) -> Book {
         has_contract: book.contract.is_some(),
         closed: book.closed,
         contract: book.contract.as_ref().map_or(Contract::default(), contract),
+        date: book.date.as_ref().map_or(Date::default(), date),
         window_count: book.windows.len(),
         instruction_count: book.instructions.len(),
         default_count: book.defaults.len(),
         ..Book::default()
     };
+    plain.span = plain.contract.span() + plain.date.change();
     for (to, from) in plain.windows.iter_mut().zip(&book.windows) {
         *to = Window {
             start: from.start as i32,
@@ -578,6 +583,14 @@ fn plain_book(book: &second_book::Book) -> Book {
         };
     }
     plain
+}
+
+fn date(from: &second_bytes::Date) -> Date {
+    Date {
+        year: from.year as i32,
+        month: from.month as i32,
+        day: from.day as i32,
+    }
 }
 
 fn contract(from: &second_bytes::Contract) -> Contract {

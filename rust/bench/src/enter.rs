@@ -4,7 +4,7 @@
 //! measured against, and it tests all that the library tests.
 
 use crate::plain::{
-    is_reading, within, Book, Contract, Fault, Instruction, Window, DEFAULTS, INSTRUCTIONS,
+    is_reading, within, Book, Contract, Date, Fault, Instruction, Window, DEFAULTS, INSTRUCTIONS,
     LAST_MINUTE, NO_READING, WINDOWS,
 };
 
@@ -31,6 +31,7 @@ pub fn enter_file(
             b'M' => command(rest, |operands| reading(book, meter, revisions, operands)),
             b'R' => command(rest, |operands| revision(book, meter, revisions, operands)),
             b'C' => command(rest, |operands| contract(book, meter, revisions, operands)),
+            b'T' => command(rest, |operands| date(book, meter, revisions, operands)),
             b'W' => command(rest, |operands| window(book, operands)),
             b'I' => command(rest, |operands| instruction(book, operands)),
             b'D' => command(rest, |operands| default(book, operands)),
@@ -113,6 +114,46 @@ fn contract(book: &mut Book, meter: &mut [i32], revisions: &mut [u8], o: &[u8; 3
     numbers.fill(0);
     book.contract = contract;
     book.has_contract = true;
+    book.span = contract.span();
+    0
+}
+
+/// Once in a file at most, and kept apart so that the loop over readings is as
+/// quick as without it.
+#[inline(never)]
+fn date(book: &mut Book, meter: &mut [i32], revisions: &mut [u8], o: &[u8; 4]) -> u8 {
+    let date = Date {
+        year: two(o[0], o[1]),
+        month: i32::from(o[2]),
+        day: i32::from(o[3]),
+    };
+    if !date.exists() {
+        return 28;
+    }
+    let number = not_ready(book);
+    if number != 0 {
+        return number;
+    }
+    // What the book itself asks for is there: its date was taken in this memory.
+    let undated = book.contract.span() as usize;
+    let asked = undated + date.gained() as usize;
+    let (Some(cells), Some(numbers)) = (meter.get_mut(..asked), revisions.get_mut(..asked)) else {
+        return 15;
+    };
+    let begun = !book.date.is_none()
+        || book.window_count > 0
+        || book.instruction_count > 0
+        || cells[..undated].iter().any(|&kw| is_reading(kw));
+    if begun {
+        return 29;
+    }
+    if !book.dated_by(&date) {
+        return 30;
+    }
+    cells[undated..].fill(NO_READING);
+    numbers[undated..].fill(0);
+    book.date = date;
+    book.span += date.change();
     0
 }
 
@@ -135,7 +176,7 @@ fn window(book: &mut Book, o: &[u8; 5]) -> u8 {
     if number != 0 {
         return number;
     }
-    if window.end > book.contract.span() {
+    if window.end > book.span {
         return 16;
     }
     if window.rejected > book.contract.service {
@@ -167,7 +208,7 @@ fn instruction(book: &mut Book, o: &[u8; 4]) -> u8 {
     }
     let contract = &book.contract;
     let down = contract.down();
-    if instruction.cease + down > contract.span() {
+    if instruction.cease + down > book.span {
         return 16;
     }
     if instruction.cease < instruction.issue + contract.response {
@@ -203,7 +244,7 @@ fn default(book: &mut Book, o: &[u8; 4]) -> u8 {
     if number != 0 {
         return number;
     }
-    if fault.minute >= book.contract.span() {
+    if fault.minute >= book.span {
         return 16;
     }
     if book.window_of(fault.minute).is_none() {
@@ -258,11 +299,11 @@ fn revision(book: &Book, meter: &mut [i32], revisions: &mut [u8], o: &[u8; 7]) -
     0
 }
 
-/// 12, 13 and 16 of a minute that is read. The contract was taken, so the span
-/// is in the memory and 15 is settled.
+/// 12, 13 and 16 of a minute that is read. Contract and date were taken, so the
+/// span is in the memory and 15 is settled.
 fn not_in_span(book: &Book, minute: i32) -> u8 {
     let number = not_ready(book);
-    if number == 0 && minute >= book.contract.span() {
+    if number == 0 && minute >= book.span {
         return 16;
     }
     number

@@ -56,6 +56,7 @@ pub fn of_seed(seed: u32) -> Month {
         has_contract: true,
         closed: true,
         contract: CONTRACT,
+        span: MINUTES as i32,
         window_count: WINDOW_COUNT as usize,
         instruction_count: INSTRUCTION_COUNT as usize,
         ..Book::default()

@@ -5,9 +5,10 @@
 pub const WINDOWS: usize = 128;
 pub const INSTRUCTIONS: usize = 64;
 pub const DEFAULTS: usize = 128;
-pub const PERIODS: usize = 48 * 31;
+/// Of the longest month, a dated October: 31 days and an hour.
+pub const PERIODS: usize = 48 * 31 + 2;
 /// The end of the longest month.
-pub const LAST_MINUTE: i32 = 44_640;
+pub const LAST_MINUTE: i32 = 44_700;
 /// What a contract puts into each cell of its span.
 pub const NO_READING: i32 = i32::MIN;
 
@@ -26,6 +27,14 @@ pub struct Contract {
     pub availability_rate: i32,
     pub utilisation_rate: i32,
     pub optional_rate: i32,
+}
+
+/// Of the month's first day; zeros where there is none.
+#[derive(Clone, Copy, Default, PartialEq, Eq, Debug)]
+pub struct Date {
+    pub year: i32,
+    pub month: i32,
+    pub day: i32,
 }
 
 #[derive(Clone, Copy, Default, PartialEq, Eq, Debug)]
@@ -54,6 +63,9 @@ pub struct Book {
     pub has_contract: bool,
     pub closed: bool,
     pub contract: Contract,
+    pub date: Date,
+    /// Worked out when contract and date are taken: every reading is held to it.
+    pub span: i32,
     pub window_count: usize,
     pub windows: [Window; WINDOWS],
     pub instruction_count: usize,
@@ -68,6 +80,8 @@ impl Default for Book {
             has_contract: false,
             closed: false,
             contract: Contract::default(),
+            date: Date::default(),
+            span: 0,
             window_count: 0,
             windows: [Window::default(); WINDOWS],
             instruction_count: 0,
@@ -157,7 +171,40 @@ pub const fn is_reading(kw: i32) -> bool {
     kw.wrapping_add(500_000) as u32 <= 1_000_000
 }
 
+impl Date {
+    pub fn is_none(&self) -> bool {
+        *self == Date::default()
+    }
+
+    pub fn days(&self) -> i32 {
+        match self.month {
+            // No year of a date ends a century.
+            2 => 28 + i32::from(self.year % 4 == 0),
+            4 | 6 | 9 | 11 => 30,
+            _ => 31,
+        }
+    }
+
+    /// If not, it gets 28.
+    pub fn exists(&self) -> bool {
+        within(self.year, 2_007, 2_099)
+            && within(self.month, 1, 12)
+            && within(self.day, 1, self.days())
+    }
+
+    /// Minutes that 15 asks for besides those of the contract's days.
+    pub fn gained(&self) -> i32 {
+        60 * i32::from(self.month == 10)
+    }
+
+    /// Minutes that the month has besides those of its days.
+    pub fn change(&self) -> i32 {
+        self.gained() - 60 * i32::from(self.month == 3)
+    }
+}
+
 impl Contract {
+    /// Without a date.
     pub fn span(&self) -> i32 {
         1_440 * self.days
     }
@@ -202,9 +249,21 @@ impl Book {
             && self.default_count <= DEFAULTS
             && self.contract.in_range()
             && self.contract.ramps_fit()
+            && self.sound_date()
             && self.sound_windows()
             && self.sound_instructions()
             && self.sound_defaults()
+    }
+
+    fn sound_date(&self) -> bool {
+        let date = &self.date;
+        date.is_none() || date.exists() && self.dated_by(date)
+    }
+
+    /// Whether a date is the first of a month of the contract's days; if not, it
+    /// gets 30.
+    pub fn dated_by(&self, date: &Date) -> bool {
+        date.day == 1 && date.days() == self.contract.days
     }
 
     fn sound_windows(&self) -> bool {
@@ -213,7 +272,7 @@ impl Book {
         for window in used {
             let sound = last_end <= window.start
                 && window.start < window.end
-                && window.end <= self.contract.span()
+                && window.end <= self.span
                 && window.start % 30 == 0
                 && window.end % 30 == 0
                 && within(window.rejected, 0, self.contract.service);
@@ -227,7 +286,7 @@ impl Book {
 
     fn sound_instructions(&self) -> bool {
         let contract = &self.contract;
-        let (down, span) = (contract.down(), contract.span());
+        let (down, span) = (contract.down(), self.span);
         let (used, unused) = self.instructions.split_at(self.instruction_count);
         let mut ready = 3;
         for instruction in used {
@@ -290,7 +349,8 @@ pub fn settle(
         return Err(11);
     }
     let contract = &book.contract;
-    if meter.len().min(revisions.len()) < contract.span() as usize {
+    let asked = contract.span() + book.date.gained();
+    if meter.len().min(revisions.len()) < asked as usize {
         return Err(15);
     }
     if !book.closed {

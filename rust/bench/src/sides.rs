@@ -230,7 +230,7 @@ impl Side for PlainEnterer {
     }
 
     fn tests(&self) -> &'static str {
-        "every refusal from 1 to 23 that a file can meet, and 27"
+        "every refusal from 1 to 23 that a file can meet, and 27 to 30"
     }
 
     fn load(&mut self, month: &Rc<Month>) -> Result<(), String> {
@@ -298,6 +298,9 @@ pub fn tables(book: &Book) -> Option<Tables> {
         c.availability_rate,
         c.utilisation_rate,
         c.optional_rate,
+        book.date.year,
+        book.date.month,
+        book.date.day,
     ];
     let mut tables = Tables::default();
     for (to, from) in tables.contract.iter_mut().zip(contract) {

@@ -5,8 +5,8 @@
 use crate::plain::{is_reading, nearest, within, Book, Live, Run, INSTRUCTIONS, PERIODS};
 use stor::TOTAL_NUMBERS;
 
-/// Periods of a month: those of 31 days, and two more.
-const MONTH_PERIODS: usize = PERIODS + 2;
+/// The places for periods of a month: those of the longest, and one more.
+const MONTH_PERIODS: usize = PERIODS + 1;
 /// What a step answers.
 const TAKEN: u8 = 0;
 const UNFIT: u8 = 101;

@@ -1,26 +1,28 @@
 //! What the generated files met: refusals, ends of ranges, and features of
 //! settled months. A comparison proves little about what it never met.
 
+mod dated;
 mod watched;
 
 use second::book::{self, Book, Entered};
 use second::bytes::{self, Command, Contract, Instruction, Read};
+use second::calendar;
 use second::memory::Memory;
 use second::rows::Room;
-use second::rules::{self, *};
+use second::rules::*;
 use second::settle::{self, Rate, Stage, Statement};
 use second::switches::Switch;
 use std::collections::BTreeMap;
 use std::ops::RangeInclusive;
 
 /// The refusals that a file can meet.
-pub const REFUSALS: [u8; 20] = [
-    1, 2, 3, 4, 5, 12, 13, 14, 15, 16, 17, 18, 19, 20, 21, 22, 27, 23, 24, 25,
+pub const REFUSALS: [u8; 23] = [
+    1, 2, 3, 4, 5, 28, 12, 13, 14, 15, 29, 30, 16, 17, 18, 19, 20, 21, 22, 27, 23, 24, 25,
 ];
 /// Of these, what only settling meets.
 const SETTLING: [u8; 2] = [24, 25];
 
-const FEATURES: [&str; 102] = [
+const FEATURES: [&str; 151] = [
     "settled, generator",
     "settled, demand reducer",
     "settled, committed",
@@ -96,11 +98,46 @@ const FEATURES: [&str; 102] = [
     "31 days, every table full",
     "31 days, a reading in every minute",
     "31 days, 1679 lines",
+    "dated, month 1",
+    "dated, month 2",
+    "dated, month 3",
+    "dated, month 4",
+    "dated, month 5",
+    "dated, month 6",
+    "dated, month 7",
+    "dated, month 8",
+    "dated, month 9",
+    "dated, month 10",
+    "dated, month 11",
+    "dated, month 12",
+    "dated, 28 days",
+    "dated, 29 days",
+    "dated, 30 days",
+    "dated, 31 days",
+    "dated, a reading in every minute",
+    "dated, last minute of a gained hour read",
+    "dated, last minute before a lost hour read",
+    "dated, instruction to the end of a gained hour",
+    "dated, instruction to the end before a lost hour",
+    "dated, window to the end of a gained hour",
+    "dated, window to the end before a lost hour",
+    "dated, 1681 lines",
+    "dated, a minute of a lost hour",
+    "dated, the minute behind a gained hour",
+    "dated behind a date",
+    "dated behind a window",
+    "dated behind an instruction",
+    "dated behind a reading",
+    "dated behind a reading of the last minute",
+    "dated by another day than the first",
+    "dated as a month of other days",
     "written, empty",
     "written, open",
     "written, closed",
     "written, in another order",
     "written, revised",
+    "written, dated",
+    "written, reading in a gained hour",
     "watched, open",
     "watched, closed",
     "watched, no contract",
@@ -123,15 +160,31 @@ const FEATURES: [&str; 102] = [
     "watched, segment of one minute",
     "watched, reading revised",
     "watched, capped below 0",
+    "watched, dated",
+    "watched, minute of a gained hour",
+    "asked of a refused file",
+    "asked without a date",
+    "asked, working",
+    "asked, working, others are holidays",
+    "asked, working, 0 is listed",
+    "asked, Sunday",
+    "asked, holiday",
+    "asked, day 0",
+    "asked, the first",
+    "asked, the last",
+    "asked, behind the last",
+    "asked, no day and listed",
 ];
 
 /// Features that start like this are met in whole months alone, and must be
 /// met by a comparison on them.
-const WHOLE_MONTH: &str = "31 days";
-/// Features that start like these are met where files are written, or watched.
+const WHOLE_MONTH: [&str; 2] = ["31 days", "dated"];
+/// Features that start like these are met where files are written, watched, or
+/// asked for a day.
 const WRITTEN: &str = "written";
 const WATCHED: &str = "watched";
-/// No month has more lines.
+const ASKED: &str = "asked";
+/// No month without a date has more lines.
 const MOST_LINES: i64 = 1_679;
 
 #[derive(Default)]
@@ -143,10 +196,12 @@ pub struct Coverage {
     whole_months: bool,
     /// Whether some program had less.
     short_months: bool,
-    /// Whether some program listed files, or wrote or watched them.
+    /// Whether some program listed files, wrote or watched them, or was asked for
+    /// days.
     listed: bool,
     written: bool,
     watched: bool,
+    asked: bool,
     /// Months that have active minutes, and these, where they are watched.
     months: usize,
     minutes: usize,
@@ -186,7 +241,13 @@ impl Coverage {
         self.met("written, open", !empty && !book.closed);
         self.met("written, closed", book.closed);
         self.met("written, in another order", written != file);
-        let span = 0..book.span();
+        let span = 0..book.span(Switch::RIGHT);
+        let gained = |minute: i64| minute >= *DAYS.end() * DAY && memory.has_reading(minute);
+        self.met("written, dated", book.date.is_some());
+        self.met(
+            "written, reading in a gained hour",
+            span.clone().any(gained),
+        );
         let revised = |minute| memory.has_reading(minute) && memory.revision(minute) > 0;
         self.met("written, revised", span.into_iter().any(revised));
     }
@@ -194,7 +255,7 @@ impl Coverage {
     /// Counts what entering a file meets; its answer, the book and the
     /// readings.
     fn add(&mut self, file: &[u8], room: Room) -> (Result<(), u8>, Book, Memory) {
-        let whole = room.minutes as i64 >= DAYS.end() * DAY;
+        let whole = room.minutes as i64 >= *MINUTE.end();
         self.whole_months |= whole;
         self.short_months |= !whole;
         let (entered, book, memory) = self.entered(file, room);
@@ -203,6 +264,7 @@ impl Coverage {
             self.count_operands(file, command.offset);
         }
         self.count_revisions(file, &entered);
+        self.count_dates(file, &entered, &book, &memory);
         (answer(&entered), book, memory)
     }
 
@@ -289,10 +351,14 @@ impl Coverage {
     fn features_to_meet(&self) -> impl Iterator<Item = &'static str> + '_ {
         FEATURES
             .into_iter()
-            .filter(|feature| self.whole_months || !feature.starts_with(WHOLE_MONTH))
+            .filter(|feature| {
+                let month = WHOLE_MONTH.iter().any(|start| feature.starts_with(start));
+                self.whole_months || !month
+            })
             .filter(|feature| match *feature {
                 feature if feature.starts_with(WRITTEN) => self.written,
                 feature if feature.starts_with(WATCHED) => self.watched,
+                feature if feature.starts_with(ASKED) => self.asked,
                 _ => self.listed,
             })
     }
@@ -355,6 +421,14 @@ impl Coverage {
                     self.end("utilisation rate", RATE, c.utilisation_rate);
                     self.end("optional rate", RATE, c.optional_rate);
                 }
+                Command::Date(d) => {
+                    self.end("date year", YEAR, d.year);
+                    self.end("date month", MONTH, d.month);
+                    if YEAR.contains(&d.year) && MONTH.contains(&d.month) {
+                        let days = calendar::days_of(d.year, d.month, Switch::RIGHT);
+                        self.end("date day", 1..=days, d.day);
+                    }
+                }
                 Command::Window(w) => {
                     self.end("window start", MINUTE, w.start);
                     self.end("window end", MINUTE, w.end);
@@ -407,10 +481,10 @@ impl Coverage {
             book.defaults.len() == DEFAULTS,
         ];
         self.met("table full", full.contains(&true));
-        let month = contract.days == *DAYS.end();
+        let month = contract.days == *DAYS.end() && book.date.is_none();
         self.met("31 days", month);
         self.met("31 days, every table full", month && !full.contains(&false));
-        let span = &meter[..rules::span(&contract) as usize];
+        let span = &meter[..book.span(Switch::RIGHT) as usize];
         let readings = span
             .iter()
             .filter(|&&kw| READING.contains(&i64::from(kw)))
@@ -424,6 +498,7 @@ impl Coverage {
         let revised = |minute| memory.revision(minute) > 0;
         let needed = book.instructions.iter().flat_map(needs).any(revised);
         self.met("needed minute revised", needed);
+        self.count_dated(book, memory, statement);
         self.count_lines(&contract, book, statement);
         self.count_windows(&contract, book, statement);
         self.count_instructions(&contract, book);
@@ -433,10 +508,12 @@ impl Coverage {
 
     fn count_lines(&mut self, contract: &Contract, book: &Book, statement: &Statement) {
         self.met("no line", statement.lines.is_empty());
-        let most = 48 * contract.days - 1 + 3 * book.instructions.len() as i64;
+        let periods = book.span(Switch::RIGHT) / PERIOD;
+        let most = periods - 1 + 3 * book.instructions.len() as i64;
         let lines = statement.lines.len() as i64;
         self.met("as many lines as the days hold", lines == most);
-        self.met("31 days, 1679 lines", lines == MOST_LINES);
+        let most = lines == MOST_LINES && book.date.is_none();
+        self.met("31 days, 1679 lines", most);
         for line in &statement.lines {
             self.met("line, ramp up", line.stage == Stage::RampUp);
             self.met("line, steady", line.stage == Stage::Steady);
@@ -521,7 +598,10 @@ impl Coverage {
                 period_of(first) != period_of(f - 1),
             );
             self.met("instruction issued at 3", instruction.issue == 3);
-            self.met("instruction ends with the span", f == book.span());
+            self.met(
+                "instruction ends with the span",
+                f == book.span(Switch::RIGHT),
+            );
             self.met("cease = e", instruction.cease == e);
             self.met("U = response", up == contract.response);
             self.met("V = 240", down == 240);
@@ -626,7 +706,7 @@ impl Coverage {
         if self.listed || self.written {
             self.print_entries();
         }
-        println!("features of settled, written and watched files");
+        println!("features of settled, written, watched and asked files");
         for feature in self.features_to_meet() {
             let count = self.features.get(feature).unwrap_or(&0);
             let mark = if *count == 0 { "  (never met)" } else { "" };

@@ -17,6 +17,7 @@ pub struct Contract {
 }
 
 impl Contract {
+    /// Without a date.
     pub fn span(&self) -> i64 {
         1_440 * self.days
     }
@@ -33,6 +34,8 @@ impl Contract {
 #[derive(Clone, Debug)]
 pub enum Entry {
     Contract(Contract),
+    /// Year, month, day.
+    Date(i64, i64, i64),
     /// Start, end, state.
     Window(i64, i64, i64),
     /// Issue, cease.
@@ -66,6 +69,12 @@ impl Entry {
                 four(file, c.availability);
                 four(file, c.utilisation);
                 four(file, c.optional);
+            }
+            Entry::Date(year, month, day) => {
+                file.push(b'T');
+                two(file, *year);
+                one(file, *month);
+                one(file, *day);
             }
             Entry::Window(start, end, state) => {
                 file.push(b'W');

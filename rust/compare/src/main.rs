@@ -1,21 +1,24 @@
 //! Compares a lister with the second settlement on generated unit files.
 //!
 //!   compare [--lister PROGRAM] [--months PROGRAM] [--writer PROGRAM]
-//!           [--watch PROGRAM] [--answers PROGRAM] [--count N]
+//!           [--watch PROGRAM] [--day PROGRAM] [--answers PROGRAM] [--count N]
 //!           [--months-count N] [--seed S] [--wrong NAME] [--write DIRECTORY]
 //!
 //! A writer puts out the book of a file as a file again, and nothing where a
 //! command is refused; a program that watches prints the totals after each active
-//! minute; a program of answers says of each command what became of it; all as
-//! `second` does it.
+//! minute; a program of days says what kind of day one of a file's month is, and is
+//! given the words '-', the day and a list of holidays; a program of answers says of
+//! each command what became of it; all as `second` does it.
 //! The file of seed S is the same in every run, so `--count 1 --seed S` makes
 //! a single one again.
 
 mod coverage;
+mod question;
 mod run;
 
 use compare::scenes::{self, Target};
 use coverage::Coverage;
+use question::Question;
 use run::Program;
 use second::book::{self, Book};
 use second::memory::Memory;
@@ -27,8 +30,8 @@ use std::path::{Path, PathBuf};
 use std::process::ExitCode;
 
 const USAGE: &str = "compare [--lister PROGRAM] [--months PROGRAM] [--writer PROGRAM] \
-                     [--watch PROGRAM] [--answers PROGRAM] [--count N] [--months-count N] \
-                     [--seed S] [--wrong NAME] [--write DIRECTORY]";
+                     [--watch PROGRAM] [--day PROGRAM] [--answers PROGRAM] [--count N] \
+                     [--months-count N] [--seed S] [--wrong NAME] [--write DIRECTORY]";
 
 /// After so many differences there is nothing new to learn.
 const MOST_DIFFERENCES: usize = 10;
@@ -44,8 +47,8 @@ const ELEVEN_DAYS: Room = Room {
 };
 
 const WHOLE_MONTHS: Room = Room {
-    minutes: 44_640,
-    lines: 1_680,
+    minutes: 44_700,
+    lines: 1_682,
 };
 
 const LISTER: Side = Side {
@@ -56,7 +59,8 @@ const LISTER: Side = Side {
         whole: false,
     },
     file: scenes::file,
-    output: |file, room, switch| rows::list(file, room, switch).into_bytes(),
+    words: |_| Vec::new(),
+    output: |file, room, switch, _| rows::list(file, room, switch).into_bytes(),
     noticing: |output| output,
 };
 
@@ -76,21 +80,32 @@ const WRITER: Side = Side {
         days: 31,
         whole: false,
     },
-    output: |file, room, switch| write::written(file, room.minutes, switch),
+    output: |file, room, switch, _| write::written(file, room.minutes, switch),
     ..MONTHS
 };
 
 const WATCH: Side = Side {
     name: "watch",
     file: scenes::watched,
-    output: |file, room, switch| rows::watch(file, room, switch).into_bytes(),
+    output: |file, room, switch, _| rows::watch(file, room, switch).into_bytes(),
     noticing: minutes,
+    ..WRITER
+};
+
+const DAY: Side = Side {
+    name: "day",
+    file: scenes::with_days,
+    words: |seed| question::of_seed(seed).words(),
+    output: |file, room, switch, seed| {
+        let Question { day, holidays } = question::of_seed(seed);
+        rows::day(file, room.minutes, day, &holidays, switch).into_bytes()
+    },
     ..WRITER
 };
 
 const ANSWERS: Side = Side {
     name: "answers",
-    output: |file, room, switch| rows::answers(file, room, switch).into_bytes(),
+    output: |file, room, switch, _| rows::answers(file, room, switch).into_bytes(),
     ..LISTER
 };
 
@@ -101,7 +116,9 @@ struct Side {
     target: Target,
     /// The file of a seed.
     file: fn(u64, Target) -> Vec<u8>,
-    output: fn(&[u8], Room, Switch) -> Vec<u8>,
+    /// What the program is told besides, for a seed.
+    words: fn(u64) -> Vec<String>,
+    output: fn(&[u8], Room, Switch, u64) -> Vec<u8>,
     /// The part of an output that has to notice a rule turned wrong.
     noticing: fn(&[u8]) -> &[u8],
 }
@@ -121,6 +138,7 @@ struct Options {
     months: Option<Program>,
     writer: Option<Program>,
     watch: Option<Program>,
+    day: Option<Program>,
     answers: Option<Program>,
     count: u64,
     months_count: Option<u64>,
@@ -135,6 +153,7 @@ fn options() -> Result<Options, String> {
         months: None,
         writer: None,
         watch: None,
+        day: None,
         answers: None,
         count: 3_000,
         months_count: None,
@@ -155,6 +174,7 @@ fn options() -> Result<Options, String> {
             "--months" => options.months = Some(Program::named(&value)),
             "--writer" => options.writer = Some(Program::named(&value)),
             "--watch" => options.watch = Some(Program::named(&value)),
+            "--day" => options.day = Some(Program::named(&value)),
             "--answers" => options.answers = Some(Program::named(&value)),
             "--count" => options.count = number()?,
             "--months-count" => options.months_count = Some(number()?),
@@ -172,6 +192,7 @@ fn options() -> Result<Options, String> {
         &options.months,
         &options.writer,
         &options.watch,
+        &options.day,
         &options.answers,
     ];
     if programs.iter().all(|program| program.is_none()) && options.write.is_none() {
@@ -246,12 +267,16 @@ fn compare(
     let mut differences = 0;
     for seed in options.seed..options.seed + count {
         let file = (side.file)(seed, side.target);
-        let ours = (side.output)(&file, side.room, options.switch);
-        let theirs = program.output(&file, &place.join("now.unit"), seed % 2 == 1);
+        let ours = (side.output)(&file, side.room, options.switch, seed);
+        let words = (side.words)(seed);
+        let theirs = program.output(&words, &file, &place.join("now.unit"), seed % 2 == 1);
         if let Some(coverage) = &mut coverage {
             match side.name {
                 name if name == WRITER.name => coverage.add_written(&file, side.room, &ours),
                 name if name == WATCH.name => coverage.add_watched(&file, side.room),
+                name if name == DAY.name => {
+                    coverage.add_asked(&file, side.room, &question::of_seed(seed));
+                }
                 _ => coverage.add_listed(&file, side.room),
             }
             check_writer(&file, side.room.minutes)
@@ -301,6 +326,7 @@ fn compare_all(options: &Options, place: &Path) -> Result<(usize, Coverage), Str
         (&MONTHS, &options.months, months_count),
         (&WRITER, &options.writer, options.count),
         (&WATCH, &options.watch, options.count),
+        (&DAY, &options.day, options.count),
         (&ANSWERS, &options.answers, options.count),
     ];
     for (side, program, count) in sides {

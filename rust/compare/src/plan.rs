@@ -2,11 +2,14 @@
 //! are met often.
 
 use crate::entry::{Contract, Entry};
+use crate::month::{self, Month};
 use crate::random::Random;
 
 #[derive(Clone, Debug)]
 pub struct Plan {
     pub contract: Contract,
+    /// Of which it is the first day's, if it has one.
+    pub date: Option<Month>,
     /// Start, end, state.
     pub windows: Vec<(i64, i64, i64)>,
     /// Issue, cease.
@@ -117,10 +120,23 @@ pub fn draw(random: &mut Random, size: Size) -> Plan {
 }
 
 pub fn draw_for(random: &mut Random, contract: Contract, size: Size) -> Plan {
-    let windows = windows(random, &contract, size.windows);
-    let instructions = instructions(random, &contract, &windows, size.instructions);
+    let date = month::for_plan(random, contract.days);
+    draw_month(random, contract, date, size)
+}
+
+/// The plan of a contract that has the days of its date, if there is one.
+pub fn draw_month(
+    random: &mut Random,
+    contract: Contract,
+    date: Option<Month>,
+    size: Size,
+) -> Plan {
+    let span = contract.span() + date.map_or(0, Month::change);
+    let windows = windows(random, &contract, span, size.windows);
+    let instructions = instructions(random, &contract, span, &windows, size.instructions);
     let mut plan = Plan {
         contract,
+        date,
         windows,
         instructions,
         defaults: Vec::new(),
@@ -143,9 +159,9 @@ pub fn draw_for(random: &mut Random, contract: Contract, size: Size) -> Plan {
     plan
 }
 
-fn windows(random: &mut Random, contract: &Contract, most: i64) -> Vec<(i64, i64, i64)> {
+fn windows(random: &mut Random, contract: &Contract, span: i64, most: i64) -> Vec<(i64, i64, i64)> {
     let mut windows = Vec::new();
-    let periods = contract.span() / 30;
+    let periods = span / 30;
     // Spread over the month now and then, else crowded at its beginning.
     let gap = random.pick(&[3, 8, periods / (most + 1)]).max(1);
     let mut at = if random.once_in(2) {
@@ -173,13 +189,14 @@ fn windows(random: &mut Random, contract: &Contract, most: i64) -> Vec<(i64, i64
 fn instructions(
     random: &mut Random,
     contract: &Contract,
+    span: i64,
     windows: &[(i64, i64, i64)],
     most: i64,
 ) -> Vec<(i64, i64)> {
     let mut instructions: Vec<(i64, i64)> = Vec::new();
     let reach = contract.recovery + contract.response;
     // Spread over the month now and then, else as soon as can be.
-    let gap = random.pick(&[0, 0, contract.span() / (most + 1)]);
+    let gap = random.pick(&[0, 0, span / (most + 1)]);
     for _ in 0..most {
         let soonest = instructions
             .last()
@@ -211,11 +228,11 @@ fn instructions(
                 lasting = cease - e;
             }
         }
-        let to_span = contract.span() - contract.down() - e;
+        let to_span = span - contract.down() - e;
         if (0..600).contains(&to_span) && random.once_in(6) {
             lasting = to_span;
         }
-        if e + lasting + contract.down() > contract.span() {
+        if e + lasting + contract.down() > span {
             break;
         }
         instructions.push((issue, e + lasting));
@@ -265,6 +282,16 @@ fn revised(random: &mut Random, minute: i64, kw: i64) -> Vec<Entry> {
 }
 
 impl Plan {
+    /// With the hour that a date takes or gives.
+    pub fn span(&self) -> i64 {
+        self.contract.span() + self.date.map_or(0, Month::change)
+    }
+
+    /// How many of its commands come before all others.
+    pub fn head(&self) -> usize {
+        1 + usize::from(self.date.is_some())
+    }
+
     pub fn needed(&self) -> Vec<i64> {
         let mut needed = Vec::new();
         for &(issue, cease) in &self.instructions {
@@ -289,7 +316,7 @@ impl Plan {
     fn read_some_more(&mut self, random: &mut Random, style: Style, count: i64) {
         let mut minutes = Vec::new();
         for _ in 0..count {
-            let minute = random.between(0, self.contract.span() - 1);
+            let minute = random.between(0, self.span() - 1);
             let known = self.readings.iter().any(|reading| reading.0 == minute);
             if !known && !minutes.contains(&minute) {
                 minutes.push(minute);
@@ -301,7 +328,7 @@ impl Plan {
     /// A reading in every minute of the span, and no others.
     pub fn read_all(&mut self, random: &mut Random, style: Style) {
         self.readings.clear();
-        let all: Vec<i64> = (0..self.contract.span()).collect();
+        let all: Vec<i64> = (0..self.span()).collect();
         self.read(random, style, &all);
     }
 
@@ -373,6 +400,8 @@ impl Plan {
         let mut defaults = self.defaults.iter().peekable();
         let mut readings = readings.into_iter().peekable();
         let mut entries = vec![Entry::Contract(self.contract)];
+        let date = |month: Month| Entry::Date(month.year, month.number, 1);
+        entries.extend(self.date.map(date));
         let mixed = random.once_in(2);
         let mut entered_to = 0;
         loop {

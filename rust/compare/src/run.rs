@@ -27,12 +27,19 @@ impl Program {
         }
     }
 
-    /// What it prints for the file. `in_pieces` hands the file over through a
-    /// pipe in odd pieces, else it is opened from the disk.
-    pub fn output(&self, file: &[u8], place: &Path, in_pieces: bool) -> Result<Vec<u8>, String> {
+    /// What it prints for the file, with further words. `in_pieces` hands the file
+    /// over through a pipe in odd pieces, else it is opened from the disk.
+    pub fn output(
+        &self,
+        words: &[String],
+        file: &[u8],
+        place: &Path,
+        in_pieces: bool,
+    ) -> Result<Vec<u8>, String> {
         let mut command = Command::new(&self.path);
         command
             .args(&self.arguments)
+            .args(words)
             .stdout(Stdio::piped())
             .stderr(Stdio::null());
         let told = |error: std::io::Error| format!("{}: {error}", self.path.display());

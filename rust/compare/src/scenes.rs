@@ -3,6 +3,7 @@
 //! meet them all.
 
 use crate::entry::{bytes, Contract, Entry};
+use crate::month::{self, Month, LEAST_DAYS, MARCH, OCTOBER};
 use crate::plan::{self, Plan, Size, Style};
 use crate::random::Random;
 
@@ -31,9 +32,9 @@ impl Target {
     }
 }
 
-const SCENE_COUNT: usize = 45;
+const SCENE_COUNT: usize = 56;
 /// How often `each_end` stands among the scenes, evenly spread.
-const EACH_END: u64 = 3;
+const EACH_END: u64 = 4;
 type Scene = fn(&mut Random, Target) -> Vec<u8>;
 
 const SCENES: [Scene; SCENE_COUNT] = [
@@ -50,9 +51,10 @@ const SCENES: [Scene; SCENE_COUNT] = [
     range_ends,
     full_day,
     fullest,
+    dated,
+    each_end,
     long,
     nothing_much,
-    each_end,
     after_close,
     missing_reading,
     outside_range,
@@ -61,17 +63,24 @@ const SCENES: [Scene; SCENE_COUNT] = [
     faults,
     slow_ramp,
     crooked_window,
+    dated,
+    dated_late,
+    dated_wrong,
+    each_end,
     before_contract,
     second_contract,
     too_long,
     after_span,
     rejected_committed,
     overlapping_windows,
-    each_end,
     early_cease,
     early_issue,
     outside_windows,
     read_twice,
+    dated,
+    dated_ends,
+    dated_fullest,
+    each_end,
     revised_late,
     revised_often,
     full_tables,
@@ -82,11 +91,16 @@ const SCENES: [Scene; SCENE_COUNT] = [
     corrupted,
     soup,
     careless,
+    dated_late,
+    dated_wrong,
+    dated_ends,
 ];
 
 /// The scenes of files that are watched: nearly all are taken, and most have
 /// active minutes.
-const WATCHED: [Scene; 14] = [
+const WATCHED: [Scene; 16] = [
+    dated,
+    dated_last,
     settled,
     settled,
     settled,
@@ -103,6 +117,19 @@ const WATCHED: [Scene; 14] = [
     nothing_much,
 ];
 
+/// The scenes of files of which days are asked: most have a date and are taken.
+const DAYS: [Scene; 9] = [
+    dated,
+    dated,
+    dated,
+    dated,
+    dated,
+    nothing_much,
+    settled,
+    dated_late,
+    dated_wrong,
+];
+
 /// The file of a seed.
 pub fn file(seed: u64, target: Target) -> Vec<u8> {
     of_scenes(&SCENES, seed, target)
@@ -111,6 +138,11 @@ pub fn file(seed: u64, target: Target) -> Vec<u8> {
 /// The file of a seed that is to be watched.
 pub fn watched(seed: u64, target: Target) -> Vec<u8> {
     of_scenes(&WATCHED, seed, target)
+}
+
+/// The file of a seed of which a day is to be asked.
+pub fn with_days(seed: u64, target: Target) -> Vec<u8> {
+    of_scenes(&DAYS, seed, target)
 }
 
 fn of_scenes(scenes: &[Scene], seed: u64, target: Target) -> Vec<u8> {
@@ -253,9 +285,11 @@ fn range_ends(random: &mut Random, target: Target) -> Vec<u8> {
         utilisation: random.pick(&[0, 1_000_000]),
         optional: random.pick(&[0, 1_000_000]),
     };
-    let span = contract.span();
+    let date = month::for_plan(random, days);
+    let span = contract.span() + date.map_or(0, Month::change);
     let mut plan = Plan {
         contract,
+        date,
         windows: vec![(0, 30, 0), (span - 30, span, 0)],
         instructions: vec![(3, 3 + response + random.pick(&[0, 1, 60]))],
         defaults: vec![(0, 1, 1), (span - 1, 4, 3)],
@@ -275,13 +309,13 @@ fn range_ends(random: &mut Random, target: Target) -> Vec<u8> {
     if random.once_in(3) {
         let last = entries.len() - 1;
         let beyond = [
-            Entry::Instruction(44_640, 44_640),
+            Entry::Instruction(44_700, 44_700),
             Entry::Instruction(3, 0),
-            Entry::Window(0, 44_640, 0),
-            Entry::Window(44_610, 44_640, 1),
-            Entry::Default(44_640, 4, 3),
-            Entry::Reading(44_640, 0),
-            Entry::Revision(44_640, 255, 0),
+            Entry::Window(0, 44_700, 0),
+            Entry::Window(44_670, 44_700, 1),
+            Entry::Default(44_700, 4, 3),
+            Entry::Reading(44_700, 0),
+            Entry::Revision(44_700, 255, 0),
         ];
         let chosen = random.between(0, beyond.len() as i64 - 1) as usize;
         entries.insert(last, beyond[chosen].clone());
@@ -294,6 +328,7 @@ fn full_day(random: &mut Random, target: Target) -> Vec<u8> {
     let mut plan = small_plan(random, Target::ONE_DAY);
     let drawn = random.between(1, 2.min(target.days));
     plan.contract.days = target.days(random, drawn);
+    plan.date = month::for_plan(random, plan.contract.days);
     let style = random.pick(&[Style::Likely, Style::Wide, Style::Small]);
     plan.read_all(random, style);
     bytes(&plan.entries(random))
@@ -308,14 +343,20 @@ fn fullest(random: &mut Random, target: Target) -> Vec<u8> {
         random.between(1, 3.min(target.days))
     };
     let days = target.days(random, drawn);
+    let date = month::for_plan(random, days);
+    fullest_of(random, days, date)
+}
+
+fn fullest_of(random: &mut Random, days: i64, date: Option<Month>) -> Vec<u8> {
     let mut contract = plan::contract(random, days);
     contract.response = 1;
     contract.ramp_up = contract.kw;
     contract.ramp_down = contract.kw;
     contract.recovery = 0;
-    let span = contract.span();
+    let span = contract.span() + date.map_or(0, Month::change);
     let mut plan = Plan {
         contract,
+        date,
         windows: Vec::new(),
         instructions: Vec::new(),
         defaults: Vec::new(),
@@ -376,6 +417,180 @@ fn long(random: &mut Random, target: Target) -> Vec<u8> {
     bytes(&plan.entries(random))
 }
 
+fn first_of(month: Month) -> Entry {
+    Entry::Date(month.year, month.number, 1)
+}
+
+impl Target {
+    /// Whether a month is likely to fit: else no date is ever taken.
+    fn takes_dates(self) -> bool {
+        self.days >= LEAST_DAYS
+    }
+}
+
+/// A month to be dated: as many days as it has, where so many fit.
+fn dated_days(random: &mut Random, target: Target, month: Month) -> i64 {
+    match target.takes_dates() {
+        true => month.days(),
+        false => {
+            let drawn = random.between(1, target.days);
+            random.pick(&[drawn, target.days])
+        }
+    }
+}
+
+/// A plan with a date, and the month that is dated: any, or those of a year one
+/// after the other as seeds rise.
+fn dated_plan(random: &mut Random, target: Target) -> (Plan, Month) {
+    let mut month = month::any(random);
+    if !random.once_in(4) {
+        month.number = 1 + random.turn(SCENE_COUNT as u64, 12) as i64;
+    }
+    let days = dated_days(random, target, month);
+    let size = plan::small(random, 1);
+    let size = Size {
+        days,
+        windows: random.pick(&[size.windows, size.windows, 60]),
+        instructions: random.pick(&[size.instructions, size.instructions, 30]),
+        ..size
+    };
+    let contract = plan::contract(random, days);
+    let plan = plan::draw_month(random, contract, Some(month), size);
+    (plan, month)
+}
+
+/// A month with a date, now and then read in every minute.
+fn dated(random: &mut Random, target: Target) -> Vec<u8> {
+    if !target.takes_dates() && !random.once_in(4) {
+        return settled(random, target);
+    }
+    let (mut plan, _) = dated_plan(random, target);
+    if target.whole && random.once_in(6) {
+        plan.read_all(random, Style::Small);
+    }
+    bytes(&plan.entries(random))
+}
+
+/// The fullest months: an October has the most lines of all.
+fn dated_fullest(random: &mut Random, target: Target) -> Vec<u8> {
+    if !target.takes_dates() {
+        return fullest(random, target);
+    }
+    let other = month::any(random);
+    let october = Month {
+        number: OCTOBER,
+        ..other
+    };
+    let month = random.pick(&[october, october, other]);
+    let days = dated_days(random, target, month);
+    fullest_of(random, days, Some(month))
+}
+
+/// A March or an October with entries up to its last minute.
+fn to_the_end(random: &mut Random, target: Target) -> Plan {
+    let (mut plan, month) = dated_plan(random, target);
+    let number = [MARCH, OCTOBER][random.turn(SCENE_COUNT as u64, 2)];
+    if target.takes_dates() {
+        plan.contract.days = 31;
+        plan.date = Some(Month { number, ..month });
+    }
+    let span = plan.span();
+    plan.windows.truncate(2);
+    plan.windows.retain(|window| window.1 <= span - 30);
+    plan.windows.push((span - 30, span, 0));
+    plan.defaults = vec![(span - 1, random.between(1, 4), 1)];
+    plan.instructions.truncate(1);
+    let c = plan.contract;
+    let cease = span - c.down();
+    let issue = cease - c.response;
+    let ready = |last: &(i64, i64)| last.1 + c.down() + c.recovery;
+    plan.instructions.retain(|first| ready(first) <= issue);
+    plan.instructions.push((issue, cease));
+    plan.readings.clear();
+    let needed = plan.needed();
+    plan.read(random, Style::Likely, &needed);
+    plan
+}
+
+/// The same, and often an entry just beyond the end, or where the month would end
+/// without a date.
+fn dated_ends(random: &mut Random, target: Target) -> Vec<u8> {
+    if !target.takes_dates() {
+        return range_ends(random, target);
+    }
+    let plan = to_the_end(random, target);
+    let (span, undated) = (plan.span(), plan.contract.span());
+    let number = random.between(1, 255);
+    let beyond = match random.turn(2 * SCENE_COUNT as u64, 6) {
+        0 => Some(Entry::Window(span, span + 30, 0)),
+        1 => Some(Entry::Default(span, 1, 1)),
+        2 => Some(Entry::Reading(span, 7)),
+        3 => Some(Entry::Reading(undated - 1, 7)),
+        4 => Some(Entry::Revision(span.max(undated - 1), number, 7)),
+        _ => None,
+    };
+    let mut entries = plan.entries(random);
+    let last = entries.len() - 1;
+    entries.splice(last..last, beyond);
+    bytes(&entries)
+}
+
+fn dated_last(random: &mut Random, target: Target) -> Vec<u8> {
+    let plan = to_the_end(random, target);
+    bytes(&plan.entries(random))
+}
+
+/// A date behind something that it has to come before, or just may.
+fn dated_late(random: &mut Random, target: Target) -> Vec<u8> {
+    let (mut plan, month) = dated_plan(random, target);
+    plan.date = None;
+    let other = month::any(random);
+    let last = plan.contract.span() - 1;
+    let minute = random.between(0, last);
+    let before = match random.turn(SCENE_COUNT as u64, 8) {
+        0 => Some(first_of(month)),
+        1 => Some(first_of(other)),
+        2 => Some(Entry::Window(0, 30, 0)),
+        3 => Some(Entry::Instruction(3, 3 + plan.contract.response)),
+        4 => Some(Entry::Reading(minute, 0)),
+        5 => Some(Entry::Reading(last, 0)),
+        6 => Some(Entry::Revision(last, 9, 0)),
+        _ => None,
+    };
+    let mut entries = plan.entries(random);
+    let date = first_of(random.pick(&[month, month, other]));
+    entries.splice(1..1, before.into_iter().chain([date]));
+    bytes(&entries)
+}
+
+/// A date that is no day, not the first, or of a month of other days: in the place
+/// of the right one, or beside it.
+fn dated_wrong(random: &mut Random, target: Target) -> Vec<u8> {
+    let (mut plan, month) = dated_plan(random, target);
+    let Month { year, number } = month;
+    let date = match random.turn(SCENE_COUNT as u64, 8) {
+        0 => Entry::Date(random.pick(&[0, 2_006, 2_100, 65_535]), number, 1),
+        1 => Entry::Date(year, random.pick(&[0, 13, 255]), 1),
+        2 => Entry::Date(year, number, random.pick(&[0, month.days() + 1, 255])),
+        3 => Entry::Date(2_023, 2, 29),
+        4 => Entry::Date(year, number, random.pick(&[2, month.days()])),
+        5 => Entry::Date(year + 1, number, 1),
+        6 => Entry::Date(year, number % 12 + 1, 1),
+        _ => {
+            plan.contract.days = (plan.contract.days - random.between(0, 3)).max(1);
+            first_of(month)
+        }
+    };
+    let mut entries = plan.entries(random);
+    if random.once_in(4) {
+        let at = random.between(0, 2) as usize;
+        entries.insert(at, date);
+    } else {
+        entries[1] = date;
+    }
+    bytes(&entries)
+}
+
 fn nothing_much(random: &mut Random, target: Target) -> Vec<u8> {
     let days = random.between(1, target.days);
     let contract = Entry::Contract(plan::contract(random, days));
@@ -390,9 +605,10 @@ fn nothing_much(random: &mut Random, target: Target) -> Vec<u8> {
 
 /// Something that is in order in itself.
 fn any_entry(random: &mut Random) -> Entry {
-    match random.between(0, 6) {
+    match random.between(0, 7) {
         0 => Entry::Contract(plan::contract(random, 1)),
         1 => Entry::Window(0, 30, 0),
+        7 => first_of(month::any(random)),
         2 => Entry::Instruction(3, 300),
         3 => Entry::Default(0, 1, 1),
         4 => Entry::Reading(random.between(0, 1_439), 0),
@@ -430,16 +646,16 @@ fn bad_operand(random: &mut Random) -> Entry {
         8 => c.availability = random.pick(&[1_000_001, 0xFFFF_FFFF]),
         9 => c.utilisation = random.pick(&[1_000_001, 0xFFFF_FFFF]),
         10 => c.optional = random.pick(&[1_000_001, 0xFFFF_FFFF]),
-        11 => return Entry::Window(random.pick(&[44_641, 65_535]), 30, 0),
-        12 => return Entry::Window(0, random.pick(&[44_641, 65_535]), 0),
+        11 => return Entry::Window(random.pick(&[44_701, 65_535]), 30, 0),
+        12 => return Entry::Window(0, random.pick(&[44_701, 65_535]), 0),
         13 => return Entry::Window(0, 30, random.pick(&[2, 255])),
-        14 => return Entry::Instruction(random.pick(&[0, 1, 2, 44_641, 65_535]), 300),
-        15 => return Entry::Instruction(3, random.pick(&[44_641, 65_535])),
-        16 => return Entry::Default(random.pick(&[44_641, 65_535]), 1, 1),
+        14 => return Entry::Instruction(random.pick(&[0, 1, 2, 44_701, 65_535]), 300),
+        15 => return Entry::Instruction(3, random.pick(&[44_701, 65_535])),
+        16 => return Entry::Default(random.pick(&[44_701, 65_535]), 1, 1),
         17 => return Entry::Default(0, random.pick(&[0, 5, 255]), 1),
         18 => return Entry::Default(0, 1, random.pick(&[0, 4, 255])),
-        19 => return Entry::Reading(random.pick(&[44_641, 65_535]), 0),
-        20 => return Entry::Revision(random.pick(&[44_641, 65_535]), 1, 0),
+        19 => return Entry::Reading(random.pick(&[44_701, 65_535]), 0),
+        20 => return Entry::Revision(random.pick(&[44_701, 65_535]), 1, 0),
         21 => return Entry::Revision(0, 0, random.pick(&[0, 500_001])),
         22 => return Entry::Revision(0, 255, bad_kw(random)),
         _ => return Entry::Reading(0, bad_kw(random)),
@@ -474,7 +690,7 @@ fn range_ends_of(c: Contract) -> Vec<Entry> {
     let either = &[0, 1, 2];
     let ramp = &[0, 1, 500_000, 500_001];
     let rate = &[0, 1_000_000, 1_000_001];
-    let minute = &[0, 44_640, 44_641];
+    let minute = &[0, 44_700, 44_701];
     let kw = &[-500_001, -500_000, 500_000, 500_001];
     [
         contract(&[0, 1, 31, 32], |c, days| Contract { days, ..c }),
@@ -491,10 +707,18 @@ fn range_ends_of(c: Contract) -> Vec<Entry> {
         contract(rate, |c, availability| Contract { availability, ..c }),
         contract(rate, |c, utilisation| Contract { utilisation, ..c }),
         contract(rate, |c, optional| Contract { optional, ..c }),
+        entries(&[2_006, 2_007, 2_099, 2_100], |year| {
+            Entry::Date(year, 1, 1)
+        }),
+        entries(&[0, 1, 12, 13], |month| Entry::Date(2_024, month, 1)),
+        entries(&[0, 1, 31, 32], |day| Entry::Date(2_024, 3, day)),
+        entries(&[30, 31], |day| Entry::Date(2_024, 4, day)),
+        entries(&[28, 29], |day| Entry::Date(2_023, 2, day)),
+        entries(&[29, 30], |day| Entry::Date(2_024, 2, day)),
         entries(minute, |start| Entry::Window(start, 30, 0)),
         entries(minute, |end| Entry::Window(0, end, 0)),
         entries(either, |state| Entry::Window(0, 30, state)),
-        entries(&[2, 3, 44_640, 44_641], |issue| {
+        entries(&[2, 3, 44_700, 44_701], |issue| {
             Entry::Instruction(issue, 300)
         }),
         entries(minute, |cease| Entry::Instruction(3, cease)),
@@ -555,6 +779,7 @@ fn slow_ramp(random: &mut Random, target: Target) -> Vec<u8> {
         }
         Plan {
             contract: c,
+            date: None,
             ..plan
         }
     };
@@ -573,9 +798,9 @@ fn crooked_window(random: &mut Random, target: Target) -> Vec<u8> {
         (0, 31),
         (0, 1),
         (15, 45),
-        (44_640, 44_640),
-        (44_639, 44_640),
-        (44_640, 0),
+        (44_700, 44_700),
+        (44_699, 44_700),
+        (44_700, 0),
     ]);
     let entry = Entry::Window(crooked.0, crooked.1, random.between(0, 1));
     disturbed(random, &plan, 0, entry)
@@ -609,7 +834,7 @@ fn too_long(random: &mut Random, _: Target) -> Vec<u8> {
 fn after_span(random: &mut Random, target: Target) -> Vec<u8> {
     let plan = small_plan(random, target);
     let c = plan.contract;
-    let span = c.span();
+    let span = plan.span();
     let entry = match random.between(0, 4) {
         0 => Entry::Window(span - 30, span + 30, random.between(0, 1)),
         1 => {
@@ -622,7 +847,7 @@ fn after_span(random: &mut Random, target: Target) -> Vec<u8> {
         3 => Entry::Revision(span + random.pick(&[0, 0, 1]), random.between(1, 255), 0),
         _ => Entry::Reading(span + random.pick(&[0, 0, 1]), 0),
     };
-    disturbed(random, &plan, 1, entry)
+    disturbed(random, &plan, plan.head(), entry)
 }
 
 fn rejected_committed(random: &mut Random, target: Target) -> Vec<u8> {
@@ -671,8 +896,7 @@ fn outside_windows(random: &mut Random, target: Target) -> Vec<u8> {
     let mut plan = busy_plan(random, target);
     if random.once_in(2) {
         let window = random.pick(&plan.windows);
-        plan.defaults
-            .push((window.1.min(plan.contract.span() - 1), 1, 1));
+        plan.defaults.push((window.1.min(plan.span() - 1), 1, 1));
         return bytes(&plan.entries(random));
     }
     let minute = random.pick(&plan.windows).0;
@@ -723,10 +947,7 @@ fn revised_often(random: &mut Random, target: Target) -> Vec<u8> {
     let mut often = Vec::new();
     let known = |minute: &i64| plan.readings.iter().any(|reading| reading.0 == *minute);
     let most = random.pick(&[1, 2, 70]);
-    for minute in (0..plan.contract.span())
-        .filter(|minute| !known(minute))
-        .take(most)
-    {
+    for minute in (0..plan.span()).filter(|minute| !known(minute)).take(most) {
         often.push(Entry::Reading(minute, minute));
         often.extend((1..=255).map(|number| Entry::Revision(minute, number, number - minute)));
     }
@@ -749,6 +970,7 @@ fn full_tables(random: &mut Random, target: Target) -> Vec<u8> {
     contract.recovery = random.pick(&[0, 1, 30]);
     let mut plan = Plan {
         contract,
+        date: month::for_plan(random, days),
         windows: Vec::new(),
         instructions: Vec::new(),
         defaults: Vec::new(),
@@ -769,7 +991,7 @@ fn full_tables(random: &mut Random, target: Target) -> Vec<u8> {
         let state = i64::from(contract.service == 1 && random.once_in(3));
         plan.windows.push((30 * index, 30 * index + 30, state));
     }
-    let step = contract.span() / 66;
+    let step = plan.span() / 66;
     for index in 0..instructions {
         let issue = 3 + step * index;
         plan.instructions
@@ -884,7 +1106,7 @@ fn soup(random: &mut Random, _: Target) -> Vec<u8> {
     }
     for _ in 0..length {
         let any = random.between(0, 255) as u8;
-        let command = random.pick(b"CWIDMRZ");
+        let command = random.pick(b"CTWIDMRZ");
         file.push(random.pick(&[0, any, command, command]));
     }
     file

@@ -65,7 +65,7 @@ mod tests {
 
     #[test]
     fn every_refusal_of_a_file_has_words() {
-        let met = [1, 2, 3, 4, 5, 27].into_iter().chain(12..=25);
+        let met = [1, 2, 3, 4, 5].into_iter().chain(12..=25).chain(27..=30);
         for number in met {
             let (wrong, _) = meaning(number).unwrap_or_default();
             assert!(!wrong.is_empty(), "{number}");

@@ -1,10 +1,10 @@
 //! The commands, and what is said of them.
 
-use crate::{form, list, watch, write, Command, Failure};
+use crate::{day, form, list, watch, write, Command, Failure};
 use std::ffi::{OsStr, OsString};
 use std::io::{self, Write};
 
-const COMMANDS: [Command; 6] = [
+const COMMANDS: [Command; 7] = [
     Command {
         name: "list",
         words: "[--explain] [FILE..]",
@@ -27,6 +27,17 @@ place of the last. A refused file has its R row on standard error and no others;
 minute without a reading is named there, after the rows before it. The exit status
 is 1 then. What each number means is in docs/COURSE.md.",
         run: watch::run,
+    },
+    Command {
+        name: "day",
+        words: "FILE DAY [--holidays D,D..]",
+        about: "what kind of day a day of a dated month is",
+        help: "A row 'working', 'non-working' (a Sunday, or one of the holidays) or 'no such day':
+a day that the month lacks, or any day of a file without a date. Days count from
+1. The list of holidays may name any days; those that the month lacks do nothing.
+The file need not be closed. A refused file has its R row in the place of the
+answer, and as with list that is an answer too.",
+        run: day::run,
     },
     Command {
         name: "write",
@@ -91,7 +102,7 @@ fn overview() -> String {
     let mut text = "stor settles months of STOR units, by the proved library.\n\n".to_string();
     for command in &COMMANDS {
         let usage = format!("stor {} {}", command.name, command.words);
-        text.push_str(&format!("  {usage:<33}{}\n", command.about));
+        text.push_str(&format!("  {usage:<39}{}\n", command.about));
     }
     text.push_str(
         "

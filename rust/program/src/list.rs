@@ -1,4 +1,4 @@
-//! `stor list`: the rows of unit files of up to 31 days.
+//! `stor list`: the rows of unit files of whole months.
 
 use crate::input::{contents, is_option, STANDARD};
 use crate::{explain, Failure, MALFORMED};

@@ -1,6 +1,7 @@
 //! `stor COMMAND ..`: all that the package can do with unit files. `stor help`
 //! says what there is.
 
+mod day;
 mod explain;
 mod form;
 mod help;

@@ -9,9 +9,10 @@ const APPENDIX_2: &[u8] = include_bytes!("../../../examples/appendix2.unit");
 const APPENDIX_2_TEXT: &str = include_str!("../../../examples/appendix2.txt");
 const APPENDIX_2_ROWS: &str = include_str!("../../../examples/appendix2.rows");
 
-const USAGE: &str = "usage: stor list|watch|write|pack|show|help ..\n";
+const USAGE: &str = "usage: stor list|watch|day|write|pack|show|help ..\n";
 const LIST_USAGE: &str = "usage: stor list [--explain] [FILE..]\n";
 const WATCH_USAGE: &str = "usage: stor watch [--screen] [FILE]\n";
+const DAY_USAGE: &str = "usage: stor day FILE DAY [--holidays D,D..]\n";
 const WRITE_USAGE: &str = "usage: stor write [FILE]\n";
 const PACK_USAGE: &str = "usage: stor pack < TEXT > FILE\n";
 const SHOW_USAGE: &str = "usage: stor show < FILE > TEXT\n";
@@ -165,6 +166,12 @@ fn list_explains_a_refusal() {
                     # where to look: the numbers of earlier revisions\n";
     let words = ["list", "--explain", &example("revision-equal-27")];
     assert_eq!(stor(&words, b""), done(revision));
+    let date = "R 28 32\n\
+                # a date that there is not: a year outside 2007 to 2099, a month outside 1 to 12, or a day that the month lacks\n\
+                # date year 2023, month 2, day 29\n\
+                # where to look: 29 February: leap years alone have it\n";
+    let words = ["list", "--explain", &example("refusal-28")];
+    assert_eq!(stor(&words, b""), done(date));
     // No command is refused where the month cannot be settled.
     let open = "R 24 0\n# the file was not closed\n";
     assert_eq!(stor(&["list", "--explain"], b""), done(open));
@@ -311,6 +318,101 @@ fn watch_takes_one_file() {
 }
 
 #[test]
+fn list_has_memory_for_an_october() {
+    let rows = include_str!("../../../examples/october.month");
+    assert!(rows.starts_with("L ") && rows.contains("\nL 2 1490 D "));
+    assert_eq!(stor(&["list", &example("october")], b""), done(rows));
+}
+
+#[test]
+fn day_says_what_kind_a_day_is() {
+    let march = example("march");
+    for (day, row) in [
+        ("0", "no such day\n"),
+        ("1", "working\n"),
+        ("3", "non-working\n"),
+        ("29", "working\n"),
+        ("31", "non-working\n"),
+        ("32", "no such day\n"),
+        ("4294967295", "no such day\n"),
+    ] {
+        assert_eq!(stor(&["day", &march, day], b""), done(row), "{day}");
+    }
+    let bytes = std::fs::read(&march).expect("an example");
+    assert_eq!(stor(&["day", "-", "3"], &bytes), done("non-working\n"));
+    // A month without a date has no such day.
+    assert_eq!(stor(&["day", "-", "1"], APPENDIX_2), done("no such day\n"));
+    assert_eq!(stor(&["day", "-", "1"], b""), done("no such day\n"));
+}
+
+#[test]
+fn day_goes_by_a_list_of_holidays() {
+    let march = example("march");
+    for (words, row) in [
+        (["day", &march, "29", "--holidays", "29"], "non-working\n"),
+        (["day", &march, "28", "--holidays", "29"], "working\n"),
+        (
+            ["day", "--holidays", "200,29,0,29", &march, "29"],
+            "non-working\n",
+        ),
+        (["day", &march, "--holidays", "200,29,0", "1"], "working\n"),
+        (["day", &march, "200", "--holidays", "200"], "no such day\n"),
+    ] {
+        assert_eq!(stor(&words, b""), done(row), "{words:?}");
+    }
+}
+
+#[test]
+fn day_answers_a_refusal_with_its_row() {
+    assert_eq!(stor(&["day", "-", "1"], b"Z"), done("R 13 0\n"));
+    let late = example("refusal-29");
+    assert_eq!(stor(&["day", &late, "1"], b""), done("R 29 38\n"));
+}
+
+#[test]
+fn day_says_that_a_file_cannot_be_read() {
+    let run = stor(&["day", "/no/such/file", "1"], b"");
+    assert_eq!((run.status, run.text()), (1, ""));
+    assert!(
+        run.said.starts_with("stor: /no/such/file: "),
+        "{}",
+        run.said
+    );
+}
+
+#[test]
+fn day_takes_a_file_and_a_number() {
+    for words in [
+        &["day"][..],
+        &["day", "-"],
+        &["day", "-", "1", "2"],
+        &["day", "-", "first"],
+        &["day", "-", ""],
+        &["day", "-", "-1"],
+        &["day", "-", "+1"],
+        &["day", "-", "4294967296"],
+        &["day", "-", "1", "--holidays"],
+        &["day", "-", "1", "--holidays", ""],
+        &["day", "-", "1", "--holidays", "1,"],
+        &["day", "-", "1", "--holidays", "1, 2"],
+        &["day", "-", "1", "--holidays", "1", "--holidays", "2"],
+        &["day", "-", "1", "--explain"],
+    ] {
+        assert_eq!(stor(words, b""), refused_words(DAY_USAGE), "{words:?}");
+    }
+}
+
+#[test]
+fn write_keeps_a_date() {
+    for name in ["march", "october"] {
+        let file = std::fs::read(example(name)).expect("an example");
+        assert_eq!(stor(&["write"], &file), done(&file));
+        let shown = stor(&["show"], &file);
+        assert_eq!(shown.text().matches("\ndate 2024 ").count(), 1);
+    }
+}
+
+#[test]
 fn write_puts_a_file_into_the_writers_order() {
     let (contract, rest) = APPENDIX_2.split_at(32);
     let (window, rest) = rest.split_at(6);
@@ -390,6 +492,8 @@ fn show_turns_bytes_into_text() {
     assert_eq!(shown, done("window 0 30 accepted\nclose\n"));
     let shown = stor(&["show"], b"R\0\x5A\x01\0\0\x0B\xB8");
     assert_eq!(shown, done("revision 90 1 3000\n"));
+    let shown = stor(&["show"], b"T\x07\xE8\x0A\x01");
+    assert_eq!(shown, done("date 2024 10 1\n"));
     let shown = stor(&["show"], APPENDIX_2);
     assert_eq!(stor(&["pack"], &shown.out), done(APPENDIX_2));
 }
@@ -409,6 +513,7 @@ fn help_names_every_command() {
     for usage in [
         LIST_USAGE,
         WATCH_USAGE,
+        DAY_USAGE,
         WRITE_USAGE,
         PACK_USAGE,
         SHOW_USAGE,
@@ -424,6 +529,7 @@ fn help_has_a_page_for_each_command() {
     for (name, usage) in [
         ("list", LIST_USAGE),
         ("watch", WATCH_USAGE),
+        ("day", DAY_USAGE),
         ("write", WRITE_USAGE),
         ("pack", PACK_USAGE),
         ("show", SHOW_USAGE),
@@ -448,11 +554,16 @@ fn unknown_words_get_a_usage_line() {
 
 #[test]
 fn output_that_cannot_be_written_is_a_failure() {
-    for words in [&["list"][..], &["watch"], &["watch", "--screen"]] {
+    let file = example("appendix2");
+    for words in [
+        &["list", &file][..],
+        &["watch", &file],
+        &["watch", "--screen", &file],
+        &["day", &file, "1"],
+    ] {
         let full = std::fs::OpenOptions::new().write(true).open("/dev/full");
         let status = Command::new(env!("CARGO_BIN_EXE_stor"))
             .args(words)
-            .arg(example("appendix2"))
             .stdout(full.expect("a device that is always full"))
             .stderr(Stdio::null())
             .status()

@@ -2,6 +2,7 @@
 
 use crate::held::Held;
 use crate::line::Line;
+use second::day::Day;
 use second::rules::NO_READING;
 
 /// A command with its answer and what the book then holds.
@@ -16,6 +17,17 @@ fn summary(held: &Held) -> String {
     let agreed = u8::from(held.agreed);
     let closed = u8::from(held.closed);
     format!("{agreed} {windows} {instructions} {defaults} {closed}")
+}
+
+/// A day with its kind, or with 11.
+pub fn print_day(line: &Line, answer: Result<Day, u8>) {
+    let kind = match answer {
+        Err(number) => number.to_string(),
+        Ok(Day::None) => "no such day".to_string(),
+        Ok(Day::Working) => "working".to_string(),
+        Ok(Day::NonWorking) => "non-working".to_string(),
+    };
+    println!("{}: {kind}", line.text);
 }
 
 /// A minute's cell, then its revision byte.

@@ -5,10 +5,11 @@
 
 use crate::line::{self, Line};
 use second::book::Book;
-use second::bytes::{Contract, DefaultEntry, Instruction, Window};
+use second::bytes::{Contract, Date, DefaultEntry, Instruction, Window};
 use second::rules::{DEFAULTS, INSTRUCTIONS, WINDOWS};
 
 const NO_CONTRACT: Contract = line::contract([0; 11]);
+const NO_DATE: Date = line::date([0; 3]);
 const NO_WINDOW: Window = line::window([0; 3]);
 const NO_INSTRUCTION: Instruction = line::instruction([0; 2]);
 const NO_DEFAULT: DefaultEntry = line::default([0; 3]);
@@ -18,6 +19,7 @@ pub struct Held {
     pub agreed: bool,
     pub closed: bool,
     contract: Contract,
+    date: Date,
     windows: Vec<Window>,
     instructions: Vec<Instruction>,
     defaults: Vec<DefaultEntry>,
@@ -31,6 +33,7 @@ impl Held {
             agreed: book.contract.is_some(),
             closed: book.closed,
             contract: book.contract.unwrap_or(NO_CONTRACT),
+            date: book.date.unwrap_or(NO_DATE),
             windows: filled(&book.windows, WINDOWS, NO_WINDOW),
             instructions: filled(&book.instructions, INSTRUCTIONS, NO_INSTRUCTION),
             defaults: filled(&book.defaults, DEFAULTS, NO_DEFAULT),
@@ -52,6 +55,7 @@ impl Held {
         }
         Some(Book {
             contract: self.agreed.then_some(self.contract),
+            date: (self.date != NO_DATE).then_some(self.date),
             windows: used(&self.windows, self.counts[0], NO_WINDOW)?,
             instructions: used(&self.instructions, self.counts[1], NO_INSTRUCTION)?,
             defaults: used(&self.defaults, self.counts[2], NO_DEFAULT)?,
@@ -70,13 +74,17 @@ impl Held {
         }
     }
 
-    /// 0 agreed, 1 closed, 2 to 12 the contract's, 13 to 15 the counts.
+    /// 0 agreed, 1 closed, 2 to 12 the contract's, 13 to 15 the counts, 16 to 18
+    /// the date's.
     fn set_field(&mut self, line: &Line) {
         let field: usize = line.number(0);
         match field {
             0 => self.agreed = line.number::<u8>(1) != 0,
             1 => self.closed = line.number::<u8>(1) != 0,
             13..=15 => self.counts[field - 13] = line.number(1),
+            16 => self.date.year = line.number(1),
+            17 => self.date.month = line.number(1),
+            18 => self.date.day = line.number(1),
             _ => *term(&mut self.contract, field) = line.number(1),
         }
     }

@@ -1,6 +1,8 @@
 //! A line of a script: a letter and numbers, one space apart.
 
-use second::bytes::{Command, Contract, DefaultEntry, Instruction, Reading, Revision, Window};
+use second::bytes::{
+    Command, Contract, Date, DefaultEntry, Instruction, Reading, Revision, Window,
+};
 use std::str::FromStr;
 
 pub struct Line<'a> {
@@ -51,6 +53,17 @@ impl<'a> Line<'a> {
         default(self.numbers(from))
     }
 
+    fn date(&self) -> Date {
+        date(self.numbers(0))
+    }
+
+    /// All numbers from a place on.
+    pub fn rest(&self, from: usize) -> Vec<i64> {
+        (from..self.numbers.len())
+            .map(|place| self.number(place))
+            .collect()
+    }
+
     fn reading(&self) -> Reading {
         let [minute, kw] = self.numbers(0);
         Reading { minute, kw }
@@ -65,6 +78,7 @@ impl<'a> Line<'a> {
     pub fn command(&self) -> Option<Command> {
         match self.letter {
             "C" => Some(Command::Contract(contract(self.numbers(0)))),
+            "Y" => Some(Command::Date(self.date())),
             "W" => Some(Command::Window(self.window(0))),
             "I" => Some(Command::Instruction(self.instruction(0))),
             "D" => Some(Command::Default(self.default(0))),
@@ -90,6 +104,10 @@ pub const fn contract(fields: [i64; 11]) -> Contract {
         utilisation_rate: fields[9],
         optional_rate: fields[10],
     }
+}
+
+pub const fn date([year, month, day]: [i64; 3]) -> Date {
+    Date { year, month, day }
 }
 
 pub const fn window([start, end, rejected]: [i64; 3]) -> Window {

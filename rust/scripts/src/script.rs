@@ -1,17 +1,18 @@
 //! The run of a script, whose letters `crates/test_script/src/main.rt` lists.
 
-use crate::answers::{print_entry, print_minute};
+use crate::answers::{print_day, print_entry, print_minute};
 use crate::held::Held;
 use crate::line::Line;
 use crate::statements::print_settlement;
 use second::book::{self, Book};
 use second::bytes::Command;
+use second::day;
 use second::memory::Memory;
 use second::rules::LISTER_LINES;
 use second::switches::Switch;
 
 /// The most minutes that any script lends.
-const CELLS: usize = 44640;
+const CELLS: usize = 44700;
 
 /// What revision memory holds after a restart: to mean anything it has to be
 /// written first.
@@ -103,6 +104,12 @@ impl State {
         print_minute(line, memory.meter[minute], memory.revisions[minute]);
     }
 
+    fn print_day(&self, line: &Line) {
+        let holidays = line.rest(1);
+        let ask = |book: Book| day::day_any(&book, line.number(0), &holidays, self.switch);
+        print_day(line, self.held.book().ok_or(11).and_then(ask));
+    }
+
     fn settle(&self, step: usize, records: usize) {
         let lent = self.lent();
         print_settlement(self.held.book(), &lent, step, records, self.switch);
@@ -117,6 +124,7 @@ impl State {
             "m" => self.put_cells(line),
             "v" => self.put_revisions(line),
             "g" => self.print_minute(line),
+            "y" => self.print_day(line),
             "b" | "w" | "i" | "d" => self.held.change(line),
             "k" => self.kept = self.held.clone(),
             "r" => self.held = self.kept.clone(),

@@ -2,7 +2,10 @@
 //! number. The tests stand in the order of the refusals, so the first that
 //! holds is given.
 
-use crate::bytes::{self, Command, Contract, DefaultEntry, Instruction, Read, Revision, Window};
+use crate::bytes::{
+    self, Command, Contract, Date, DefaultEntry, Instruction, Read, Revision, Window,
+};
+use crate::calendar;
 use crate::memory::Memory;
 use crate::rules::{self, *};
 use crate::switches::{Switch, Wrong};
@@ -10,6 +13,7 @@ use crate::switches::{Switch, Wrong};
 #[derive(Clone, PartialEq, Eq, Debug, Default)]
 pub struct Book {
     pub contract: Option<Contract>,
+    pub date: Option<Date>,
     pub windows: Vec<Window>,
     pub instructions: Vec<Instruction>,
     pub defaults: Vec<DefaultEntry>,
@@ -17,9 +21,26 @@ pub struct Book {
 }
 
 impl Book {
-    /// 0 without a contract.
-    pub fn span(&self) -> i64 {
-        self.contract.as_ref().map_or(0, rules::span)
+    /// The minutes of the month, with the hour that a date takes or gives; 0
+    /// without a contract.
+    pub fn span(&self, switch: Switch) -> i64 {
+        let Some(contract) = &self.contract else {
+            return 0;
+        };
+        let change = clock_change(self.date.as_ref(), switch);
+        let kept = match switch.0 {
+            Some(Wrong::UndatedSpan) => true,
+            Some(Wrong::MarchKeepsItsSpan) => change < 0,
+            _ => false,
+        };
+        undated_span(contract) + if kept { 0 } else { change }
+    }
+
+    /// The minutes that 15 asks both memories for; 0 without a contract.
+    pub fn asked_minutes(&self, switch: Switch) -> i64 {
+        self.contract.as_ref().map_or(0, |contract| {
+            rules::asked_minutes(contract, self.date.as_ref(), switch)
+        })
     }
 }
 
@@ -62,7 +83,7 @@ fn refuse_if(condition: bool, number: u8) -> Result<(), u8> {
     }
 }
 
-/// Refusals 3 to 5, which look at the command alone.
+/// Refusals 3 to 5, and 28 behind them, which look at the command alone.
 pub fn refused_by_input(command: &Command, switch: Switch) -> Result<(), u8> {
     refuse_if(!in_range(command), 3)?;
     match command {
@@ -75,6 +96,7 @@ pub fn refused_by_input(command: &Command, switch: Switch) -> Result<(), u8> {
             let crooked = w.start >= w.end || w.start % PERIOD != 0 || w.end % PERIOD != 0;
             refuse_if(crooked, 5)
         }
+        Command::Date(d) => refuse_if(!calendar::exists(d, switch), 28),
         _ => Ok(()),
     }
 }
@@ -94,6 +116,8 @@ fn in_range(command: &Command) -> bool {
                 && RATE.contains(&c.utilisation_rate)
                 && RATE.contains(&c.optional_rate)
         }
+        // 28 looks at its fields.
+        Command::Date(_) => true,
         Command::Window(w) => {
             MINUTE.contains(&w.start) && MINUTE.contains(&w.end) && EITHER.contains(&w.rejected)
         }
@@ -111,8 +135,8 @@ fn in_range(command: &Command) -> bool {
     }
 }
 
-/// Refusals 12 to 23, and 27 before the last of them, which look at the book
-/// and the lent memory too.
+/// Refusals 12 to 23, with 29 and 30 behind 15, and 27 before the last of them,
+/// which look at the book and the lent memory too.
 fn refused_by_state(
     book: &Book,
     memory: &Memory,
@@ -122,15 +146,22 @@ fn refused_by_state(
     refuse_if(book.closed, 12)?;
     if let Command::Contract(new) = command {
         refuse_if(book.contract.is_some(), 14)?;
-        return refuse_if(memory.room(switch) < rules::span(new), 15);
+        return refuse_if(memory.room(switch) < undated_span(new), 15);
     }
     let Some(contract) = &book.contract else {
         return Err(13);
     };
-    let span = book.span();
-    refuse_if(memory.room(switch) < span, 15)?;
+    let span = book.span(switch);
+    refuse_if(
+        memory.room(switch) < asked(book, contract, command, switch),
+        15,
+    )?;
     match command {
         Command::Contract(_) => unreachable!("answered above"),
+        Command::Date(d) => {
+            refuse_if(begun(book, contract, memory, switch), 29)?;
+            refuse_if(!is_the_contracts_month(contract, d, switch), 30)
+        }
         Command::Window(w) => {
             refuse_if(w.end > span, 16)?;
             refuse_if(w.rejected == 1 && contract.service == 0, 17)?;
@@ -158,6 +189,38 @@ fn refused_by_state(
         }
         Command::Close => Ok(()),
     }
+}
+
+/// The minutes that 15 asks for: those of the book, and for a date also those
+/// that its own month will ask for.
+fn asked(book: &Book, contract: &Contract, command: &Command, switch: Switch) -> i64 {
+    let of_book = book.asked_minutes(switch);
+    match command {
+        Command::Date(date) => of_book.max(rules::asked_minutes(contract, Some(date), switch)),
+        _ => of_book,
+    }
+}
+
+/// Whether something is in the book that a date has to come before. A reading
+/// counts as far as the contract goes without a date.
+fn begun(book: &Book, contract: &Contract, memory: &Memory, switch: Switch) -> bool {
+    let dated = book.date.is_some() && !switch.is(Wrong::SecondDateTaken);
+    let entries = !book.windows.is_empty() && !switch.is(Wrong::DatedAfterWindows)
+        || !book.instructions.is_empty();
+    let mut span = 0..undated_span(contract);
+    if switch.is(Wrong::DatedOverReadings) {
+        span = 0..0;
+    }
+    if switch.is(Wrong::ReadingsPastTheSpan) {
+        span = 0..memory.room(switch);
+    }
+    dated || entries || span.into_iter().any(|minute| memory.has_reading(minute))
+}
+
+fn is_the_contracts_month(contract: &Contract, date: &Date, switch: Switch) -> bool {
+    let first = date.day == 1 || switch.is(Wrong::DatedByAnyDay);
+    let days = calendar::days_of(date.year, date.month, switch);
+    first && (contract.days == days || switch.is(Wrong::DaysOfAnyMonth))
 }
 
 /// Touching is no overlap.
@@ -201,8 +264,13 @@ fn in_some_window(book: &Book, minute: i64, switch: Switch) -> bool {
 fn take(book: &mut Book, memory: &mut Memory, command: &Command, switch: Switch) {
     match *command {
         Command::Contract(c) => {
-            memory.clear(rules::span(&c));
+            memory.clear(0..undated_span(&c));
             book.contract = Some(c);
+        }
+        Command::Date(d) => {
+            let undated = book.contract.as_ref().map_or(0, undated_span);
+            memory.gain(undated, clock_change(Some(&d), switch), switch);
+            book.date = Some(d);
         }
         Command::Window(w) => book.windows.push(w),
         Command::Instruction(i) => book.instructions.push(i),
@@ -221,15 +289,17 @@ fn take(book: &mut Book, memory: &mut Memory, command: &Command, switch: Switch)
     }
 }
 
-/// Whether some list of commands leaves this book (refusal 11 if not). The
-/// windows can always have come before the defaults, so the tables' order
-/// among each other does not matter. Memory of the longest span takes every
-/// contract, so the book is built again in such memory.
+/// Whether some list of commands leaves this book (refusal 11 if not). A date
+/// came before every window, instruction and reading, and the windows can always
+/// have come before the defaults, so the tables' order among each other does not
+/// matter. Memory of the longest span takes every contract and every date, so the
+/// book is built again in such memory.
 pub fn sound(book: &Book, switch: Switch) -> bool {
     let mut again = Book::default();
-    let mut memory = Memory::of_minutes((*DAYS.end() * DAY) as usize);
+    let mut memory = Memory::of_minutes(*MINUTE.end() as usize);
     let mut commands = Vec::new();
     commands.extend(book.contract.map(Command::Contract));
+    commands.extend(book.date.map(Command::Date));
     commands.extend(book.windows.iter().copied().map(Command::Window));
     commands.extend(book.instructions.iter().copied().map(Command::Instruction));
     commands.extend(book.defaults.iter().copied().map(Command::Default));

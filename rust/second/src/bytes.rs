@@ -19,6 +19,14 @@ pub struct Contract {
     pub optional_rate: i64,
 }
 
+/// Of the month's first day.
+#[derive(Clone, Copy, PartialEq, Eq, Debug)]
+pub struct Date {
+    pub year: i64,
+    pub month: i64,
+    pub day: i64,
+}
+
 #[derive(Clone, Copy, PartialEq, Eq, Debug)]
 pub struct Window {
     pub start: i64,
@@ -60,6 +68,7 @@ pub struct Revision {
 #[derive(Clone, Copy, PartialEq, Eq, Debug)]
 pub enum Command {
     Contract(Contract),
+    Date(Date),
     Window(Window),
     Instruction(Instruction),
     Default(DefaultEntry),
@@ -77,6 +86,10 @@ pub struct Layout {
 pub const CONTRACT: Layout = Layout {
     byte: 0x43,
     widths: &[1, 1, 1, 4, 4, 4, 2, 2, 4, 4, 4],
+};
+pub const DATE: Layout = Layout {
+    byte: 0x54,
+    widths: &[2, 1, 1],
 };
 pub const WINDOW: Layout = Layout {
     byte: 0x57,
@@ -102,8 +115,9 @@ pub const CLOSE: Layout = Layout {
     byte: 0x5A,
     widths: &[],
 };
-pub const TABLE: [Layout; 7] = [
+pub const TABLE: [Layout; 8] = [
     CONTRACT,
+    DATE,
     WINDOW,
     INSTRUCTION,
     DEFAULT,
@@ -190,6 +204,7 @@ fn command(byte: u8, operands: &[i64]) -> Command {
             utilisation_rate,
             optional_rate,
         }),
+        (0x54, &[year, month, day]) => Command::Date(Date { year, month, day }),
         (0x57, &[start, end, rejected]) => Command::Window(Window {
             start,
             end,
@@ -234,6 +249,7 @@ pub fn bytes_of(command: &Command, switch: Switch) -> Vec<u8> {
                 c.optional_rate,
             ],
         ),
+        Command::Date(d) => (DATE, vec![d.year, d.month, d.day]),
         Command::Window(w) => (WINDOW, vec![w.start, w.end, w.rejected]),
         Command::Instruction(i) => (INSTRUCTION, vec![i.issue, i.cease]),
         Command::Default(d) => (DEFAULT, vec![d.minute, d.kind, d.reach]),

@@ -3,6 +3,8 @@
 
 pub mod book;
 pub mod bytes;
+pub mod calendar;
+pub mod day;
 pub mod memory;
 pub mod rows;
 pub mod rules;

@@ -3,6 +3,7 @@
 
 use crate::rules::{NO_READING, READING};
 use crate::switches::{Switch, Wrong};
+use std::ops::Range;
 
 #[derive(Clone, PartialEq, Eq, Debug)]
 pub struct Memory {
@@ -45,17 +46,41 @@ impl Memory {
         i64::from(byte.unwrap_or(0))
     }
 
-    /// What a contract leaves: no reading in the minutes of its span.
-    pub fn clear(&mut self, span: i64) {
-        self.meter[..span as usize].fill(NO_READING);
-        self.revisions
-            .iter_mut()
-            .take(span as usize)
-            .for_each(|byte| *byte = 0);
+    /// What a contract leaves in the minutes of its span: no reading.
+    pub fn clear(&mut self, minutes: Range<i64>) {
+        self.mark(minutes.clone());
+        self.unrevise(minutes);
+    }
+
+    /// What a date leaves where its month has so many minutes more than its
+    /// contract's days: the same in these. Where it has fewer, all stays.
+    pub fn gain(&mut self, undated: i64, more: i64, switch: Switch) {
+        let gained = undated..undated + more;
+        if !switch.is(Wrong::GainedHourUnmarked) {
+            self.mark(gained.clone());
+        }
+        if !switch.is(Wrong::GainedRevisionsKept) {
+            self.unrevise(gained);
+        }
+    }
+
+    fn mark(&mut self, minutes: Range<i64>) {
+        for minute in minutes {
+            self.put_kw(minute, i64::from(NO_READING));
+        }
+    }
+
+    fn unrevise(&mut self, minutes: Range<i64>) {
+        for minute in minutes {
+            self.put_revision(minute, 0);
+        }
     }
 
     pub fn put_kw(&mut self, minute: i64, kw: i64) {
-        self.meter[minute as usize] = kw as i32;
+        // Here too a cell is missing only where a switch leaves the room unasked.
+        if let Some(cell) = self.meter.get_mut(minute as usize) {
+            *cell = kw as i32;
+        }
     }
 
     pub fn put_revision(&mut self, minute: i64, number: i64) {

@@ -2,6 +2,7 @@
 //! is watched.
 
 use crate::book::{self, Book};
+use crate::day::{self, Day};
 use crate::memory::Memory;
 use crate::settle::{self, Line, Rate, Stage, Statement};
 use crate::switches::Switch;
@@ -75,15 +76,22 @@ pub fn refusal_row(number: u8, offset: usize) -> String {
 
 /// What the lister prints for a file: it ends at the first refusal.
 pub fn list(file: &[u8], room: Room, switch: Switch) -> String {
-    let mut book = Book::default();
-    let mut memory = Memory::of_minutes(room.minutes);
-    let entered = book::enter_file(file, &mut book, &mut memory, true, switch);
-    if let Some(last) = entered.last() {
-        if let Err(number) = last.answer {
-            return refusal_row(number, last.offset);
-        }
+    match entered(file, room.minutes, switch) {
+        Ok((book, memory)) => settlement_rows(file, &book, &memory, room, switch),
+        Err(row) => row,
     }
-    settlement_rows(file, &book, &memory, room, switch)
+}
+
+/// The book and the readings of a file, or the row of its first refusal.
+fn entered(file: &[u8], minutes: usize, switch: Switch) -> Result<(Book, Memory), String> {
+    let mut book = Book::default();
+    let mut memory = Memory::of_minutes(minutes);
+    for command in book::enter_file(file, &mut book, &mut memory, true, switch) {
+        command
+            .answer
+            .map_err(|number| refusal_row(number, command.offset))?;
+    }
+    Ok((book, memory))
 }
 
 /// What became of each command of a file, and then the settlement.
@@ -104,12 +112,9 @@ pub fn answers(file: &[u8], room: Room, switch: Switch) -> String {
 /// minute, up to one that lacks a reading, and the month's T row where it can be
 /// settled. Nothing of a file with a refusal.
 pub fn watch(file: &[u8], room: Room, switch: Switch) -> String {
-    let mut book = Book::default();
-    let mut memory = Memory::of_minutes(room.minutes);
-    let entered = book::enter_file(file, &mut book, &mut memory, true, switch);
-    if entered.last().is_some_and(|last| last.answer.is_err()) {
+    let Ok((book, memory)) = entered(file, room.minutes, switch) else {
         return String::new();
-    }
+    };
     let mut rows = String::new();
     for totals in watch::totals(&book, &memory, switch) {
         rows.push_str(&totals_row(&totals));
@@ -118,6 +123,22 @@ pub fn watch(file: &[u8], room: Room, switch: Switch) -> String {
         rows.push_str(&month_row(&statement));
     }
     rows
+}
+
+pub fn day_row(day: Day) -> &'static str {
+    match day {
+        Day::None => "no such day\n",
+        Day::Working => "working\n",
+        Day::NonWorking => "non-working\n",
+    }
+}
+
+/// What is printed of a day of a file's month, or the file's refusal.
+pub fn day(file: &[u8], minutes: usize, number: i64, holidays: &[i64], switch: Switch) -> String {
+    match entered(file, minutes, switch) {
+        Ok((book, _)) => day_row(day::day(&book, number, holidays, switch)).to_string(),
+        Err(row) => row,
+    }
 }
 
 fn settlement_rows(

@@ -1,7 +1,8 @@
 //! Limits, minutes, ramps and rounding: what both the book and the settlement
 //! go by.
 
-use crate::bytes::{Contract, Instruction, Window};
+use crate::bytes::{Contract, Date, Instruction, Window};
+use crate::calendar;
 use crate::switches::{Switch, Wrong};
 use std::ops::RangeInclusive;
 
@@ -11,8 +12,9 @@ pub const RAMP: RangeInclusive<i64> = 1..=500_000;
 pub const RESPONSE: RangeInclusive<i64> = 1..=240;
 pub const RECOVERY: RangeInclusive<i64> = 0..=1_200;
 pub const RATE: RangeInclusive<i64> = 0..=1_000_000;
-pub const MINUTE: RangeInclusive<i64> = 0..=44_640;
-pub const ISSUE: RangeInclusive<i64> = 3..=44_640;
+/// As far as the longest month goes, an October of 31 days and an hour.
+pub const MINUTE: RangeInclusive<i64> = 0..=44_700;
+pub const ISSUE: RangeInclusive<i64> = 3..=44_700;
 pub const READING: RangeInclusive<i64> = -500_000..=500_000;
 /// A plain reading is revision 0.
 pub const REVISION: RangeInclusive<i64> = 1..=255;
@@ -20,6 +22,9 @@ pub const REVISION: RangeInclusive<i64> = 1..=255;
 pub const EITHER: RangeInclusive<i64> = 0..=1;
 pub const DEFAULT_KIND: RangeInclusive<i64> = 1..=4;
 pub const DEFAULT_REACH: RangeInclusive<i64> = 1..=3;
+/// A date's; how far its days go depends on both.
+pub const YEAR: RangeInclusive<i64> = 2_007..=2_099;
+pub const MONTH: RangeInclusive<i64> = 1..=12;
 
 pub const MOST_RAMP_DOWN_MINUTES: i64 = 240;
 pub const MOST_P: i64 = 30;
@@ -42,8 +47,28 @@ pub fn period_of(minute: i64) -> i64 {
     minute / PERIOD + 1
 }
 
-pub fn span(contract: &Contract) -> i64 {
+/// The span of a contract without a date.
+pub fn undated_span(contract: &Contract) -> i64 {
     contract.days * DAY
+}
+
+/// The minutes that 15 asks for: in an October one hour more than without a
+/// date, and in a March no less.
+pub fn asked_minutes(contract: &Contract, date: Option<&Date>, switch: Switch) -> i64 {
+    let change = clock_change(date, switch);
+    let asked = match switch.0 {
+        Some(Wrong::ShortMarchMemory) => change,
+        Some(Wrong::OctoberRoomUnasked) => 0,
+        _ => change.max(0),
+    };
+    undated_span(contract) + asked
+}
+
+/// What a date changes of a span.
+pub fn clock_change(date: Option<&Date>, switch: Switch) -> i64 {
+    date.map_or(0, |date| {
+        calendar::clock_change(date.year, date.month, switch)
+    })
 }
 
 /// kW over kW a minute, taken up to a whole minute.

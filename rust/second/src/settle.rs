@@ -57,7 +57,7 @@ pub fn settle(
     line_records: usize,
     switch: Switch,
 ) -> Result<Statement, u8> {
-    if memory.room(switch) < book.span() {
+    if memory.room(switch) < book.asked_minutes(switch) {
         return Err(15);
     }
     let contract = match &book.contract {

@@ -67,10 +67,51 @@ pub enum Wrong {
     SumsGoneWithLine,
     /// The base load shown, and counted from, is that of the instruction before.
     BaseOfLast,
+    /// The leap day stands in the year after a leap year.
+    LeapYearLate,
+    /// Saturdays are taken for Sundays.
+    SaturdayForSunday,
+    /// The clock changes on the month's first Sunday, not on its last. No row of a
+    /// month shows it, since its minutes are the same.
+    FirstSunday,
+    /// A date changes no span.
+    UndatedSpan,
+    /// A dated March has all the minutes of its days.
+    MarchKeepsItsSpan,
+    /// A dated March asks of the memory no more than its minutes.
+    ShortMarchMemory,
+    /// An October asks of the memory no more than its days.
+    OctoberRoomUnasked,
+    /// The cells of a gained hour keep what they held.
+    GainedHourUnmarked,
+    /// Their revisions do.
+    GainedRevisionsKept,
+    /// A date is taken though another one was.
+    SecondDateTaken,
+    /// A date is taken though a window was entered.
+    DatedAfterWindows,
+    /// A date is taken though there is a reading.
+    DatedOverReadings,
+    /// A reading behind the contract's days keeps a date from being taken.
+    ReadingsPastTheSpan,
+    /// A date may be that of any day of its month.
+    DatedByAnyDay,
+    /// A date may be that of a month of other days than the contract's.
+    DaysOfAnyMonth,
+    /// The writer leaves the date out.
+    DateUnwritten,
+    /// A holiday of number 0 is every day.
+    HolidayOfEveryDay,
+    /// Holidays are working days.
+    HolidaysUnseen,
+    /// Every day of a month without a date is a working day.
+    UndatedDaysWorking,
+    /// The day behind the month's last one is asked like one of its own.
+    DayBehindTheLast,
 }
 
 /// The names by which the command line knows the switches.
-pub const SWITCHES: [(&str, Wrong); 32] = [
+pub const SWITCHES: [(&str, Wrong); 52] = [
     ("cap-by-minute", Wrong::CapByMinute),
     ("base-rounded", Wrong::BaseRounded),
     ("whole-ramp", Wrong::WholeRamp),
@@ -106,6 +147,26 @@ pub const SWITCHES: [(&str, Wrong); 32] = [
     ("sums-by-period", Wrong::SumsByPeriod),
     ("sums-gone-with-line", Wrong::SumsGoneWithLine),
     ("base-of-last", Wrong::BaseOfLast),
+    ("leap-year-late", Wrong::LeapYearLate),
+    ("saturday-for-sunday", Wrong::SaturdayForSunday),
+    ("first-sunday", Wrong::FirstSunday),
+    ("undated-span", Wrong::UndatedSpan),
+    ("march-keeps-its-span", Wrong::MarchKeepsItsSpan),
+    ("short-march-memory", Wrong::ShortMarchMemory),
+    ("october-room-unasked", Wrong::OctoberRoomUnasked),
+    ("gained-hour-unmarked", Wrong::GainedHourUnmarked),
+    ("gained-revisions-kept", Wrong::GainedRevisionsKept),
+    ("second-date-taken", Wrong::SecondDateTaken),
+    ("dated-after-windows", Wrong::DatedAfterWindows),
+    ("dated-over-readings", Wrong::DatedOverReadings),
+    ("readings-past-the-span", Wrong::ReadingsPastTheSpan),
+    ("dated-by-any-day", Wrong::DatedByAnyDay),
+    ("days-of-any-month", Wrong::DaysOfAnyMonth),
+    ("date-unwritten", Wrong::DateUnwritten),
+    ("holiday-of-every-day", Wrong::HolidayOfEveryDay),
+    ("holidays-unseen", Wrong::HolidaysUnseen),
+    ("undated-days-working", Wrong::UndatedDaysWorking),
+    ("day-behind-the-last", Wrong::DayBehindTheLast),
 ];
 
 /// The rules to go by: the right ones, or all but one of them.

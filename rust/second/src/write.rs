@@ -8,15 +8,18 @@ use crate::switches::{Switch, Wrong};
 /// The file of a book that commands alone have made, or 15, or 26 where it
 /// does not fit into `room` bytes.
 pub fn write(book: &Book, memory: &Memory, room: usize, switch: Switch) -> Result<Vec<u8>, u8> {
-    if memory.room(switch) < book.span() {
+    if memory.room(switch) < book.asked_minutes(switch) {
         return Err(15);
     }
     let mut commands = Vec::new();
     commands.extend(book.contract.map(Command::Contract));
+    if !switch.is(Wrong::DateUnwritten) {
+        commands.extend(book.date.map(Command::Date));
+    }
     commands.extend(book.windows.iter().copied().map(Command::Window));
     commands.extend(book.instructions.iter().copied().map(Command::Instruction));
     commands.extend(book.defaults.iter().copied().map(Command::Default));
-    for minute in 0..book.span() {
+    for minute in 0..book.span(switch) {
         if memory.has_reading(minute) {
             commands.push(reading(memory, minute, switch));
         }

@@ -24,11 +24,15 @@
 //! A month can be given as [`Tables`] too, with its readings in
 //! [`Memory::meter`] and their revisions in [`Memory::revisions`].
 //!
+//! A month with a date knows its days: [`Memory::day_file`] answers which kind of
+//! [`Day`] one of them is.
+//!
 //! A month can also be watched minute by minute: [`Month`] is worked out once,
 //! and [`Totals`] take a step for each active minute.
 
 #![warn(missing_docs)]
 
+mod day;
 // The one module that calls C functions.
 #[allow(unsafe_code)]
 pub mod library;
@@ -39,17 +43,21 @@ mod statement;
 mod tests;
 mod watch;
 
+pub use day::Day;
 pub use memory::{Memory, Tables};
 pub use statement::{Failure, Line, Rate, Refusal, Stage, Statement, WindowPay};
 pub use watch::{Month, StepRefusal, Stop, Totals, Walk};
 
-/// Minutes of metering, and of revisions, that every month fits.
-pub const MONTH_MINUTES: usize = 44_640;
+/// Minutes of metering, and of revisions, that every month fits: an October has 31
+/// days and an hour.
+pub const MONTH_MINUTES: usize = 44_700;
 /// Line records that every month fits.
-pub const MONTH_LINES: usize = 1_680;
+pub const MONTH_LINES: usize = 1_682;
 /// Bytes that every written month fits. A file that is read can be longer: it
 /// may read a minute once and revise it 255 times.
-pub const MONTH_BYTES: usize = 358_881;
+pub const MONTH_BYTES: usize = 359_366;
+/// The numbers of a contract's row: its own eleven, and three of the date.
+pub const CONTRACT_NUMBERS: usize = 14;
 /// The window entries of a statement, used or not.
 pub const WINDOWS: usize = 128;
 /// The numbers of one line record.
@@ -59,8 +67,9 @@ const TOTALS: usize = 6;
 /// The numbers of a statement's sums: totals, and two for each window entry.
 pub const SUMS: usize = TOTALS + 2 * WINDOWS;
 /// The numbers that watching a month needs of it.
-pub const MONTH_NUMBERS: usize = 1_815;
+pub const MONTH_NUMBERS: usize = 1_816;
 /// The numbers of running totals.
 pub const TOTAL_NUMBERS: usize = 7;
-/// What a contract puts into each cell of its span.
+/// What a contract puts into each cell of its days, and a date into those of the
+/// hour that its month gains.
 pub const NO_READING: i32 = i32::MIN;

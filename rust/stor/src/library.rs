@@ -114,6 +114,32 @@ extern "C" {
         base: *const i32,
         base_len: usize,
     ) -> u8;
+
+    fn stor_day_file(
+        file: *const u8,
+        file_len: usize,
+        meter: *mut i32,
+        meter_len: usize,
+        revisions: *mut u8,
+        revisions_len: usize,
+        day: u32,
+        holidays: *const u32,
+        holidays_len: usize,
+    ) -> u64;
+
+    fn stor_day_tables(
+        contract: *const u32,
+        contract_len: usize,
+        windows: *const u32,
+        windows_len: usize,
+        instructions: *const u32,
+        instructions_len: usize,
+        defaults: *const u32,
+        defaults_len: usize,
+        day: u32,
+        holidays: *const u32,
+        holidays_len: usize,
+    ) -> u64;
 }
 
 /// The refusal's number, 0 for none, and 256 times the offset.
@@ -306,6 +332,58 @@ pub fn watch_step(
             kw,
             base.as_ptr(),
             base.len(),
+        )
+    }
+}
+
+/// The refusal's number, 0 for none, and 256 times the offset, or the kind of
+/// day: 0 no such day, 1 working, 2 non-working.
+pub fn day_file(
+    file: &[u8],
+    meter: &mut [i32],
+    revisions: &mut [u8],
+    day: u32,
+    holidays: &[u32],
+) -> u64 {
+    // SAFETY: as said at the top.
+    unsafe {
+        stor_day_file(
+            file.as_ptr(),
+            file.len(),
+            meter.as_mut_ptr(),
+            meter.len(),
+            revisions.as_mut_ptr(),
+            revisions.len(),
+            day,
+            holidays.as_ptr(),
+            holidays.len(),
+        )
+    }
+}
+
+/// 11, or 256 times the kind of day.
+pub fn day_tables(
+    contract: &[u32],
+    windows: &[u32],
+    instructions: &[u32],
+    defaults: &[u32],
+    day: u32,
+    holidays: &[u32],
+) -> u64 {
+    // SAFETY: as said at the top.
+    unsafe {
+        stor_day_tables(
+            contract.as_ptr(),
+            contract.len(),
+            windows.as_ptr(),
+            windows.len(),
+            instructions.as_ptr(),
+            instructions.len(),
+            defaults.as_ptr(),
+            defaults.len(),
+            day,
+            holidays.as_ptr(),
+            holidays.len(),
         )
     }
 }

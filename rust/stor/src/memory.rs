@@ -1,8 +1,8 @@
 //! The memory that calls are lent, and the calls over it.
 
 use crate::{
-    library, Failure, Month, Refusal, Statement, Walk, LINE_NUMBERS, MONTH_BYTES, MONTH_LINES,
-    MONTH_MINUTES, NO_READING, SUMS,
+    library, Day, Failure, Month, Refusal, Statement, Walk, CONTRACT_NUMBERS, LINE_NUMBERS,
+    MONTH_BYTES, MONTH_LINES, MONTH_MINUTES, NO_READING, SUMS,
 };
 
 /// A closed book in numbers, as the library takes it: each table's entries one
@@ -10,8 +10,10 @@ use crate::{
 #[derive(Clone, PartialEq, Eq, Debug, Default)]
 pub struct Tables {
     /// Days, kind, service, contracted kW, ramp up, ramp down, response,
-    /// recovery, availability, utilisation and optional rate.
-    pub contract: [u32; 11],
+    /// recovery, availability, utilisation and optional rate; then the year, the
+    /// month and the day of the month's date, which is its first, or zeros where it
+    /// has none.
+    pub contract: [u32; CONTRACT_NUMBERS],
     /// Start, end, and 0 for accepted or 1 for rejected.
     pub windows: Vec<u32>,
     /// Issue and cease.
@@ -152,6 +154,32 @@ impl Memory {
     /// after each active minute, in order.
     pub fn walk<'a>(&'a self, month: &'a Month) -> Walk<'a> {
         Walk::new(month, &self.meter)
+    }
+
+    /// Enters a unit file, open, empty or closed, and says what kind of day a day of
+    /// its month is. The list of holidays may hold any numbers: those that are no
+    /// day of the month do nothing.
+    pub fn day_file(&mut self, file: &[u8], day: u32, holidays: &[u32]) -> Result<Day, Failure> {
+        Day::of_answer(library::day_file(
+            file,
+            &mut self.meter,
+            &mut self.revisions,
+            day,
+            holidays,
+        ))
+    }
+
+    /// What kind of day a day of the month of tables is. It looks at no reading, and
+    /// so at no memory.
+    pub fn day_tables(tables: &Tables, day: u32, holidays: &[u32]) -> Result<Day, Failure> {
+        Day::of_answer(library::day_tables(
+            &tables.contract,
+            &tables.windows,
+            &tables.instructions,
+            &tables.defaults,
+            day,
+            holidays,
+        ))
     }
 
     fn statement(&self) -> Result<Statement, Failure> {

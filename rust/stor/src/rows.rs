@@ -1,6 +1,7 @@
-//! A statement or a refusal as the lister prints it, and running totals.
+//! A statement or a refusal as the lister prints it, running totals, and a kind of
+//! day.
 
-use crate::{Line, Rate, Refusal, Stage, Statement, Totals};
+use crate::{Day, Line, Rate, Refusal, Stage, Statement, Totals};
 use std::fmt::Write;
 
 /// Its L, A and T rows.
@@ -41,6 +42,15 @@ pub fn total_row(totals: &Totals) -> String {
         totals.capped,
         totals.pence
     )
+}
+
+/// A kind of day in words.
+pub fn day_row(day: Day) -> &'static str {
+    match day {
+        Day::None => "no such day\n",
+        Day::Working => "working\n",
+        Day::NonWorking => "non-working\n",
+    }
 }
 
 /// Its R row.

@@ -1,3 +1,4 @@
+mod dates;
 mod watch;
 
 use crate::rows::{refusal_row, statement_rows};
@@ -15,7 +16,9 @@ const LAST_READING: usize = APPENDIX_2.len() - 8;
 
 fn appendix_2_tables() -> Tables {
     Tables {
-        contract: [1, 0, 0, 12_000, 2_000, 2_000, 20, 0, 900, 30_000, 55_000],
+        contract: [
+            1, 0, 0, 12_000, 2_000, 2_000, 20, 0, 900, 30_000, 55_000, 0, 0, 0,
+        ],
         windows: vec![0, 180, 0],
         instructions: vec![5, 85],
         defaults: Vec::new(),
@@ -162,7 +165,8 @@ fn revisions_are_refused_and_nothing_is_altered() {
         (22, LAST_AS_0.to_vec()),
         (3, revision(LAST_READ, 0, 0)),
         (3, revision(LAST_READ, 10, 500_001)),
-        (3, revision(44_641, 10, 0)),
+        (3, revision(44_701, 10, 0)),
+        (16, revision(44_700, 10, 0)),
         (16, revision(1_440, 10, 0)),
         (2, revision(LAST_READ, 10, 0)[..6].to_vec()),
     ] {
@@ -378,9 +382,10 @@ fn contracts_of_other_lengths_are_refused() {
             &mut lines,
             &mut sums,
         );
-        assert_eq!(number, if length == 11 { 0 } else { 11 });
+        let fits = length == CONTRACT_NUMBERS;
+        assert_eq!(number, if fits { 0 } else { 11 });
         let altered = lines.iter().chain(&sums).any(|&n| n != MARK);
-        assert_eq!(altered, length == 11);
+        assert_eq!(altered, fits);
     }
 }
 
@@ -396,10 +401,11 @@ fn full_tables_are_settled() {
     assert_eq!(statement.lines.len(), 3 * 64);
 }
 
-/// A month with every place of every table in use.
+/// A month with every place of every table in use, and as long as they get.
 fn full_tables() -> Tables {
     let mut tables = appendix_2_tables();
     tables.contract[0] = 31;
+    tables.contract[11..].copy_from_slice(&[2_024, 10, 1]);
     tables.windows = windows(128);
     tables.instructions = instructions(64);
     tables.defaults = [0, 1, 1].repeat(128);
@@ -464,10 +470,10 @@ fn a_refusal_keeps_every_byte() {
     let too_long = [&contract[..], &[0]].concat();
     let revisions = [0; 1_440];
     for (number, contract, cells, bytes, room) in [
-        (11, &contract[..10], 1_440, 1_440, room),
+        (11, &contract[..11], 1_440, 1_440, room),
         (11, &too_long[..], 1_440, 1_440, room),
-        (11, &[0; 11], 1_440, 1_440, room),
-        (11, &contract[..10], 1_439, 1_439, room - 1),
+        (11, &[0; CONTRACT_NUMBERS], 1_440, 1_440, room),
+        (11, &contract[..13], 1_439, 1_439, room - 1),
         (15, &contract, 1_439, 1_440, room - 1),
         (15, &contract, 1_440, 1_439, room - 1),
         (26, &contract, 1_440, 1_440, room - 1),

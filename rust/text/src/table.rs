@@ -79,7 +79,7 @@ const fn named(name: &'static str, width: Width, words: &'static [(&'static str,
     }
 }
 
-pub const COMMANDS: [Command; 7] = [
+pub const COMMANDS: [Command; 8] = [
     Command {
         byte: 0x43,
         name: "contract",
@@ -95,6 +95,15 @@ pub const COMMANDS: [Command; 7] = [
             named("availability", Width::Four, &[]),
             named("utilisation", Width::Four, &[]),
             named("optional", Width::Four, &[]),
+        ],
+    },
+    Command {
+        byte: 0x54,
+        name: "date",
+        fields: &[
+            place("year", Width::Two),
+            place("month", Width::One),
+            place("day", Width::One),
         ],
     },
     Command {

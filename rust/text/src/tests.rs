@@ -1,7 +1,7 @@
 //! Any bytes survive being shown and packed; wrong lines are named.
 
 use crate::pack::pack;
-use crate::show::show;
+use crate::show::{describe, show};
 
 fn survives(bytes: &[u8]) {
     let text = show(bytes);
@@ -22,7 +22,7 @@ fn bytes_survive() {
         let length = next(&mut state) % 80;
         let bytes: Vec<u8> = (0..length)
             .map(|_| match next(&mut state) % 3 {
-                0 => b"CWIDMRZ"[next(&mut state) as usize % 7],
+                0 => b"CTWIDMRZ"[next(&mut state) as usize % 8],
                 _ => next(&mut state) as u8,
             })
             .collect();
@@ -71,6 +71,23 @@ fn a_revision_stands_between_readings() {
 }
 
 #[test]
+fn a_date_is_year_month_and_day() {
+    let text = "date 2024 10 1\nwindow 0 30 accepted\n";
+    let bytes = pack(text).expect("fits");
+    assert_eq!(bytes[..6], [0x54, 0x07, 0xE8, 10, 1, 0x57]);
+    assert_eq!(show(&bytes), text);
+    assert_eq!(describe(&bytes), "date year 2024, month 10, day 1");
+    assert_eq!(describe(&bytes[..4]), "date, 4 of its 5 bytes");
+    // No day of any month, and yet bytes.
+    assert_eq!(
+        pack("date 65535 255 0").as_deref(),
+        Ok(&[0x54, 255, 255, 255, 0][..])
+    );
+    survives(&[0x54, 0, 0, 0, 0]);
+    survives(&[0x54, 0, 0, 0]);
+}
+
+#[test]
 fn fields_in_any_order() {
     let one = "contract days 1 kind generator service flexible kw 12000 ramp-up 2000 \
                ramp-down 2000 response 20 recovery 0 availability 900 utilisation 30000 \
@@ -101,6 +118,16 @@ fn wrong_lines_are_named() {
         "line 1: number 256 does not fit its bytes, which hold 0 to 255",
     );
     wrong("revision 7 1", "line 1: revision without kw");
+    wrong("date 2024 10", "line 1: date without day");
+    wrong("date 2024 10 1 1", "line 1: date has no field 1");
+    wrong(
+        "date 2024 256 1",
+        "line 1: month 256 does not fit its bytes, which hold 0 to 255",
+    );
+    wrong(
+        "date 65536 1 1",
+        "line 1: year 65536 does not fit its bytes, which hold 0 to 65535",
+    );
     wrong("instruction issue 3 issue 4", "line 1: issue twice");
     wrong("instruction issue 3", "line 1: instruction without cease");
     wrong("instruction issue", "line 1: issue without a value");

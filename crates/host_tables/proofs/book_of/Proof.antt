@@ -10,11 +10,12 @@ use Rattle.host_tables.proofs.book_of.Tie as tie
 returns : tie.Need-returns
 unfolding bookOf
 returns c =
-    let a = c .before .before .before .before .before .before .before .before .args in
+    let a = c .before .before .before .before .before .before .before .before .before .args in
     λ i. record {
       agreed = true;
       closed = true;
-      contract = c .before .before .before .contract-in .ensures i;
+      contract = c .before .before .before .before .contract-in .ensures i;
+      date = c .before .before .before .date-in .ensures i;
       windows = c .before .before .windows-of .ensures i;
       nwindows = length (a .windows .now) / windowNumbers;
       instructions = c .before .instructions-of .ensures i;
@@ -26,4 +27,4 @@ returns c =
 pub book-of-spec : {M : Type 1} → statement M
 book-of-spec =
     tie.close
-    (tie.spec (λ c κs. search needs) (λ c κs. search needs) (λ c κs. search needs) (λ c κs. search needs) returns)
+    (tie.spec (λ c κs. search needs) (λ c κs. search needs) (λ c κs. search needs) (λ c κs. search needs) (λ c κs. search needs) returns)

@@ -4,6 +4,7 @@ use Prim.Native.Nat.{_+_, _-_, _≤_}
 use native.Mathlib.Numerals.{add-one}
 use native.Mathlib.Omega.{arith}
 use borrow.Author.Needs.{needs}
+use Rattle.commands.specs.Input.{mostMinute}
 use Rattle.settle_terms.specs.Terms.{ceaseOf}
 use Rattle.settle_live.specs.Live.{excludedTo}
 use Rattle.settle_live.proofs.excluded.Statement.{statement}
@@ -22,7 +23,7 @@ module _ (c : tie.After-cease-at Inv-loop μ-loop) where
   abbrev s : tie.Start Inv-loop μ-loop
   s = c .before .before .before .before .before
 
-  small : ceaseOf (s .args .times .now) (c .before .before .loop .i) + s .args .t .downminutes .0 ≤ 44640
+  small : ceaseOf (s .args .times .now) (c .before .before .loop .i) + s .args .t .downminutes .0 ≤ mostMinute
   small = s .pre .small (c .before .before .loop .i) (c .before .loop-test .taken)
 
 -- what is added to the end fits

@@ -1,4 +1,5 @@
--- `watch_month::month_of` meets its contract: what settling reads off a sound book gives the month (`BookMonth`), and the refusals come first. Assumes nothing.
+-- `watch_month::month_of` meets its contract: what settling reads off a sound book gives the month (`BookMonth`), and the refusals come first.
+-- Assumes nothing.
 use mathlib.Core.Path.{_≡_, sym, _∙_}
 use mathlib.Core.Bool.{true}
 use Prim.Native.Nat.{ℕ}
@@ -8,6 +9,7 @@ use borrow.Author.Needs.{needs}
 use borrow.Author.Tests.{not-true, not-false}
 use Rattle.rules.proofs.Folds.{length-mapped}
 use Rattle.book.specs.Sound.{sound}
+use Rattle.settle_terms.specs.Terms.{periodPlaces}
 use Rattle.settle_availability.proofs.Defaults.{unmarked-zeros}
 use Rattle.watch_month.proofs.BookMonth.{Workable, workable, is-11, is-26, is-laid}
 use Rattle.watch_month.proofs.month_of.Statement.{statement}
@@ -46,7 +48,7 @@ mark-live-requires : tie.Need-mark-live-requires
 mark-live-requires c κs =
     let t = c .before .before in
     let w = works (t .before) in
-    (rw (t .terms-of .ensures) (w .cleared), (w .windows, unmarked-zeros 1490))
+    (rw (t .terms-of .ensures) (w .cleared), (w .windows, unmarked-zeros periodPlaces))
 
 put-month-requires : tie.Need-put-month-requires
 put-month-requires c κs =
@@ -57,7 +59,7 @@ put-month-requires c κs =
       rw (t .terms-of .ensures) (w .figured),
       omega (arith, t .before .times-of .ensures .size),
       omega
-          (arith, m .mark-live .ensures .1, length-replicate {A = ℕ} 1490 0),
+          (arith, m .mark-live .ensures .1, length-replicate {A = ℕ} periodPlaces 0),
     )
 
 returns-3 : tie.Need-returns-3
@@ -67,7 +69,7 @@ returns-3 c =
     let t = m .before .before .before in
     let s = origin (t .before) in
     let l = m .mark-live .ensures in
-    let is = works (t .before) .month _ (l .1 ∙ length-replicate {A = ℕ} 1490 0) (rw (t .terms-of .ensures) at (l .0)) in
+    let is = works (t .before) .month _ (l .1 ∙ length-replicate {A = ℕ} periodPlaces 0) (rw (t .terms-of .ensures) at (l .0)) in
     is-laid (s .args .b) (s .args .month .now) (book-sound (past (t .before) .before)) (past (t .before) .if2 .left) (t .before .times-of .result) _
     (p .put-month .ensures) (t .terms-of .ensures) is
 

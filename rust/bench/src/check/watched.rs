@@ -3,7 +3,6 @@
 //! it has a say, the second settlement.
 
 use super::{alike, plain_book, MONTHS, UNTOUCHED, UNTOUCHED_BYTE};
-use crate::month::MINUTES;
 use crate::sides::tables;
 use crate::watch::{self, Month, Totals};
 use compare::random::Random;
@@ -14,7 +13,7 @@ use second::settle as second_settle;
 use second::switches::Switch;
 use second::watch as second_watch;
 use std::collections::BTreeMap;
-use stor::{library, Tables, MONTH_NUMBERS, TOTAL_NUMBERS};
+use stor::{library, Tables, MONTH_MINUTES, MONTH_NUMBERS, TOTAL_NUMBERS};
 
 /// Marks month memory, to see what a call leaves alone.
 const UNTOUCHED_NUMBER: u32 = 0xA5A5_A5A5;
@@ -37,11 +36,11 @@ pub fn check() -> Result<(), String> {
     for seed in 1..=FILES {
         let file = scenes::watched(seed, MONTHS);
         let what = format!("watched file {seed}");
-        let minutes = check_file(&what, &file, MINUTES, MINUTES)?;
+        let minutes = check_file(&what, &file, MONTH_MINUTES, MONTH_MINUTES)?;
         watched.months += usize::from(minutes > 0);
         watched.minutes += minutes;
         let mut random = Random::new(seed);
-        let (cells, bytes) = random.pick(&[(1_440, 1_440), (1_439, 1_440), (MINUTES, 1_439)]);
+        let (cells, bytes) = random.pick(&[(1_440, 1_440), (1_439, 1_440), (MONTH_MINUTES, 1_439)]);
         check_file(&what, &file, cells, bytes)?;
         odd_steps(&what, &file, &mut random, &mut watched)?;
     }
@@ -255,7 +254,7 @@ fn odd_steps(
     random: &mut Random,
     watched: &mut Watched,
 ) -> Result<(), String> {
-    let (number, _, book, memory) = entered(file, &Memory::of_minutes(MINUTES));
+    let (number, _, book, memory) = entered(file, &Memory::of_minutes(MONTH_MINUTES));
     let month = Month::of(&plain_book(&book));
     if number != 0 || month.minutes() == 0 {
         return Ok(());
@@ -311,7 +310,11 @@ fn spoil_step(random: &mut Random, step: &mut Step) {
         2 => step.kw = edge(random, 500_000) as i32,
         3 => {
             let place = random.between(0, 3) as usize;
-            step.base[place] = edge(random, 500_000) as i32;
+            let kw = edge(random, 500_000) as i32;
+            // They may be fewer by now.
+            if let Some(base) = step.base.get_mut(place) {
+                *base = kw;
+            }
         }
         _ => step.base.resize(random.pick(&[0, 1, 2, 3, 5, 8]), 0),
     }

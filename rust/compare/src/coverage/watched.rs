@@ -63,6 +63,11 @@ impl Coverage {
         self.met("watched, demand reducer", any && contract.kind == 1);
         let later = shown.iter().any(|totals| totals.minute >= DAY);
         self.met("watched, later day", later);
+        self.met("watched, dated", any && book.date.is_some());
+        let gained = shown
+            .iter()
+            .any(|totals| totals.minute >= *DAYS.end() * DAY);
+        self.met("watched, minute of a gained hour", gained);
         let below = shown.iter().any(|totals| totals.capped < 0);
         self.met("watched, capped below 0", below);
         let revised = shown

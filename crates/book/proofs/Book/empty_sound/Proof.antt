@@ -8,13 +8,15 @@ use Rattle.book.specs.Sound.{emptyTests}
 use Rattle.book.proofs.Book.empty_sound.Statement.{statement}
 use Rattle.book.proofs.Book.empty_sound.Tie as tie
 
-chained : (a b c d e : Bool) → (a && b && c && d && e) ≡ pass (a ∷ b ∷ c ∷ d ∷ e ∷ [])
+chained : (a b c d e f : Bool) → (a && b && c && d && e && f) ≡ pass (a ∷ b ∷ c ∷ d ∷ e ∷ f ∷ [])
 unfolding pass
-chained a b c d e = simp (and-assoc, and-true)
+chained a b c d e f = simp (and-assoc, and-true)
 
 returns : tie.Need-returns
 unfolding emptyTests
-returns c = rw (c .before .before .before .before .is-no-contract .ensures) (chained _ _ _ _ _)
+returns c =
+    let dated = c .before .before .before .before in
+    rw (dated .before .is-no-contract .ensures, dated .is-none .ensures) (chained _ _ _ _ _ _)
 
 pub empty-sound-spec : {M : Type 1} → statement M
-empty-sound-spec = tie.close (tie.spec (λ c κs. search needs) returns)
+empty-sound-spec = tie.close (tie.spec (λ c κs. search needs) (λ c κs. search needs) returns)

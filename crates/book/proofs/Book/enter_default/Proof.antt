@@ -3,7 +3,7 @@ use borrow.Author.Needs.{needs}
 use mathlib.Core.Path.{_≡_}
 use Prim.Native.Nat.{_<_}
 use native.Mathlib.Omega.{arith}
-use lib.ListN.{take}
+use lib.ListN.{length, take}
 use Rattle.commands.specs.declared.entries.Command.the-variants.{Default as defaultᶜ}
 use Rattle.rules.proofs.Folds.{length-mapped}
 use Rattle.book_sound.proofs.Search.{in-order}
@@ -29,11 +29,15 @@ default-refusal-requires c κs =
       in-order (b .contract) (bookSpan b) 0 (take (b .nwindows) (b .windows)) (sound-used b (p .sound) (p .agreed) .windows),
     )
 
+-- the table's length
+sized : (c : tie.Start) → length (c .args .t1 .defaults) ≡ 128
+sized c = search (length-mapped, needs)
+
 -- the number of its kind
 own : (c : tie.After-default-refusal) → let at = c .before .before .before .before .before .before .args in
     Own (at .t1) (at .room) (defaultᶜ (at .d)) (c .default-refusal .result) (at .t1 .ndefaults) 128
 own c =
-    default-own (past (c .before .before .before)) (search (length-mapped, needs)) (c .before .span .ensures) (c .default-refusal .ensures)
+    default-own (past (c .before .before .before)) (sized (c .before .before .before .before .before .before)) (c .before .span .ensures) (c .default-refusal .ensures)
 
 -- without one, there is a place
 place : (c : tie.Else2) → c .before .before .before .before .before .before .before .args .t1 .ndefaults < 128

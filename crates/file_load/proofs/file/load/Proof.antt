@@ -67,8 +67,8 @@ loop-again c =
           ∙ (rw (r .before .before .before .before .loop-test .taken) at (inv .0)),
       turn .keeps (inv .1),
       turn .inside (stays-inside run (inv .2)),
-      search needs,
-      search needs,
+      d .read-and-enter .kept .1 .1 .1 .0 ∙ r .take-readings .kept .1 .1 .1 .0 ∙ inv .3,
+      d .read-and-enter .kept .1 .1 .1 .1 .0 ∙ r .take-readings .kept .1 .1 .1 .1 .0 ∙ inv .4,
       c .open-span2 .ensures ∙ ap (openSpan _) (c .before .room-of2 .ensures),
     )
 

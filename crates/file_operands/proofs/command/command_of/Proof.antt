@@ -12,12 +12,13 @@ use Rattle.file_operands.proofs.command.command_of.Tie as tie
 other : (n b : ℕ) → (b ≡ n → ⊥) → eqb n b ≡ false
 other n b h = ne-eqb n b (λ e. h (sym e))
 
--- none of the seven bytes
-returns-8 : tie.Need-returns-8
+-- none of the eight bytes
+returns-9 : tie.Need-returns-9
 unfolding commandOf
-returns-8 c =
+returns-9 c =
     let rest = c .match .rest in
     rw (
+      other _ _ (rest .0 .0 .0 .0 .0 .0 .0 .1),
       other _ _ (rest .0 .0 .0 .0 .0 .0 .1),
       other _ _ (rest .0 .0 .0 .0 .0 .1),
       other _ _ (rest .0 .0 .0 .0 .1),
@@ -35,7 +36,8 @@ command-of-spec =
     (tie.spec (λ c κs. rw (c .match .keys1) at (c .before .pre)) (λ c κs. rw (c .match .keys2) at (c .before .pre))
     (λ c κs. rw (c .match .keys3) at (c .before .pre)) (λ c κs. rw (c .match .keys4) at (c .before .pre))
     (λ c κs. rw (c .match .keys5) at (c .before .pre)) (λ c κs. rw (c .match .keys6) at (c .before .pre))
-    (λ c. rw (c .before .match .keys1, c .contract-of .ensures)) (λ c. rw (c .before .match .keys2, c .window-of .ensures))
-    (λ c. rw (c .before .match .keys3, c .instruction-of .ensures)) (λ c. rw (c .before .match .keys4, c .default-of .ensures))
-    (λ c. rw (c .before .match .keys5, c .reading-of .ensures)) (λ c. rw (c .before .match .keys6, c .revision-of .ensures))
-    (λ c. rw (c .match .keys7)) returns-8)
+    (λ c κs. rw (c .match .keys7) at (c .before .pre)) (λ c. rw (c .before .match .keys1, c .contract-of .ensures))
+    (λ c. rw (c .before .match .keys2, c .date-of .ensures)) (λ c. rw (c .before .match .keys3, c .window-of .ensures))
+    (λ c. rw (c .before .match .keys4, c .instruction-of .ensures)) (λ c. rw (c .before .match .keys5, c .default-of .ensures))
+    (λ c. rw (c .before .match .keys6, c .reading-of .ensures)) (λ c. rw (c .before .match .keys7, c .revision-of .ensures))
+    (λ c. rw (c .match .keys8)) returns-9)

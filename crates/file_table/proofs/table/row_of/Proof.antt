@@ -10,10 +10,10 @@ use Rattle.file_table.proofs.table.row_of.Statement.{statement}
 use Rattle.file_table.proofs.table.row_of.Tie as tie
 
 abbrev Inv-loop : tie.InvT-loop
-Inv-loop byte place₀ place = (place ≤ 7) × (widthsOf byte table ≡ widthsOf byte (drop place table))
+Inv-loop byte place₀ place = (place ≤ 8) × (widthsOf byte table ≡ widthsOf byte (drop place table))
 
 abbrev μ-loop : tie.MeasureT-loop
-μ-loop byte place₀ place = 7 - place
+μ-loop byte place₀ place = 8 - place
 
 loop-holds : tie.Need-loop-holds Inv-loop μ-loop
 loop-holds c = (search needs, refl)

@@ -9,7 +9,7 @@ use lib.ListN.{replicate, length-replicate}
 use borrow.Author.Needs.{needs}
 use Rattle.book_memory.specs.Meter.{lent}
 use Rattle.book.specs.Book.{bookCells}
-use Rattle.settle_terms.specs.Terms.{termsOf}
+use Rattle.settle_terms.specs.Terms.{periodPlaces, termsOf}
 use Rattle.rules.proofs.Folds.{length-mapped}
 use Rattle.book.proofs.SoundBook.{sound-book}
 use Rattle.settle_availability.proofs.Defaults.{unmarked-zeros}
@@ -22,7 +22,8 @@ grounds s =
     record {
       sound = sound-book (s .args .b) (s .pre .0) (s .pre .1);
       agreed = s .pre .1;
-      shape = search (length-mapped, needs);
+      -- what is known of the defaults lies past the records that a search enters
+      shape = search (length-mapped, s .good .0 .1 .1 .1 .1 .1 .1 .1 .1, needs);
       cells = omega (arith, length-replicate (bookCells (s .args .b)) (pos 0));
       timed = s .pre .3;
     }
@@ -30,7 +31,7 @@ grounds s =
 mark-live-requires : tie.Need-mark-live-requires
 mark-live-requires c κs =
     let s = c .before .before .before .before .before .before .before in
-    (rw (s .pre .2) (cleared (grounds s)), (windows-fit (grounds s), unmarked-zeros 1490))
+    (rw (s .pre .2) (cleared (grounds s)), (windows-fit (grounds s), unmarked-zeros periodPlaces))
 
 availability-requires : tie.Need-availability-requires
 unfolding termsOf
@@ -38,7 +39,7 @@ availability-requires c κs =
     let s = c .before .before .before .before .before .before .before .before .before .before in
     let r = c .before .before .mark-live in
     let g = grounds s .sound in
-    let size = r .ensures .1 ∙ length-replicate {A = ℕ} 1490 0 in (
+    let size = r .ensures .1 ∙ length-replicate {A = ℕ} periodPlaces 0 in (
       (spans (grounds s), size, placed (grounds s) size (rw (s .pre .2) at (r .ensures .0)), g .counts .2),
       (rw (s .pre .2) (kw-upto (grounds s)), g .contract .availability),
     )
@@ -50,7 +51,7 @@ returns c =
       lines = refl;
       terms = refl;
       times = refl;
-      size = r .1 ∙ length-replicate {A = ℕ} 1490 0;
+      size = r .1 ∙ length-replicate {A = ℕ} periodPlaces 0;
       live = r .0;
       settlement = rw (c .unsummed-of .ensures, c .before .availability .ensures .0) refl;
       small = rw (c .unsummed-of .ensures) (c .before .availability .ensures .1);

@@ -10,6 +10,7 @@ use Rattle.commands.specs.declared.entries.Default.{Default}
 use Rattle.commands.specs.declared.entries.Window.{Window}
 use Rattle.energy.specs.Energy.{periodParts, penceOfParts}
 use Rattle.energy.proofs.Integers.{abs-parts}
+use Rattle.settle_terms.specs.Terms.{periodPlaces}
 use Rattle.settle_availability.specs.declared.paid.Entries.{Entries}
 use Rattle.settle_availability.specs.Paid.{DefaultsMarked, availabilityBy, eachBy, entriesBy, marked, penaltyBy}
 use Rattle.settle_availability.proofs.Defaults.{unmarked-zeros, reached-table, counted-table}
@@ -19,10 +20,10 @@ use Rattle.settle_availability.proofs.paid.availability.Tie as tie
 mark-defaults-requires : tie.Need-mark-defaults-requires
 mark-defaults-requires c κs =
     let s = c .before .before .before in (
-      (λ j h. rw (length-replicate {A = ℕ} 1490 0) (s .pre .0 .2 j h)),
+      (λ j h. rw (length-replicate {A = ℕ} periodPlaces 0) (s .pre .0 .2 j h)),
       s .pre .0 .3,
       omega (arith, length-replicate {A = ℕ} 128 0),
-      unmarked-zeros 1490,
+      unmarked-zeros periodPlaces,
       unmarked-zeros 128,
     )
 
@@ -36,7 +37,7 @@ entries-of-requires c κs =
     let m = c .before .before .before .before .before .before .mark-defaults .ensures in
     let each = c .before .period-pence .ensures in (
       s .pre .0 .0,
-      m .1 ∙ length-replicate {A = ℕ} 1490 0,
+      m .1 ∙ length-replicate {A = ℕ} periodPlaces 0,
       s .pre .0 .1,
       (λ e. record { none = λ p. m .0 .period p ∙ rw e }),
       -- the pence of a period are not below 0

@@ -80,7 +80,7 @@ returns c =
     let s = c .before .before .before .before .before in
     let l = c .before .before .loop in
     let e : l .i ≡ s .args .n = omega arith in
-    let h : l .total ≤ 190464 = omega (arith, s .pre .0 .few, l .inv) in
+    let h : l .total ≤ mostPeriods * 128 = omega (arith, s .pre .0 .few, l .inv) in
     (rw (c .times .ensures, l .inv .1, l .inv .2, e), rw (c .times .ensures) (omega (arith, mul-le-mul h (s .pre .4 .0))))
 
 pub entries-of-spec : {M : Type 1} → statement M

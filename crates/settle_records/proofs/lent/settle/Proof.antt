@@ -78,6 +78,7 @@ use Rattle.settle_lines.proofs.cursor.Cursor as K
 use Rattle.settle_lines.proofs.cursor.Cursor.Laws as K′
 use Rattle.settle_lines.proofs.cursor.Stepped as S
 use Rattle.settle_lines.proofs.cursor.Stepped.Laws as S′
+use Rattle.settle_terms.specs.Terms.{periodPlaces}
 use Rattle.settle_terms.proofs.Terms as E
 use Rattle.settle_terms.proofs.Terms.Laws as E′
 use Rattle.settle.proofs.prepare.Prepared as N
@@ -133,7 +134,7 @@ abbrev times-ty : Ty
 times-ty = tyArray (tyInt w16) 128
 
 abbrev live-ty : Ty
-live-ty = tyArray (tyInt w8) 1490
+live-ty = tyArray (tyInt w8) periodPlaces
 
 abbrev times-slice : Ty
 times-slice = sliceTy (tyRef erased imm (tyInt w16))
@@ -231,15 +232,15 @@ module _ {M : Type 1} (𝓤 : URA M) (H : Heap 𝓤) (A : Atoms 𝓤) (W : Given
           subst (λ (ns : List ℕ). Is (Array u16 128) ns (arrayVal (map (λ n. vint w16 n) ns) ∷ [])) (map-id (r .times))
           (LL.owed N.the-type N′.the-laws r _ is-r .1 .1 .1 .0)
 
-      is-live : Is (Array u8 1490) (r .live) (liveVal ∷ [])
+      is-live : Is (Array u8 periodPlaces) (r .live) (liveVal ∷ [])
       is-live =
-          subst (λ (ns : List ℕ). Is (Array u8 1490) ns (arrayVal (map (λ n. vint w8 n) ns) ∷ [])) (map-id (r .live))
+          subst (λ (ns : List ℕ). Is (Array u8 periodPlaces) ns (arrayVal (map (λ n. vint w8 n) ns) ∷ [])) (map-id (r .live))
           (LL.owed N.the-type N′.the-laws r _ is-r .1 .1 .1 .1 .0)
 
       times-size : length (r .times) ≡ 128
       times-size = is-times .1 .0 .1
 
-      live-size : length (r .live) ≡ 1490
+      live-size : length (r .live) ≡ periodPlaces
       live-size = is-live .1 .0 .1
 
       exits : (k : ℕ) → k ≡ r .lines → (t : Settlement) → t ≡ summed (r .settlement) (cur k) → Is O.the-row t (O′.lowered t ∷ [])
@@ -297,7 +298,7 @@ module _ {M : Type 1} (𝓤 : URA M) (H : Heap 𝓤) (A : Atoms 𝓤) (W : Given
           TimesOwn = ShrSlice erased (α ∷ []) u16 .own times (sliceVal (l₆, 0) 128 ∷ [])
 
           abbrev LiveOwn : Fml
-          LiveOwn = ShrSlice erased (α ∷ []) u8 .own live (sliceVal (l₇, 0) 1490 ∷ [])
+          LiveOwn = ShrSlice erased (α ∷ []) u8 .own live (sliceVal (l₇, 0) periodPlaces ∷ [])
 
           abbrev LentTimes : Fml
           LentTimes = flent (α ∷ []) (array.Parts 𝓤 H A W u16 (length (r .times)) (r .times) l₆ 0)
@@ -316,7 +317,7 @@ module _ {M : Type 1} (𝓤 : URA M) (H : Heap 𝓤) (A : Atoms 𝓤) (W : Given
               ‵ (fauth γ (codedHoleys R .code (heres R ys))) ∷ Tokens ∷ ‵ TimesOwn ∷ ‵ LiveOwn ∷ ‵ MeterOwn ∷ ‵ LentTimes ∷ ‵ LentLive ∷
               vacant tyPtr l₁₈ (vacant word l₁₇ (vacant tyBool l₁₆ (holding (tyRef erased imm live-ty) l₁₅ (vptr l₇ 0)
               (holding (tyRef erased imm times-ty) l₁₄ (vptr l₆ 0) (holding word l₁₃ (vint w64 (length ys)) (vacant S′.mir l₁₂
-              (holding word l₁₁ (vint w64 (i .0)) (holding K′.mir l₁₀ (mk (cur (i .0))) (holding live-slice l₉ (sliceVal (l₇, 0) 1490)
+              (holding word l₁₁ (vint w64 (i .0)) (holding K′.mir l₁₀ (mk (cur (i .0))) (holding live-slice l₉ (sliceVal (l₇, 0) periodPlaces)
               (holding times-slice l₈ (sliceVal (l₆, 0) 128) (‵ (fdies live-ty l₇) ∷ ‵ (fdies times-ty l₆) ∷ holding N′.mir l₅ (N′.lowered r)
               (holding lines-ty l₄ s (holding revisions-ty l₃ revisions (holding meter-ty l₂ meter (holding B′.mir l₁ book
               (vacant O′.mir l₀ Aside))))))))))))))))
@@ -332,8 +333,8 @@ module _ {M : Type 1} (𝓤 : URA M) (H : Heap 𝓤) (A : Atoms 𝓤) (W : Given
               use1 W (‵ (fex Val (λ v. fsep (array.Cell 𝓤 H A W u16 128 (r .times) l₆ 0 v) (array.Own 𝓤 H A W u16 128 (r .times) l₆ 0 v))))
               (array.joined 𝓤 H A W u16 128 (r .times) l₆ 0) $ fpick ! (λ v₆. fsplit ! $ move ! (1 ∷ []) $ drop ! $
               move ! (1 ∷ 9 ∷ []) $ lent-back ! tt $ rewrite ! 0 (λ (n : ℕ). ‵ (array.Parts 𝓤 H A W u8 n (r .live) l₇ 0)) live-size refl $
-              use1 W (‵ (fex Val (λ v. fsep (array.Cell 𝓤 H A W u8 1490 (r .live) l₇ 0 v) (array.Own 𝓤 H A W u8 1490 (r .live) l₇ 0 v))))
-              (array.joined 𝓤 H A W u8 1490 (r .live) l₇ 0) $ fpick ! (λ v₇. fsplit ! $ move ! (1 ∷ []) $ drop ! $
+              use1 W (‵ (fex Val (λ v. fsep (array.Cell 𝓤 H A W u8 periodPlaces (r .live) l₇ 0 v) (array.Own 𝓤 H A W u8 periodPlaces (r .live) l₇ 0 v))))
+              (array.joined 𝓤 H A W u8 periodPlaces (r .live) l₇ 0) $ fpick ! (λ v₇. fsplit ! $ move ! (1 ∷ []) $ drop ! $
               -- [_7; _6; meter's token; obs; the borrow; its token; what times, live and meter own; _18 at 9; …]
               nothing ! $ nothing ! $ owned ! K.the-row (Is K.the-row) ((LL.makes K.the-type K′.the-plain) 𝓤 H A) (cur (i .0)) _ (i .2) $ fjoin ! $
               owned ! O.the-row (Is O.the-row) ((LL.makes O.the-type O′.the-plain) 𝓤 H A) (r .settlement) _ is-settlement $ fjoin ! $
@@ -362,7 +363,7 @@ module _ {M : Type 1} (𝓤 : URA M) (H : Heap 𝓤) (A : Atoms 𝓤) (W : Given
               assigns ! (bin ! (local ! 24 refl) (part-of ! 34 PreparedFields word 2096 refl refl refl) tt) (from ! (stop !))
               (init ! 14 refl (tt, tt)) $
               test ! (local ! 14 refl) (λ less. move ! (5 ∷ []) $ slice-twice ! erased (α ∷ []) u16 times (sliceVal (l₆, 0) 128 ∷ []) $
-              move ! (7 ∷ []) $ slice-twice ! erased (α ∷ []) u8 live (sliceVal (l₇, 0) 1490 ∷ []) $
+              move ! (7 ∷ []) $ slice-twice ! erased (α ∷ []) u8 live (sliceVal (l₇, 0) periodPlaces ∷ []) $
               move ! (9 ∷ []) $ slice-twice ! (named 0) κ i32 ms (meter ∷ []) $
               nothing ! $ owned ! K.the-row (Is K.the-row) ((LL.makes K.the-type K′.the-plain) 𝓤 H A) (cur (i .0)) _ (i .2) $ fjoin ! $
               move ! (1 ∷ 0 ∷ []) $ fjoin ! $ move ! (2 ∷ 0 ∷ []) $ fjoin ! $ move ! (3 ∷ 0 ∷ []) $ fjoin ! $
@@ -372,7 +373,7 @@ module _ {M : Type 1} (𝓤 : URA M) (H : Heap 𝓤) (A : Atoms 𝓤) (W : Given
                 (fullShare, (q, tt)),
                 tt,
                 (r .terms, (times, (live, (ms, (cur (i .0), tt))))),
-                (E′.lowered (r .terms) ∷ [], (sliceVal (l₆, 0) 128 ∷ [], (sliceVal (l₇, 0) 1490 ∷ [], (meter ∷ [], (mk (cur (i .0)) ∷ [], tt))))),
+                (E′.lowered (r .terms) ∷ [], (sliceVal (l₆, 0) 128 ∷ [], (sliceVal (l₇, 0) periodPlaces ∷ [], (meter ∷ [], (mk (cur (i .0)) ∷ [], tt))))),
               ) tt (factI 𝓤 _ (emp 𝓤) (P .plan, P .ready (i .0) (below less))) (LL.val S.the-type S′.the-laws) (LL.tells S.the-type S′.the-laws)
               (λ z _. z ≡ stepOf (r .terms) (r .times) (r .live) (ms .now) (cur (i .0))) (λ z _. refl)
               (and-then ! (part-of ! 34 PreparedFields E′.mir 2104 refl refl refl) (and-then ! (local ! 30 refl) (and-then ! (local ! 28 refl)
@@ -436,7 +437,7 @@ module _ {M : Type 1} (𝓤 : URA M) (H : Heap 𝓤) (A : Atoms 𝓤) (W : Given
             assigns ! (of-opd ! (part-of ! 30 PreparedFields times-ty 2136 refl refl refl)) (from ! (stop !))
             (init ! 28 {τ = times-ty} refl (array-lawful 𝓤 H A W u16 (uint-lawful 𝓤 H A W w16) 128 .typed (r .times) _ is-times .0)) $
             assigns ! (of-opd ! (part-of ! 30 PreparedFields live-ty 2392 refl refl refl)) (from ! (stop !))
-            (init ! 26 {τ = live-ty} refl (array-lawful 𝓤 H A W u8 (uint-lawful 𝓤 H A W w8) 1490 .typed (r .live) _ is-live .0)) $
+            (init ! 26 {τ = live-ty} refl (array-lawful 𝓤 H A W u8 (uint-lawful 𝓤 H A W w8) periodPlaces .typed (r .live) _ is-live .0)) $
             assigns ! (addr ! (from ! (stop !))) (from ! (stop !)) (init ! 12 refl (tt, tt)) $
             assigns ! (agg ! (and-then ! (local ! 12 refl) (and-then ! (lit ! tt) (no-more !)))) (from ! (stop !))
             (init ! 24 refl (tt, (tt, (record { fits = lit< tt }, tt)))) $
@@ -446,9 +447,9 @@ module _ {M : Type 1} (𝓤 : URA M) (H : Heap 𝓤) (A : Atoms 𝓤) (W : Given
             owned ! (Array u16 128) (Is (Array u16 128)) (array-makes 𝓤 H A W u16 (uint-makes 𝓤 H A W w16) 128) (r .times) _ is-times $
             move ! (29 ∷ 0 ∷ []) $
             use2 W (‵ (array.Parts 𝓤 H A W u16 128 (r .times) l₆ 0)) (array.parts 𝓤 H A W u16 128 (r .times) l₆ 0 tt timesVal) $
-            owned ! (Array u8 1490) (Is (Array u8 1490)) (array-makes 𝓤 H A W u8 (uint-makes 𝓤 H A W w8) 1490) (r .live) _ is-live $
+            owned ! (Array u8 periodPlaces) (Is (Array u8 periodPlaces)) (array-makes 𝓤 H A W u8 (uint-makes 𝓤 H A W w8) periodPlaces) (r .live) _ is-live $
             move ! (28 ∷ 0 ∷ []) $
-            use2 W (‵ (array.Parts 𝓤 H A W u8 1490 (r .live) l₇ 0)) (array.parts 𝓤 H A W u8 1490 (r .live) l₇ 0 tt liveVal) $
+            use2 W (‵ (array.Parts 𝓤 H A W u8 periodPlaces (r .live) l₇ 0)) (array.parts 𝓤 H A W u8 periodPlaces (r .live) l₇ 0 tt liveVal) $
             -- [the elements of live; of times; meter's token; what meter owns; what lines owns; lines' token; _18 at 6; …]
             lft-new ! tt (λ α. move ! (1 ∷ []) $ rewrite ! 0 (λ (n : ℕ). ‵ (array.Parts 𝓤 H A W u8 n (r .live) l₇ 0)) (sym live-size) refl $
             use1 W (later (some (λ (δ : GName). ‵ (ShrSlice erased (α ∷ []) u8 .own (live α δ δ) (sliceVal (l₇, 0) (length (r .live)) ∷ [])) ⊛
@@ -468,7 +469,7 @@ module _ {M : Type 1} (𝓤 : URA M) (H : Heap 𝓤) (A : Atoms 𝓤) (W : Given
             -- [the row; the open borrow; obs; auth; true; what times owns; what is lent of it; what live owns; what is lent of it; …]
             move ! (4 ∷ []) $ drop ! $ move ! (8 ∷ 9 ∷ []) $ join ! $ move ! (1 ∷ 2 ∷ 3 ∷ 4 ∷ 0 ∷ 5 ∷ 7 ∷ 9 ∷ 6 ∷ 8 ∷ []) $
             move ! (5 ∷ []) $ slice-twice ! erased (α ∷ []) u16 (times α γ₆ γ₇) (sliceVal (l₆, 0) 128 ∷ []) $
-            move ! (7 ∷ []) $ slice-twice ! erased (α ∷ []) u8 (live α γ₆ γ₇) (sliceVal (l₇, 0) 1490 ∷ []) $
+            move ! (7 ∷ []) $ slice-twice ! erased (α ∷ []) u8 (live α γ₆ γ₇) (sliceVal (l₇, 0) periodPlaces ∷ []) $
             move ! (9 ∷ []) $ slice-twice ! (named 0) κ i32 ms (meter ∷ []) $ nothing ! $ move ! (1 ∷ 0 ∷ []) $
             fjoin ! $ move ! (2 ∷ 0 ∷ []) $ fjoin ! $ move ! (3 ∷ 0 ∷ []) $ fjoin ! $
             owned ! E.the-row (Is E.the-row) ((LL.makes E.the-type E′.the-plain) 𝓤 H A) (r .terms) _ is-terms $ fjoin ! $ move ! (0 ∷ 8 ∷ []) $
@@ -477,7 +478,7 @@ module _ {M : Type 1} (𝓤 : URA M) (H : Heap 𝓤) (A : Atoms 𝓤) (W : Given
               (fullShare, (q, tt)),
               tt,
               (r .terms, (times α γ₆ γ₇, (live α γ₆ γ₇, (ms, tt)))),
-              (E′.lowered (r .terms) ∷ [], (sliceVal (l₆, 0) 128 ∷ [], (sliceVal (l₇, 0) 1490 ∷ [], (meter ∷ [], tt)))),
+              (E′.lowered (r .terms) ∷ [], (sliceVal (l₆, 0) 128 ∷ [], (sliceVal (l₇, 0) periodPlaces ∷ [], (meter ∷ [], tt)))),
             ) tt (factI 𝓤 _ (emp 𝓤) (P .plan)) mk (LL.tells K.the-type K′.the-laws) (λ c _. c ≡ cur 0) (λ c _. refl)
             (and-then ! (part-of ! 34 PreparedFields E′.mir 2104 refl refl refl) (and-then ! (local ! 30 refl) (and-then ! (local ! 28 refl)
             (and-then ! (local ! 40 refl) (no-more !))))) (λ c _ e is. move ! (1 ∷ []) $ drop ! $

@@ -8,6 +8,7 @@ use lib.ListN.{length, take, replicate, length-append, length-replicate}
 use lib.Seq.{take-all, take-at, take-suc, take-suc-set}
 use borrow.Author.Needs.{needs}
 use Rattle.book_memory.specs.Meter.{Memory}
+use Rattle.rules.specs.Lines.{mostLines}
 use Rattle.rules.specs.declared.statement.Line.{Line}
 use Rattle.rules.proofs.Folds.{length-mapped}
 use Rattle.book.specs.declared.Book.{Book}
@@ -25,7 +26,7 @@ abbrev μ-loop : tie.MeasureT-loop
 μ-loop meter revisions settlement made lines₀ i₀ lines i = 719 - i
 
 -- how many records are handed back
-made-size : (k : tie.After-settle-into Inv-loop μ-loop) → length (k .settle-into .result .lines) ≡ 1679
+made-size : (k : tie.After-settle-into Inv-loop μ-loop) → length (k .settle-into .result .lines) ≡ mostLines
 made-size k = search (length-mapped, needs)
 
 loop-again : tie.Need-loop-again Inv-loop μ-loop
@@ -39,7 +40,7 @@ loop-again c =
     )
 
 -- the first 719 of the records handed back are those lent
-front : (b : Book) (meter : Memory) (own : Own) (lines : List Line) → own ≡ ownBook b meter 719 noLine → length (own .lines) ≡ 1679
+front : (b : Book) (meter : Memory) (own : Own) (lines : List Line) → own ≡ ownBook b meter 719 noLine → length (own .lines) ≡ mostLines
     → length lines ≡ 719 → take 719 lines ≡ take 719 (own .lines) → record { settlement = own .settlement; lines = lines } ≡ listBook b meter
 unfolding listBook ownBook
 front b meter own lines made long size same =

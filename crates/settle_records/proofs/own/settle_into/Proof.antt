@@ -50,6 +50,7 @@ use denote.Triple.Table.{cited}
 use denote.Triple.Walked.{says, needs, Stays, stay-none, stay-none-slice, walkOf, goes-none, goes-none-slice, ends-at}
 use denote.Exit.{yes}
 use Rattle.book_memory.specs.Meter.{lent}
+use Rattle.rules.specs.Lines.{mostLines}
 use Rattle.rules.specs.declared.statement.Line.{Line}
 use Rattle.book.specs.declared.Book.{Book}
 use Rattle.settle.specs.declared.Settlement.{Settlement}
@@ -90,7 +91,7 @@ stayed = (
 
 -- the machine's type of the records
 abbrev lines-ty : Ty
-lines-ty = tyArray T′.mir 1679
+lines-ty = tyArray T′.mir mostLines
 
 module _ {M : Type 1} (𝓤 : URA M) (H : Heap 𝓤) (A : Atoms 𝓤) (W : Given 𝓤 H A) (at-mem : Memory → SProp 𝓤) (run : Routine → Fun 𝓤) (κ ρ : Lft)
     (q qρ : Share) (bk : Book) (ms : RefT (List ℤ)) (rs : RefT (List ℕ)) (n : ℕ) (before : Line) where
@@ -123,36 +124,36 @@ module _ {M : Type 1} (𝓤 : URA M) (H : Heap 𝓤) (A : Atoms 𝓤) (W : Given
 
   -- the records before: all of them, those lent, and the rest; and what `settle` says of those lent
   abbrev all : List Line
-  all = replicate 1679 before
+  all = replicate mostLines before
 
   abbrev bs : List Line
   bs = replicate n before
 
   abbrev rest : List Line
-  rest = replicate (1679 - n) before
+  rest = replicate (mostLines - n) before
 
   abbrev Said : Settlement → List Line → Type 0
   Said r zs = (r ≡ settleBook bk (lent (ms .now) (rs .now)) bs .settlement) × (zs ≡ settleBook bk (lent (ms .now) (rs .now)) bs .memory)
 
-  room : n ≤ 1679 → Room R (length bs)
+  room : n ≤ mostLines → Room R (length bs)
   room most =
       subst (Room R) (sym (length-replicate n before))
       (lt-of-le-of-lt most (lit< tt), lt-of-le-of-lt (mul-le-mul-right (mem R .size) most) (lit< tt))
 
-  parted : n ≤ 1679 → bs ++ rest ≡ all
+  parted : n ≤ mostLines → bs ++ rest ≡ all
   parted most =
-      let sum : n + (1679 - n) ≡ 1679 = omega arith in
-      replicate-append-replicate n (1679 - n) before ∙ ap (λ (k : ℕ). replicate k before) sum
+      let sum : n + (mostLines - n) ≡ mostLines = omega arith in
+      replicate-append-replicate n (mostLines - n) before ∙ ap (λ (k : ℕ). replicate k before) sum
 
-  whole-length : n ≤ 1679 → (zs : List Line) → length zs ≡ length bs → length (zs ++ rest) ≡ 1679
+  whole-length : n ≤ mostLines → (zs : List Line) → length zs ≡ length bs → length (zs ++ rest) ≡ mostLines
   whole-length most zs e =
-      length-append zs rest ∙ ap (λ (k : ℕ). k + length rest) e ∙ sym (length-append bs rest) ∙ ap length (parted most) ∙ length-replicate 1679 before
+      length-append zs rest ∙ ap (λ (k : ℕ). k + length rest) e ∙ sym (length-append bs rest) ∙ ap length (parted most) ∙ length-replicate mostLines before
 
   -- the lent array, at the block l, under the name γ
   abbrev x : ℕ → GName → RefT (List Line)
   x l γ = record { ptr = (l, 0); name = γ; now = bs }
 
-  module _ (most : n ≤ 1679) (n-fits : n < 2 ^ 64) (is-book : Is B.the-row bk (book ∷ [])) (is-held : Is R before (held ∷ [])) where
+  module _ (most : n ≤ mostLines) (n-fits : n < 2 ^ 64) (is-book : Is B.the-row bk (book ∷ [])) (is-held : Is R before (held ∷ [])) where
     -- the result: its machine value, and what it is
     abbrev got : Settlement → List Line → Own
     got r zs = record { settlement = r; lines = zs ++ rest }
@@ -163,11 +164,11 @@ module _ {M : Type 1} (𝓤 : URA M) (H : Heap 𝓤) (A : Atoms 𝓤) (W : Given
     abbrev mach : Settlement → Val → Val
     mach r v = vstruct (vcons (settled-val r) (vcons v vnil))
 
-    is-got : (r : Settlement) (zs : List Line) (v : Val) → Is N.the-row r (settled-val r ∷ []) → Is (Array R 1679) (zs ++ rest) (v ∷ []) →
+    is-got : (r : Settlement) (zs : List Line) (v : Val) → Is N.the-row r (settled-val r ∷ []) → Is (Array R mostLines) (zs ++ rest) (v ∷ []) →
         Is L.the-row (got r zs) (mach r v ∷ [])
     is-got r zs v is is-lines = (
       (settled-val r ∷ [], (v ∷ [], tt)),
-      (refl, (is, (is-same (T.the-field .row) Line (T.the-field .into) (T.the-field .into-one) 1679 (zs ++ rest) (v ∷ []) is-lines, tt))),
+      (refl, (is, (is-same (T.the-field .row) Line (T.the-field .into) (T.the-field .into-one) mostLines (zs ++ rest) (v ∷ []) is-lines, tt))),
     )
 
     right : (r : Settlement) (zs : List Line) → Said r zs → got r zs ≡ ownBook bk (lent (ms .now) (rs .now)) n before
@@ -207,17 +208,18 @@ module _ {M : Type 1} (𝓤 : URA M) (H : Heap 𝓤) (A : Atoms 𝓤) (W : Given
           -- [what meter owns, twice; _10 at 2; …; the tokens; what revisions owns, twice]
           owned ! R (Is R) ((LL.makes T.the-type T′.the-plain) 𝓤 H A) before _ is-held $
           -- the array
-          use1 W (‵ (Array R 1679 .own all (arrayVal (replicate 1679 held) ∷ [])))
-          (array-repeat 𝓤 H A W R (LL.copy T.the-type T′.the-copy 𝓤 H A W) 1679 before held) $
-          peeks ! (Array R 1679) (Is (Array R 1679)) (shows 𝓤 H A (Array R 1679)) all (arrayVal (replicate 1679 held) ∷ []) (λ is-bs.
+          use1 W (‵ (Array R mostLines .own all (arrayVal (replicate mostLines held) ∷ [])))
+          (array-repeat 𝓤 H A W R (LL.copy T.the-type T′.the-copy 𝓤 H A W) mostLines before held) $
+          peeks ! (Array R mostLines) (Is (Array R mostLines)) (shows 𝓤 H A (Array R mostLines)) all (arrayVal (replicate mostLines held) ∷ []) (λ is-bs.
           -- [what the array owns; what meter owns, twice; _10 at 3; …; n, which is _4, at 15; …; the tokens at 25; …]
-          assigns ! (rep ! 1679 (local ! 13 refl)) (from ! (stop !))
-          (init ! 11 {τ = lines-ty} refl (array-lawful 𝓤 H A W R (LL.lawful T.the-type T′.the-laws 𝓤 H A W) 1679 .typed all _ is-bs .0)) $
+          assigns ! (rep ! mostLines (local ! 13 refl)) (from ! (stop !))
+          (init ! 11 {τ = lines-ty} refl (array-lawful 𝓤 H A W R (LL.lawful T.the-type T′.the-laws 𝓤 H A W) mostLines .typed all _ is-bs .0)) $
           assigns ! (addr ! (from ! (stop !))) (from ! (stop !)) (init ! 7 refl (tt, tt)) $
           assigns ! (agg ! (and-then ! (local ! 7 refl) (and-then ! (local ! 15 refl) (no-more !)))) (from ! (stop !))
           (init ! 5 refl (tt, (tt, (record { fits = n-fits }, tt)))) $
           move ! (11 ∷ 0 ∷ []) $
-          use2 W (‵ (Arr (mem R) 1679 .lies all l₆ 0)) (whole.out 𝓤 H A W R 1679 all l₆ 0 tt (arrayVal (replicate 1679 held))) $ fsplit ! $ drop ! $
+          use2 W (‵ (Arr (mem R) mostLines .lies all l₆ 0)) (whole.out 𝓤 H A W R mostLines all l₆ 0 tt (arrayVal (replicate mostLines held))) $
+          fsplit ! $ drop ! $
           -- its first n records, and the rest, which waits with what meter owns
           rewrite ! 0 (λ (ys : List Line). ‵ (cells (mem R) ys l₆ 0)) (sym (parted most)) refl $
           use1 W (‵ (cells (mem R) bs l₆ 0) ⊛ ‵ (cells (mem R) rest l₆ (at 0 (mem R .size) (length bs)))) (cut-app 𝓤 H A (mem R) bs rest l₆ 0) $
@@ -255,17 +257,18 @@ module _ {M : Type 1} (𝓤 : URA M) (H : Heap 𝓤) (A : Atoms 𝓤) (W : Given
           fsplit ! $ feqL ! (λ len. move ! (5 ∷ []) $ split ! $
           rewrite ! 0 (λ (k : ℕ). ‵ (cells (mem R) rest l₆ (at 0 (mem R .size) k))) (sym len) refl $
           move ! (2 ∷ 0 ∷ []) $ use2 W (‵ (cells (mem R) (zs .1 .1 .1 .0 ++ rest) l₆ 0)) (join-app 𝓤 H A (mem R) (zs .1 .1 .1 .0) rest l₆ 0) $
-          feqI ! ℕ (length (zs .1 .1 .1 .0 ++ rest)) 1679 (whole-length most (zs .1 .1 .1 .0) len) $ fjoin ! $ move ! (0 ∷ 2 ∷ 3 ∷ 4 ∷ 5 ∷ 1 ∷ []) $
-          use1 W (‵ (fex Val (λ u. fsep (whole.Cell 𝓤 H A W R 1679 (zs .1 .1 .1 .0 ++ rest) l₆ 0 u)
-          (whole.Own 𝓤 H A W R 1679 (zs .1 .1 .1 .0 ++ rest) l₆ 0 u))))
-          (whole.back 𝓤 H A W R 1679 (zs .1 .1 .1 .0 ++ rest) l₆ 0) $ fpick ! (λ u. fsplit ! $
+          feqI ! ℕ (length (zs .1 .1 .1 .0 ++ rest)) mostLines (whole-length most (zs .1 .1 .1 .0) len) $ fjoin ! $ move ! (0 ∷ 2 ∷ 3 ∷ 4 ∷ 5 ∷ 1 ∷ []) $
+          use1 W (‵ (fex Val (λ u. fsep (whole.Cell 𝓤 H A W R mostLines (zs .1 .1 .1 .0 ++ rest) l₆ 0 u)
+          (whole.Own 𝓤 H A W R mostLines (zs .1 .1 .1 .0 ++ rest) l₆ 0 u))))
+          (whole.back 𝓤 H A W R mostLines (zs .1 .1 .1 .0 ++ rest) l₆ 0) $ fpick ! (λ u. fsplit ! $
           -- [_6; what the array owns; true; the token; the result; …; what meter owns; _10 at 7; …]
           move ! (4 ∷ []) $ land ! (from ! (stop !)) (init ! 13 {τ = N′.mir} refl (LL.lawful N.the-type N′.the-laws 𝓤 H A W .typed r _ is .0)) $
-          move ! (2 ∷ []) $ peeks ! (Array R 1679) (Is (Array R 1679)) (shows 𝓤 H A (Array R 1679)) (zs .1 .1 .1 .0 ++ rest) (u ∷ []) (λ is-lines.
+          move ! (2 ∷ []) $
+          peeks ! (Array R mostLines) (Is (Array R mostLines)) (shows 𝓤 H A (Array R mostLines)) (zs .1 .1 .1 .0 ++ rest) (u ∷ []) (λ is-lines.
           -- [what the array owns; the result; _6; true; the token; …; what meter owns; _10 at 7; …]
           assigns ! (of-opd ! (local ! 2 refl)) (from ! (stop !))
           (init ! 7 {τ = lines-ty} refl
-          (array-lawful 𝓤 H A W R (LL.lawful T.the-type T′.the-laws 𝓤 H A W) 1679 .typed (zs .1 .1 .1 .0 ++ rest) _ is-lines .0)) $
+          (array-lawful 𝓤 H A W R (LL.lawful T.the-type T′.the-laws 𝓤 H A W) mostLines .typed (zs .1 .1 .1 .0 ++ rest) _ is-lines .0)) $
           assigns ! (agg ! (and-then ! (local ! 13 refl) (and-then ! (local ! 7 refl) (no-more !)))) (from ! (stop !))
           (init ! 26 {τ = L′.mir} refl
           (LL.lawful L.the-type L′.the-laws 𝓤 H A W .typed (got r (zs .1 .1 .1 .0)) _ (is-got r (zs .1 .1 .1 .0) u is is-lines) .0)) $
@@ -297,7 +300,7 @@ settle-into-spec 𝓤 H 𝓜 𝓖 𝓡 =
         (shr-slice-tells (named 1) (κs .1 .0) u8, (uint-tells w64, (LL.tells T.the-type T′.the-laws, tt))),
       ),
     ))
-    (λ κs qs bounds a g are. needs 𝓤 (a .1 .1 .1 .0 ≤ 1679) _ (λ most.
+    (λ κs qs bounds a g are. needs 𝓤 (a .1 .1 .1 .0 ≤ mostLines) _ (λ most.
     walk 𝓤 H (𝓖 .A) W (𝓜 .mem) (𝓡 .run) (κs .0) (κs .1 .0) (qs .0) (qs .1 .0) (a .0) (a .1 .0) (a .1 .1 .0) (a .1 .1 .1 .0) (a .1 .1 .1 .1 .0)
     most (are .1 .1 .1 .0 .1) (are .0) (are .1 .1 .1 .1 .0) (𝓣 .C) (𝓣 .Λ) (fmOf 𝓤 H (W .laws) 𝓣)
     (cited 𝓤 H _ 𝓜 𝓡 code.env #settle settle-def.routine code.calls-settle-records·lent·settle (settle-thm.met 𝓤 H 𝓜 𝓖 𝓡)) (are .1 .0)

@@ -7,7 +7,7 @@ use Rattle.test_script.proofs.month.settle_listed.Statement.{statement}
 use Rattle.test_script.proofs.month.settle_listed.Tie as tie
 
 abbrev Inv-loop : tie.InvT-loop
-Inv-loop meter revisions made settlement lines₀ i₀ lines i = length lines ≡ 1679
+Inv-loop meter revisions made settlement lines₀ i₀ lines i = length lines ≡ 1681
 
 abbrev μ-loop : tie.MeasureT-loop
 μ-loop meter revisions made settlement lines₀ i₀ lines i = 719 - i

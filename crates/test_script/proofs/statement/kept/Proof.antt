@@ -8,7 +8,7 @@ abbrev Inv-loop : tie.InvT-loop
 Inv-loop n before lines count₀ i₀ count i = count ≤ i
 
 abbrev μ-loop : tie.MeasureT-loop
-μ-loop n before lines count₀ i₀ count i = 1679 - i
+μ-loop n before lines count₀ i₀ count i = 1681 - i
 
 pub kept-spec : {M : Type 1} → statement M
 kept-spec =

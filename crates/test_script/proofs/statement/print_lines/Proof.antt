@@ -5,10 +5,10 @@ use Rattle.test_script.proofs.statement.print_lines.Statement.{statemen
 use Rattle.test_script.proofs.statement.print_lines.Tie as tie
 
 abbrev Inv-loop : tie.InvT-loop
-Inv-loop n step lines i₀ i = i ≤ 1679
+Inv-loop n step lines i₀ i = i ≤ 1681
 
 abbrev μ-loop : tie.MeasureT-loop
-μ-loop n step lines i₀ i = 1679 - i
+μ-loop n step lines i₀ i = 1681 - i
 
 pub print-lines-spec : {M : Type 1} → statement M
 print-lines-spec =

@@ -4,16 +4,17 @@ use Prim.Native.Nat.{_-_, _≤_}
 use native.Mathlib.Omega.{arith}
 use lib.ListN.{length}
 use borrow.Author.Needs.{needs}
+use Rattle.watch_step.specs.Month.{monthPeriods}
 use Rattle.watch_month.specs.MonthBy.{periodsBy, flagBy}
 use Rattle.watch_month.proofs.Laying.{Filled, fill-none, filled-long, fill-next}
 use Rattle.watch_month.proofs.numbers.put_periods.Statement.{statement}
 use Rattle.watch_month.proofs.numbers.put_periods.Tie as tie
 
 abbrev Inv-loop : tie.InvT-loop
-Inv-loop month₀ live p₀ month p = (p ≤ 1490) × Filled (flagBy live) month₀ 325 p month
+Inv-loop month₀ live p₀ month p = (p ≤ monthPeriods) × Filled (flagBy live) month₀ 325 p month
 
 abbrev μ-loop : tie.MeasureT-loop
-μ-loop month₀ live p₀ month p = 1490 - p
+μ-loop month₀ live p₀ month p = monthPeriods - p
 
 loop-holds : tie.Need-loop-holds Inv-loop μ-loop
 loop-holds c = (omega arith, fill-none _ _ _)
@@ -27,7 +28,7 @@ loop-again c = let l = c .before .before .loop in (omega arith, fill-next (l .in
 
 returns : tie.Need-returns Inv-loop μ-loop
 unfolding periodsBy
-returns c = let e : c .before .loop .p ≡ 1490 = omega arith in rw e at (c .before .loop .inv .1 .laid .holds)
+returns c = let e : c .before .loop .p ≡ monthPeriods = omega arith in rw e at (c .before .loop .inv .1 .laid .holds)
 
 pub put-periods-spec : {M : Type 1} → statement M
 put-periods-spec =

@@ -1,0 +1,5 @@
+pub mod Months
+pub mod Days
+pub mod LastSunday
+pub mod Year
+pub mod Examples

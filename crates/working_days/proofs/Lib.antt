@@ -1,0 +1,3 @@
+pub mod DayByTests
+pub mod Asked
+pub mod Examples
