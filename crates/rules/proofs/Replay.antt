@@ -1,8 +1,8 @@
 -- Commands that are all taken one after the other, and what they leave: in general, and for the date and the tables under a contract.
 use mathlib.Core.Path.{_≡_, refl, sym, ap, _∙_, subst}
-use mathlib.Core.Bool.{Bool, true, false, not, _&&_}
+use mathlib.Core.Bool.{Bool, true, false, not, _&&_, _||_}
 use mathlib.Core.List.{List, [], _∷_, _++_, map, append-nil}
-use mathlib.Core.Option.{Option, none}
+use mathlib.Core.Option.{Option, none, some}
 use Prim.Native.Nat.{ℕ, _+_, _≤_, _<_, max}
 use native.Mathlib.Nat.{max-eq-right}
 use native.Mathlib.Omega.{arith}
@@ -14,7 +14,7 @@ use Rattle.energy.specs.Lists.{all, any, between, concatMap, first, isEmpty, is
 use Rattle.energy.proofs.Sums.{any-none}
 use Rattle.calendar.specs.Calendar.{isDate, daysOf, gainedIn}
 use Rattle.calendar.specs.declared.Date.{Date}
-use Rattle.energy.proofs.Tests.{T-and, of-T}
+use Rattle.energy.proofs.Tests.{T-and, and-T, of-T}
 use Rattle.commands.specs.Input.{firstMet, inRange, rampTooLong, badWindow}
 use Rattle.rules.specs.Ledger.{Ledger, Metered, ledgerOf, contractOf, dateOf, spanOf, fullSpan, spanIn, cellsIn, expiry, endOf, within, readingOf}
 use Rattle.rules.specs.Refusal.{conditions, refusal, joined, takenAfter}
@@ -38,12 +38,19 @@ unfoldable pub Accepted : ℕ → Ledger → List Command → Type 0
 Accepted size g [] = Unit {0}
 Accepted size g (c ∷ cs) = (refusal false size g c ≡ none) × Accepted size (grown g c) cs
 
--- taken after t, whose ledger that is, they all join it
-pub all-taken : (size : ℕ) (t cs : List Command) → Accepted size (ledgerOf t) cs → takenAfter size t cs ≡ t ++ cs
+-- taken after t, whose ledger that is, they join it, and what follows them is taken after both
+pub taken-first : (size : ℕ) (t xs cs : List Command) → Accepted size (ledgerOf t) xs → takenAfter size t (xs ++ cs) ≡ takenAfter size (t ++ xs) cs
 unfolding Accepted takenAfter
-all-taken size t [] h = sym (append-nil t)
-all-taken size t (c ∷ cs) h =
-    ap (λ r. takenAfter size (joined r t c) cs) (h .0) ∙ all-taken size (t ++ (c ∷ [])) cs (rw ledgerOf-snoc (h .1)) ∙ append-snoc t c cs
+taken-first size t [] cs h = ap (λ l. takenAfter size l cs) (sym (append-nil t))
+taken-first size t (c ∷ xs) cs h =
+    ap (λ r. takenAfter size (joined r t c) (xs ++ cs)) (h .0)
+    ∙ taken-first size (t ++ (c ∷ [])) xs cs (rw ledgerOf-snoc (h .1))
+    ∙ ap (λ l. takenAfter size l cs) (append-snoc t c xs)
+
+-- so they all join it
+pub all-taken : (size : ℕ) (t cs : List Command) → Accepted size (ledgerOf t) cs → takenAfter size t cs ≡ t ++ cs
+unfolding takenAfter
+all-taken size t cs h = ap (takenAfter size t) (sym (append-nil cs)) ∙ taken-first size t cs [] h
 
 -- what they leave
 unfoldable pub grownAll : Ledger → List Command → Ledger
@@ -139,7 +146,7 @@ unfolding cellsIn contractOf dateOf first
 dated-cells k d = max-eq-right (omega (arith, alone-cells k))
 
 module _ (size : ℕ) (k : Contract) (d : Date) (fit : cellsIn (agreedOn k (d ∷ [])) ≤ size) where
-  date-taken : T (dateSound k d) → refusal false size (agreedOn k []) (dateᶜ d) ≡ none
+  pub date-taken : T (dateSound k d) → refusal false size (agreedOn k []) (dateᶜ d) ≡ none
   unfolding refusal conditions firstMet contractOf first isEmpty
   date-taken t =
       let p = apart (isDate d) (eqb (d .day) 1 ∷ eqb (daysOf (d .year) (d .month)) (k .days) ∷ []) t in
@@ -152,6 +159,13 @@ module _ (size : ℕ) (k : Contract) (d : Date) (fit : cellsIn (agreedOn k (d �
         of-T (eqb (daysOf (d .year) (d .month)) (k .days)) (p .1 .1 .0),
       )
 
+  -- one of another month, or of another day, gets 30
+  pub date-other : T (isDate d) → (not (eqb (d .day) 1) || not (eqb (daysOf (d .year) (d .month)) (k .days))) ≡ true
+      → refusal false size (agreedOn k []) (dateᶜ d) ≡ some 30
+  unfolding refusal conditions firstMet contractOf first isEmpty
+  date-other t e =
+      rw (of-T (isDate d) t, dated-cells k d, le-ltb size (cellsIn (agreedOn k (d ∷ []))) fit, all-unread (spanIn (agreedOn k [])), e)
+
 -- the dates of a contract alone: none, or one that is sound
 pub dates-replay : (size : ℕ) (k : Contract) (dates : List Date) → length dates ≤ 1 → T (all (dateSound k) dates) → cellsIn (agreedOn k dates) ≤ size
     → Replays size (agreedOn k []) (map dateᶜ dates) (agreedOn k dates)
@@ -159,6 +173,14 @@ unfolding all later
 dates-replay size k [] l t h = replay-none refl
 dates-replay size k (d ∷ []) l t h = replay-cons (date-taken size k d h (T-and (dateSound k d) true t .0)) refl (replay-none refl)
 dates-replay size k (d ∷ e ∷ dates) l t h = absurd (omega arith)
+
+-- a contract and a date that could be entered under it
+pub month-taken : (size : ℕ) (k : Contract) (d : Date) → T (inRange (contractᶜ k)) → T (not (rampTooLong (contractᶜ k))) → T (dateSound k d)
+    → fullSpan k d ≤ size → Accepted size (ledgerOf []) (contractᶜ k ∷ dateᶜ d ∷ [])
+unfolding cellsIn contractOf dateOf first all
+month-taken size k d t s f h =
+    replay-append (contract-replay size k (omega arith) t s)
+    (dates-replay size k (d ∷ []) (omega arith) (and-T (dateSound k d) true f tt) h) .accepted
 
 -- ---- the tables
 
