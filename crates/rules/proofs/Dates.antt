@@ -17,7 +17,7 @@ use Rattle.rules.specs.Examples.{guide, days}
 use Rattle.rules.specs.Dates.{on, dated, lasting, march, october, january, meets, lastHour}
 use Rattle.rules.specs.Dates.{DatesTaken, Spans, DatesHeld, DatesMet, LastHour, DatesWritten}
 use Rattle.commands.specs.declared.contract.Contract.{Contract}
-use Rattle.commands.specs.declared.entries.Command.the-variants.{Contract as contractᶜ, Date as dateᶜ}
+use Rattle.commands.specs.declared.entries.Command.the-variants.{Date as dateᶜ}
 use Rattle.rules.proofs.Definitions.{opened}
 use Rattle.rules.proofs.Replay.{Accepted, all-taken, taken-first, month-taken, agreedOn, date-taken, date-other}
 
