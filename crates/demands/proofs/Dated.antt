@@ -12,7 +12,7 @@ use Rattle.rules.specs.Ledger.{cellsIn}
 use Rattle.rules.specs.Dates.{october, on}
 use Rattle.rules.specs.File.{fileOf}
 use Rattle.rules.specs.declared.answer.Answer.the-variants.{Taken}
-use Rattle.rules.proofs.Dates.{dates-taken}
+use Rattle.rules.proofs.DatesTaken.{dates-taken}
 use Rattle.book.specs.Book.{emptyBook, bookSpan, bookCells, ledgerIn, putAll}
 use Rattle.book.specs.Sound.{sound}
 use Rattle.book.proofs.FromCommands.{leads, Leads}

@@ -17,6 +17,7 @@ pub mod Conditions
 pub mod Figures
 pub mod Examples
 pub mod Dates
+pub mod DatesTaken
 pub mod HalfHours
 pub mod Revisions
 pub mod Bounds

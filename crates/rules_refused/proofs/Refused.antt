@@ -13,7 +13,7 @@ use Rattle.commands.specs.declared.entries.Command.the-variants.{Close as close
 use Rattle.rules_refused.specs.Refused.{EntryCases, SettlementCases, Refusals, lastWindow}
 use Rattle.rules_refused.specs.Refused.{dateCases, januaryCases, octoberCases, marchCases, lastWindowCases, datedSettlings}
 use Rattle.rules.proofs.Definitions.{opened}
-use Rattle.rules.proofs.Dates.{dates-taken}
+use Rattle.rules.proofs.DatesTaken.{dates-taken}
 
 -- ---- settings with a date
 
