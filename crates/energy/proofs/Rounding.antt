@@ -1,16 +1,16 @@
 -- Rounding: the promises of specs/Rounding proved of `nearest`, and the laws by which code rounds. `nearest-by` shows that a number is the nearest,
 -- `nearest-within` says where the nearest lies, both by the parts of the integer kit.
-use mathlib.Core.Path.{_≡_, sym, ap, subst}
+use mathlib.Core.Path.{_≡_, refl, sym, ap, _∙_, subst}
 use mathlib.Core.Logic.{_⊎_, inl, inr, ⊎-elim}
 use Prim.Native.Nat.{ℕ, suc, _+_, _*_, _-_, _/_, _≤_, _<_}
 use native.Mathlib.Nat.{mul-add, mul-comm, suc-mul, div-add-mod', div-lt-iff-lt-mul, mod-lt, mul-le-mul-left, lt-of-mul-lt-mul-left}
-use native.Mathlib.Nat.{le-of-lt, le-of-eq, mul-le-mul}
+use native.Mathlib.Nat.{le-of-lt, le-of-eq, mul-le-mul, mul-zero}
 use native.Mathlib.Omega.{arith}
 use lib.Dec.{lit<}
 use lib.IntN.{ℤ, pos, negsuc, natAbs, _+ℤ_, _-ℤ_, _*ℤ_}
 use lib.Signed.{shrZ, leZ, _≤ℤ_, _<ℤ_}
 use Rattle.energy.specs.Energy.{capped, kwh, payment}
-use Rattle.energy.specs.Number.{lesser, nearest, up, down, Within}
+use Rattle.energy.specs.Number.{lesser, floored, nearest, up, down, Within}
 use Rattle.energy.specs.Rounding.{Nearest, Rounding·theorem, distance}
 use Rattle.energy.proofs.Tests.{either}
 use Rattle.energy.proofs.Integers.{exact, abs-parts, order, from-parts, leZ-on, leZ-yes}
@@ -101,8 +101,35 @@ lesser-nearest a b d p =
     ⊎-elim (λ x. rw (x .0, lesser-first (nearest a d) (nearest b d) (nearest-mono a b d p (x .1))))
     (λ x. rw (x .0, lesser-second (nearest a d) (nearest b d) (nearest-mono b a d p (x .1)))) (lesser-cases a b)
 
+nearest-zero : (d : ℕ) → 1 ≤ d → nearest (pos 0) d ≡ pos 0
+nearest-zero d h = sym (nearest-by (pos 0) d (pos 0) (omega (arith, mul-zero d)))
+
+-- a number and what it rounds to are on the same side of 0
+pub nearest-above : (n : ℤ) (d : ℕ) → 1 ≤ d → pos 0 ≤ℤ n → pos 0 ≤ℤ nearest n d
+nearest-above n d h l = omega (arithℤ, nearest-zero d h, nearest-mono (pos 0) n d h l)
+
+nearest-below : (n : ℤ) (d : ℕ) → 1 ≤ d → n ≤ℤ pos 0 → nearest n d ≤ℤ pos 0
+nearest-below n d h l = omega (arithℤ, nearest-zero d h, nearest-mono n (pos 0) d h l)
+
+pub floored-above : (z : ℤ) → pos 0 ≤ℤ z → floored z ≡ z
+floored-above (pos n) h = refl
+floored-above (negsuc n) h = absurd (omega arithℤ)
+
+pub floored-below : (z : ℤ) → z ≤ℤ pos 0 → floored z ≡ pos 0
+floored-below (pos n) h = omega arithℤ
+floored-below (negsuc n) h = refl
+
+pub floored-nearest : (n : ℤ) (d : ℕ) → 1 ≤ d → floored (nearest n d) ≡ nearest (floored n) d
+floored-nearest (pos a) d h = floored-above (nearest (pos a) d) (nearest-above (pos a) d h (omega arithℤ))
+floored-nearest (negsuc a) d h = floored-below (nearest (negsuc a) d) (nearest-below (negsuc a) d h (omega arithℤ)) ∙ sym (nearest-zero d h)
+
+-- so it is of the lesser of two numbers, floored
+pub capped-nearest : (a b : ℤ) (d : ℕ) → 1 ≤ d → capped (nearest a d) (nearest b d) ≡ nearest (capped a b) d
+capped-nearest a b d h = rw (lesser-nearest a b d h, floored-nearest (lesser a b) d h)
+
 pub rounding : Rounding·theorem
-rounding = record { is = nearest-is; only = nearest-only; error = nearest-error; monotone = nearest-mono; least = lesser-nearest }
+rounding =
+    record { is = nearest-is; only = nearest-only; error = nearest-error; monotone = nearest-mono; least = lesser-nearest; floor = floored-nearest }
 
 -- ---- a natural rounded in one division: half of d is added, and the quotient rounds down
 pub half-up : (n d : ℕ) → 0 < d → pos ((n + d / 2) / d) ≡ nearest (pos n) d
@@ -154,11 +181,17 @@ pub lesser-within : (b : ℕ) (x y : ℤ) → Within b x → Within b y → With
 lesser-within b x y h k = ⊎-elim (λ e. rw (e .0) h) (λ e. rw (e .0) k) (lesser-cases x y)
 
 pub capped-within : (x d : ℤ) → Within 120000000 x → Within 120000000 d → Within 500000 (capped (kwh x) (kwh d))
-capped-within x d h k = lesser-within 500000 (kwh x) (kwh d) (nearest-bound x 240 500000 (lit< tt) h) (nearest-bound d 240 500000 (lit< tt) k)
+capped-within x d h k =
+    omega (arith, lesser-within 500000 (kwh x) (kwh d) (nearest-bound x 240 500000 (lit< tt) h) (nearest-bound d 240 500000 (lit< tt) k))
 
 pub payment-within : (c : ℤ) (rate : ℕ) → Within 500000 c → rate ≤ 1000000 → Within 500000000 (payment c rate)
 payment-within c rate h k =
     nearest-bound (c *ℤ pos rate) 1000 500000000 (lit< tt) (omega (arith, mul-parts c (pos rate), mul-le-mul (h .0) k, mul-le-mul (h .1) k))
+
+-- and on which side of 0 the pence are
+pub payment-above : (c : ℤ) (rate : ℕ) → pos 0 ≤ℤ c → pos 0 ≤ℤ payment c rate
+payment-above (pos k) rate h = nearest-above (pos (k * rate)) 1000 (lit< tt) (omega arithℤ)
+payment-above (negsuc k) rate h = absurd (omega arithℤ)
 
 -- ---- a quotient taken up to a whole number: what is added first is less than d, so it is at most what is divided
 pub raised-most : (n y d : ℕ) → y < d → (n + y) / d ≤ n

@@ -2,13 +2,14 @@
 -- readings and its length.
 use mathlib.Core.Path.{_≡_, refl, sym, ap, ap₂, _∙_}
 use mathlib.Core.Bool.{Bool, true, false, cond, not, _&&_, _||_, and-true}
-use mathlib.Core.List.{List, [], _∷_, _++_}
+use mathlib.Core.List.{List, [], _∷_, _++_, List·Memᴰ, List·Memᴰ·head, List·Memᴰ·tail}
 use Prim.Native.Nat.{ℕ, zero, suc, _+_, _-_, _*_, _≤_, _<_}
 use native.Mathlib.Nat.{le-refl, mul-suc}
 use native.Mathlib.Omega.{arith}
 use lib.Dec.{eqb}
 use lib.IntN.{ℤ, pos, _+ℤ_, _-ℤ_, _*ℤ_, zero-*ℤ, *ℤ-zero, +ℤ-assoc, +ℤ-idl, +ℤ-idr}
 use lib.ListN.{length}
+use lib.Signed.{_≤ℤ_}
 use Rattle.energy.specs.Lists.{sum, all, any, run, between}
 use Rattle.energy.specs.Energy.{delivers}
 use Rattle.energy.specs.Number.{Within}
@@ -58,6 +59,13 @@ module _ {A : Type 0} where
   unfolding sum
   sum-append f [] ys = sym (+ℤ-idl (sum f ys))
   sum-append f (x ∷ xs) ys = ap (λ z. f x +ℤ z) (sum-append f xs ys) ∙ sym (+ℤ-assoc (f x) (sum f xs) (sum f ys))
+
+  -- of numbers that are not below 0
+  pub sum-above : (f : A → ℤ) (xs : List A) → ((x : A) → List·Memᴰ x xs → pos 0 ≤ℤ f x) → pos 0 ≤ℤ sum f xs
+  unfolding sum
+  sum-above f [] h = omega arithℤ
+  sum-above f (x ∷ xs) h =
+      omega (arithℤ, h x (List·Memᴰ·head refl), sum-above f xs (λ y m. h y (List·Memᴰ·tail m)), add-parts (f x) (sum f xs))
 
 -- one minute more, at the end
 pub between-snoc : (a b : ℕ) → a ≤ b → between a (b + 1) ≡ between a b ++ (b ∷ [])

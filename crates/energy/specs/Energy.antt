@@ -6,7 +6,7 @@ use lib.Dec.{eqb}
 use lib.IntN.{ℤ, pos, _-ℤ_, _*ℤ_}
 use lib.ListN.{length, getD}
 use Rattle.energy.specs.Lists.{sum, between}
-use Rattle.energy.specs.Number.{nearest, lesser, Within}
+use Rattle.energy.specs.Number.{nearest, lesser, floored, Within}
 
 -- quarter kW-minutes that a steady minute expects
 abbrev pub steadyQuarters : ℕ → ℕ
@@ -43,9 +43,9 @@ deliveredIn kind S meter a b = sum (λ m. delivers kind S (cell meter m)) (betwe
 abbrev pub kwh : ℤ → ℤ
 kwh q = nearest q 240
 
--- a segment's capped kWh, from the kWh expected and delivered
+-- a segment's capped kWh, from the kWh expected and delivered: the lesser, or 0 if that is below 0
 abbrev pub capped : ℤ → ℤ → ℤ
-capped expected delivered = lesser expected delivered
+capped expected delivered = floored (lesser expected delivered)
 
 -- the pence for kWh at a rate in pence per MWh
 abbrev pub payment : ℤ → ℕ → ℤ

@@ -27,6 +27,10 @@ abbrev pub down : ℤ → ℕ
 down (pos n) = 0
 down (negsuc n) = suc n
 
+-- z, or 0 if it is below 0
+abbrev pub floored : ℤ → ℤ
+floored z = pos (up z)
+
 -- z is from −n to n
 abbrev pub Within : ℕ → ℤ → Type 0
 Within n z = (up z ≤ n) × (down z ≤ n)

@@ -3,7 +3,7 @@ use mathlib.Core.Path.{_≡_}
 use Prim.Native.Nat.{ℕ, _*_, _≤_}
 use lib.IntN.{ℤ, pos, natAbs, _-ℤ_, _*ℤ_}
 use lib.Signed.{_≤ℤ_}
-use Rattle.energy.specs.Number.{nearest, lesser}
+use Rattle.energy.specs.Number.{nearest, lesser, floored}
 
 -- how far the whole number q is from n / d, in dths
 abbrev pub distance : ℤ → ℕ → ℤ → ℕ
@@ -28,3 +28,5 @@ pub record Rounding·theorem : Type 0 where
   pub monotone : (a b : ℤ) (d : ℕ) → 1 ≤ d → a ≤ℤ b → nearest a d ≤ℤ nearest b d
   -- so the lesser of two rounded is the rounded lesser
   pub least : (a b : ℤ) (d : ℕ) → 1 ≤ d → lesser (nearest a d) (nearest b d) ≡ nearest (lesser a b) d
+  -- and a rounded number, or 0 if it is below 0, is the number, or 0 if that is below 0, rounded
+  pub floor : (n : ℤ) (d : ℕ) → 1 ≤ d → floored (nearest n d) ≡ nearest (floored n) d

@@ -5,7 +5,7 @@ ghost use Prim.Native.Nat.{_≤_};
 ghost use lib.IntN.{natAbs, pos};
 ghost use Rattle.energy.specs.Answers.{paidFor, paidForPeriod};
 ghost use Rattle.energy.specs.Energy.{capped, kwh, payment, penceOfParts, periodParts};
-ghost use Rattle.energy.specs.Number.{Upto, Within, down};
+ghost use Rattle.energy.specs.Number.{Upto, Within, down, lesser};
 use crate::limits::KW_MOST;
 use crate::limits::KWH_LEAST;
 use crate::limits::KWH_MOST;
@@ -43,9 +43,9 @@ pub fn delivered_kwh(q: i32) -> Kwh
 }
 
 // The lesser of what is expected and what is delivered.
-pub fn capped_kwh(x: Kwh, d: Kwh) -> Kwh
+fn lesser_kwh(x: Kwh, d: Kwh) -> Kwh
     requires { ⌜ Within 500000 (x .0) × Within 500000 (d .0) ⌝ }
-    ensures { λ r. ⌜ (r .0 ≡ capped (x .0) (d .0)) × Within 500000 (r .0) ⌝ }
+    ensures { λ r. ⌜ (r .0 ≡ lesser (x .0) (d .0)) × Within 500000 (r .0) ⌝ }
 {
     let a = x.0;
     let b = d.0;
@@ -53,6 +53,19 @@ pub fn capped_kwh(x: Kwh, d: Kwh) -> Kwh
         return x;
     }
     d
+}
+
+// The lesser of the two, or 0 if that is below 0: a segment that runs backwards earns and costs nothing.
+pub fn capped_kwh(x: Kwh, d: Kwh) -> Kwh
+    requires { ⌜ Within 500000 (x .0) × Within 500000 (d .0) ⌝ }
+    ensures { λ r. ⌜ (r .0 ≡ capped (x .0) (d .0)) × Within 500000 (r .0) ⌝ }
+{
+    let least = lesser_kwh(x, d);
+    let k = least.0;
+    if k < 0 {
+        return Kwh(0);
+    }
+    least
 }
 
 // The pence for kWh at a rate in pence per MWh, raised by 500,000,000 pence.

@@ -1,5 +1,5 @@
 -- A statement's totals are near the exact sums: each rounding is off by at most half, and the errors of a sum add up.
-use mathlib.Core.Path.{_≡_, refl, sym, ap, _∙_}
+use mathlib.Core.Path.{_≡_, refl, sym, ap, _∙_, subst}
 use mathlib.Core.List.{List, [], _∷_, map}
 use Prim.Native.Nat.{ℕ, _+_, _*_, _≤_, _<_}
 use native.Mathlib.Nat.{mul-le-mul-left, mul-suc, mul-zero}
@@ -11,7 +11,7 @@ use Rattle.energy.specs.Lists.{sum, sumℕ}
 use Rattle.energy.specs.Number.{up, down, nearest}
 use Rattle.energy.specs.Energy.{kwh, capped, payment}
 use Rattle.energy.proofs.Integers.{distrib, exact, abs-parts, add-parts, diff-parts, mul-parts, arithℤ}
-use Rattle.energy.proofs.Rounding.{nearest-error, lesser-nearest}
+use Rattle.energy.proofs.Rounding.{nearest-error, capped-nearest}
 use Rattle.rules.specs.Ledger.{Ledger, contractOf}
 use Rattle.rules.specs.Segment.{price, Segment, segments}
 use Rattle.rules.specs.Statement.{expectedOf, deliveredOf, lineOf, lines, statementOf, paidPeriods, periodExact, periodPence, availableOf}
@@ -36,9 +36,10 @@ halved n h p =
     let e = nearest-error n (2 * h) (omega arith) in
     record { sides = omega (arith, abs-parts (n -ℤ z), diff-parts n z) }
 
--- the lesser of two rounded sums is the rounded lesser
+-- the lesser of two rounded sums, floored, is the floored lesser, rounded
 capped-near : (x d : ℤ) → Apart (pos 240 *ℤ capped (kwh x) (kwh d)) (capped x d) 120
-capped-near x d = rw (lesser-nearest x d 240 (lit< tt)) (halved (capped x d) 120 (lit< tt))
+capped-near x d =
+    subst (λ z. Apart (pos 240 *ℤ z) (capped x d) 120) (sym (capped-nearest x d 240 (lit< tt))) (halved (capped x d) 120 (lit< tt))
 
 -- a line's pence: c the capped kWh, x the exact energy in 240ths, r the rate
 pence-near : (c x : ℤ) (r : ℕ) → Apart (pos 240 *ℤ c) x 120 → Apart (pos 1200000 *ℤ payment c r) (pos 5 *ℤ (x *ℤ pos r)) (600000 + 600 * r)

@@ -1,5 +1,5 @@
 -- The examples beside F1 to F12, by computation: which minutes are needed and which lines they give, excluded windows and the rates of lines, what
--- segments deliver, paid periods and P, totals and exact sums, and what a book is written as.
+-- segments deliver, paid periods and P, totals and exact sums, the floor of capped energy, and what a book is written as.
 use mathlib.Core.Path.{refl}
 use Rattle.rules.specs.Examples.{ledger}
 use Rattle.rules.specs.Minutes.{Minutes}
@@ -7,6 +7,7 @@ use Rattle.rules.specs.Rates.{Exclusion, Rates}
 use Rattle.rules.specs.Delivered.{Delivered}
 use Rattle.rules.specs.Availability.{PaidPeriods, Penalties}
 use Rattle.rules.specs.Amounts.{Amounts}
+use Rattle.rules.specs.Floor.{Floor}
 use Rattle.rules.specs.WrittenOrder.{WrittenOrder}
 use Rattle.rules.proofs.Definitions.{opened}
 
@@ -112,6 +113,21 @@ amounts =
       exactPeriods = refl;
       allowed = refl;
       unpaidNotAllowed = refl;
+    }
+
+pub floor : Floor
+unfolding opened ledger
+floor =
+    record {
+      listed = refl;
+      windowStands = refl;
+      exactly = refl;
+      exactPence = refl;
+      notByMinute = refl;
+      notByMonth = refl;
+      exactlyNotByMonth = refl;
+      secondByItself = refl;
+      reducerToo = refl;
     }
 
 pub written-order : WrittenOrder

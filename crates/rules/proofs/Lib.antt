@@ -21,6 +21,7 @@ pub mod DatesTaken
 pub mod HalfHours
 pub mod Revisions
 pub mod Bounds
+pub mod Floor
 pub mod Operands
 pub mod Reread
 pub mod FileLength

@@ -33,18 +33,18 @@ touching =
 pub record Delivered : Type 0 where
   -- the base load is no whole number of kW: 30 minutes of −5 quarters are −0.625 kWh
   pub baseInQuarters :
-      second guide (pos 2 ∷ pos 1 ∷ pos 1 ∷ pos 1 ∷ []) (pos 0) ≡ exampleLine 1 2 Steady Optional (pos 6000) (minus 1) (minus 1) (minus 55) ∷ []
+      second guide (pos 2 ∷ pos 1 ∷ pos 1 ∷ pos 1 ∷ []) (pos 0) ≡ exampleLine 1 2 Steady Optional (pos 6000) (minus 1) (pos 0) (pos 0) ∷ []
   -- nor is a demand reducer's: 30 minutes of 3 quarters are 0.375 kWh
   pub reducerBaseInQuarters :
       second (set guide kind reducer) (pos 1 ∷ pos 1 ∷ pos 1 ∷ pos 0 ∷ []) (pos 0)
       ≡ exampleLine 1 2 Steady Optional (pos 6000) (pos 0) (pos 0) (pos 0) ∷ []
-  -- a demand reducer that takes more than its base load delivers less than nothing, and pays
+  -- a demand reducer that takes more than its base load delivers less than nothing
   pub reducerBelow0 :
-      second (set guide kind reducer) (replicate 4 (pos 0)) (pos 8) ≡ exampleLine 1 2 Steady Optional (pos 6000) (minus 4) (minus 4) (minus 220) ∷ []
+      second (set guide kind reducer) (replicate 4 (pos 0)) (pos 8) ≡ exampleLine 1 2 Steady Optional (pos 6000) (minus 4) (pos 0) (pos 0) ∷ []
   -- the most that can be missing in a period
   pub mostMissing :
       second guide (replicate 4 (pos 500000)) (minus 500000)
-      ≡ exampleLine 1 2 Steady Optional (pos 6000) (minus 500000) (minus 500000) (minus 27500000) ∷ []
+      ≡ exampleLine 1 2 Steady Optional (pos 6000) (minus 500000) (pos 0) (pos 0) ∷ []
   -- a base load below 0 adds to what is delivered
   pub baseBelow0 : ramping (readingsFrom 0 (replicate 4 (minus 1000))) ≡ pos 100 ∷ pos 100 ∷ []
   -- a reading below 0 takes from it

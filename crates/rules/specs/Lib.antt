@@ -14,6 +14,7 @@ pub mod Rates
 pub mod Delivered
 pub mod Availability
 pub mod Amounts
+pub mod Floor
 pub mod WrittenOrder
 pub mod Dates
 pub mod Revisions

@@ -149,9 +149,9 @@ fn line_of(
     let length = Minutes(to.0 - from.0);
     let x = expected_kwh(expected(kw, steady, length));
     let d = delivered_kwh(delivered(t.kind, a.base, meter, cell_of(from), cell_of(to)));
-    let least = capped_kwh(x, d);
+    let capped = capped_kwh(x, d);
     let rate = rate_of(a, live, from);
-    let paid = payment_pence(least, price_of(t, rate));
+    let paid = payment_pence(capped, price_of(t, rate));
     Line {
         instruction: (at + 1) as u32,
         period: (place_of(from) + 1) as u32,
@@ -159,7 +159,7 @@ fn line_of(
         rate: rate,
         expected: x,
         delivered: d,
-        capped: least,
+        capped: capped,
         pence: paid,
     }
 }

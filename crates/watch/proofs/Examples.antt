@@ -25,5 +25,9 @@ examples =
       ramp-before = refl;
       ramp-after = refl;
       later-day = refl;
+      backwards = refl;
+      backwards-next = refl;
+      reducer-ends = refl;
+      reducer-then = refl;
       no-more = refl;
     }

@@ -8,4 +8,5 @@ pub mod Level
 pub mod Steps
 pub mod Numbers
 pub mod Watched
+pub mod Rising
 pub mod Later

@@ -7,6 +7,7 @@ use lib.ListN.{length, replicate, set}
 use Rattle.rules.specs.Delivered.{touching}
 use Rattle.rules.specs.Examples.{agree, guide, service, flexible, accepted, rejected, offer, instructed, readingsFrom, minus}
 use Rattle.rules.specs.Examples.{appendix2, appendix3, ledger, twoDays}
+use Rattle.rules.specs.Floor.{reducerRises, stopped}
 use Rattle.rules.specs.Ledger.{Ledger}
 use Rattle.watch_step.specs.declared.totals.Totals.{Totals}
 use Rattle.watch.specs.Running.{activeMinutes, runningOf}
@@ -63,5 +64,11 @@ pub record Examples : Type 0 where
   pub ramp-after : runningOf anchored 42 ≡ total 1 65 (pos 0) (pos 144000) (pos 288000) (pos 7200) (pos 216000)
   -- on a later day, above a base load below 0
   pub later-day : runningOf nextDay 6 ≡ total 1 1462 (minus 4000) (pos 144000) (pos 12000) (pos 50) (pos 2750)
+  -- a segment that runs backwards, a generator's and a demand reducer's on a later day: its sum keeps its sign, its line adds nothing, and takes nothing from
+  -- the next
+  pub backwards : runningOf stopped 6 ≡ total 1 24 (pos 120) (pos 144000) (minus 720) (pos 0) (pos 0)
+  pub backwards-next : runningOf stopped 7 ≡ total 1 25 (pos 120) (pos 24000) (minus 120) (pos 0) (pos 0)
+  pub reducer-ends : runningOf reducerRises 6 ≡ total 1 1462 (pos 4000) (pos 144000) (minus 24000) (pos 0) (pos 0)
+  pub reducer-then : runningOf reducerRises 12 ≡ total 1 1468 (pos 4000) (pos 144000) (pos 24000) (pos 100) (pos 5500)
   -- after the last minute nothing more comes
   pub no-more : runningOf (ledger touching) 25 ≡ total 2 54 (pos 4000) (pos 144000) (pos 48000) (pos 600) (pos 33000)

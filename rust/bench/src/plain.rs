@@ -464,7 +464,7 @@ fn fill_lines(
                 let metered: i32 = slice(meter, from, to).iter().sum();
                 let expected = nearest::<240>(quarters * minutes);
                 let delivered = nearest::<240>(sign * (4 * i64::from(metered) - base * minutes));
-                let capped = expected.min(delivered);
+                let capped = expected.min(delivered).max(0);
                 let optional = !(by_ramp || live.periods[period as usize]);
                 let pence = nearest::<1_000>(capped * prices[usize::from(optional)]);
                 answer.capped += capped;

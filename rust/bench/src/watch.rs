@@ -258,7 +258,7 @@ fn advance(
     }
     if cut(run, now + 1, inside == 29) {
         let kwh = |quarters: i32| nearest::<240>(i64::from(quarters));
-        let capped = kwh(expected).min(kwh(delivered));
+        let capped = kwh(expected).min(kwh(delivered)).max(0);
         totals.capped += capped;
         totals.pence += nearest::<1_000>(capped * i64::from(month.price(run, now)));
     }

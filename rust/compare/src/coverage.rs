@@ -22,7 +22,7 @@ pub const REFUSALS: [u8; 23] = [
 /// Of these, what only settling meets.
 const SETTLING: [u8; 2] = [24, 25];
 
-const FEATURES: [&str; 151] = [
+const FEATURES: [&str; 156] = [
     "settled, generator",
     "settled, demand reducer",
     "settled, committed",
@@ -35,11 +35,16 @@ const FEATURES: [&str; 151] = [
     "line, optional rate",
     "line, delivered below 0",
     "line, delivered above expected",
-    "line, pence below 0",
+    "line, floored, generator",
+    "line, floored, demand reducer",
+    "line, floored, second instruction",
+    "line, floored, later day",
+    "line, floored, flexible",
+    "line, floored beside one that is paid",
+    "line, delivered below 0 in some minutes alone",
     "line, half a kWh above 0",
     "line, half a kWh below 0",
     "line, half a penny above 0",
-    "line, half a penny below 0",
     "as many lines as the days hold",
     "windows touch",
     "window rejected",
@@ -159,7 +164,7 @@ const FEATURES: [&str; 151] = [
     "watched, minute in an excluded window",
     "watched, segment of one minute",
     "watched, reading revised",
-    "watched, capped below 0",
+    "watched, delivered below 0 after a paid line",
     "watched, dated",
     "watched, minute of a gained hour",
     "asked of a refused file",
@@ -523,14 +528,31 @@ impl Coverage {
             self.met("line, delivered below 0", line.delivered < 0);
             let above = line.delivered > line.expected;
             self.met("line, delivered above expected", above);
-            self.met("line, pence below 0", line.pence < 0);
             let price = match line.rate {
                 Rate::Utilisation => contract.utilisation_rate,
                 Rate::Optional => contract.optional_rate,
             };
             let half = (line.capped * price).rem_euclid(1_000) == 500;
             self.met("line, half a penny above 0", half && line.capped > 0);
-            self.met("line, half a penny below 0", half && line.capped < 0);
+        }
+        self.count_floors(contract, statement);
+    }
+
+    /// Lines that run backwards, which are paid nothing.
+    fn count_floors(&mut self, contract: &Contract, statement: &Statement) {
+        let paid = statement.lines.iter().any(|line| line.pence > 0);
+        for line in &statement.lines {
+            let floored = line.delivered < 0;
+            self.met("line, floored, generator", floored && contract.kind == 0);
+            let reducer = floored && contract.kind == 1;
+            self.met("line, floored, demand reducer", reducer);
+            let second = floored && line.instruction == 2;
+            self.met("line, floored, second instruction", second);
+            let later = floored && line.period > DAY / PERIOD;
+            self.met("line, floored, later day", later);
+            let flexible = floored && contract.service == 1;
+            self.met("line, floored, flexible", flexible);
+            self.met("line, floored beside one that is paid", floored && paid);
         }
     }
 
@@ -661,7 +683,8 @@ impl Coverage {
         self.met("more than 30 faulted windows", faulted > 30);
     }
 
-    /// Segments whose delivered quarters lie just between two kWh.
+    /// Segments whose delivered quarters lie just between two kWh, or of which
+    /// some minutes run backwards and the whole does not.
     fn count_halves(
         &mut self,
         contract: &Contract,
@@ -675,12 +698,15 @@ impl Coverage {
                 .into_iter()
                 .map(|minute| i64::from(meter[minute as usize]))
                 .sum();
-            let quarters: i64 = settle::active_minutes(contract, instruction, Switch::RIGHT)
+            let minutes: Vec<i64> = settle::active_minutes(contract, instruction, Switch::RIGHT)
                 .into_iter()
                 .filter(|(minute, stage)| *stage == line.stage && period_of(*minute) == line.period)
                 .map(|(minute, _)| 4 * i64::from(meter[minute as usize]) - base)
                 .map(|up| if contract.kind == 0 { up } else { -up })
-                .sum();
+                .collect();
+            let quarters: i64 = minutes.iter().sum();
+            let some = minutes.iter().any(|&minute| minute < 0) && quarters > 0;
+            self.met("line, delivered below 0 in some minutes alone", some);
             let half = quarters.rem_euclid(240) == 120;
             self.met("line, half a kWh above 0", half && quarters > 0);
             self.met("line, half a kWh below 0", half && quarters < 0);

@@ -316,6 +316,17 @@ pub fn delivered_quarters(contract: &Contract, base: i64, meter: &[i32], minute:
     }
 }
 
+/// A segment's capped kWh, and those that its payment is for: the same ones.
+/// What runs backwards earns nothing and costs nothing.
+fn floored(lesser: i64, switch: Switch) -> (i64, i64) {
+    let floored = lesser.max(0);
+    match switch.0 {
+        Some(Wrong::NoFloor) => (lesser, lesser),
+        Some(Wrong::FloorOnPaymentAlone) => (lesser, floored),
+        _ => (floored, floored),
+    }
+}
+
 pub fn line(
     book: &Book,
     contract: &Contract,
@@ -327,21 +338,27 @@ pub fn line(
     let mut expected_sum = 0;
     let mut delivered_sum = 0;
     let mut lesser_sum = 0;
+    let mut gained_sum = 0;
     for &minute in &segment.minutes {
         let expected = expected_quarters(contract, segment.stage, switch);
         let delivered = delivered_quarters(contract, base, meter, minute);
         expected_sum += expected;
         delivered_sum += delivered;
         lesser_sum += expected.min(delivered);
+        gained_sum += delivered.max(0);
     }
     let kwh = |quarters: i64| nearest(i128::from(quarters), QUARTERS, switch);
     let expected = kwh(expected_sum);
-    let delivered = kwh(delivered_sum);
-    let capped = if switch.is(Wrong::CapByMinute) {
-        kwh(lesser_sum)
-    } else {
-        expected.min(delivered)
+    let mut delivered = kwh(delivered_sum);
+    let lesser = match switch.0 {
+        Some(Wrong::CapByMinute) => kwh(lesser_sum),
+        Some(Wrong::FloorByMinute) => expected.min(kwh(gained_sum)),
+        _ => expected.min(delivered),
     };
+    let (capped, paid) = floored(lesser, switch);
+    if switch.is(Wrong::DeliveredFloored) {
+        delivered = delivered.max(0);
+    }
     let price = match (segment.rate, switch.is(Wrong::GlossaryRates)) {
         (Rate::Utilisation, false) | (Rate::Optional, true) => contract.utilisation_rate,
         (Rate::Optional, false) | (Rate::Utilisation, true) => contract.optional_rate,
@@ -354,7 +371,7 @@ pub fn line(
         expected,
         delivered,
         capped,
-        pence: nearest(i128::from(capped) * i128::from(price), 1_000, switch),
+        pence: nearest(i128::from(paid) * i128::from(price), 1_000, switch),
     }
 }
 

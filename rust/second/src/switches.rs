@@ -5,6 +5,14 @@
 pub enum Wrong {
     /// The lesser is taken in each minute and not over the segment.
     CapByMinute,
+    /// A segment that runs backwards costs what it falls short of 0.
+    NoFloor,
+    /// What a minute falls short of 0 is not taken from the segment's others.
+    FloorByMinute,
+    /// A segment that runs backwards is listed as if it had delivered 0.
+    DeliveredFloored,
+    /// It costs nothing, but its energy counts below 0.
+    FloorOnPaymentAlone,
     /// The base load is rounded to a whole kW.
     BaseRounded,
     /// A ramp minute expects as much as a steady one.
@@ -111,8 +119,12 @@ pub enum Wrong {
 }
 
 /// The names by which the command line knows the switches.
-pub const SWITCHES: [(&str, Wrong); 52] = [
+pub const SWITCHES: [(&str, Wrong); 56] = [
     ("cap-by-minute", Wrong::CapByMinute),
+    ("no-floor", Wrong::NoFloor),
+    ("floor-by-minute", Wrong::FloorByMinute),
+    ("delivered-floored", Wrong::DeliveredFloored),
+    ("floor-on-payment-alone", Wrong::FloorOnPaymentAlone),
     ("base-rounded", Wrong::BaseRounded),
     ("whole-ramp", Wrong::WholeRamp),
     ("delivery-in-p", Wrong::DeliveryInP),

@@ -12,6 +12,7 @@ use crate::watch::{self, Totals};
 use crate::write;
 
 mod dates;
+mod floor;
 
 const RIGHT: Switch = Switch::RIGHT;
 

@@ -95,6 +95,9 @@ impl Month<'_> {
         let (mut expected, mut delivered) = self.sums(segment, summed, minute);
         let (mut capped, mut pence) = self.complete(lines, minute);
         let is_complete = segment.minutes.last() == Some(&minute);
+        if self.switch.is(Wrong::DeliveredFloored) {
+            delivered = delivered.max(0);
+        }
         if self.switch.is(Wrong::SumsGoneWithLine) && is_complete {
             (expected, delivered) = (0, 0);
         }

@@ -57,7 +57,7 @@ pub struct Line {
     pub expected: i64,
     /// By the metering.
     pub delivered: i64,
-    /// The lesser of the two.
+    /// The lesser of the two, or 0 if that is below 0.
     pub capped: i64,
     /// Of the capped kWh.
     pub pence: i64,

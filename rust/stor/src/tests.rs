@@ -58,9 +58,9 @@ fn rows_of_a_statement() {
         stage: Stage::RampUp,
         rate: Rate::Utilisation,
         expected: 600,
-        delivered: -500,
-        capped: -500,
-        pence: -15_000,
+        delivered: 500,
+        capped: 500,
+        pence: 15_000,
     };
     let statement = Statement {
         lines: vec![
@@ -68,6 +68,9 @@ fn rows_of_a_statement() {
             Line {
                 stage: Stage::Steady,
                 rate: Rate::Optional,
+                delivered: -500,
+                capped: 0,
+                pence: 0,
                 ..line
             },
             Line {
@@ -86,17 +89,17 @@ fn rows_of_a_statement() {
                 pence: 0,
             },
         ],
-        capped: -1_500,
-        utilisation_pence: -45_000,
+        capped: 1_000,
+        utilisation_pence: 30_000,
         availability_pence: 32_400,
-        all_pence: -12_600,
+        all_pence: 62_400,
     };
-    let rows = "L 1 1488 U C 600 -500 -500 -15000\n\
-                L 1 1488 S O 600 -500 -500 -15000\n\
-                L 64 1488 D C 600 -500 -500 -15000\n\
+    let rows = "L 1 1488 U C 600 500 500 15000\n\
+                L 1 1488 S O 600 -500 0 0\n\
+                L 64 1488 D C 600 500 500 15000\n\
                 A 1 6 32400\n\
                 A 2 0 0\n\
-                T -1500 -45000 32400 -12600\n";
+                T 1000 30000 32400 62400\n";
     assert_eq!(statement_rows(&statement), rows);
 }
 
@@ -114,6 +117,18 @@ fn a_file_is_settled() {
     let statement = Memory::of_month().settle_file(APPENDIX_2);
     let rows = statement.map(|statement| statement_rows(&statement));
     assert_eq!(rows.as_deref(), Ok(APPENDIX_2_ROWS));
+}
+
+#[test]
+fn what_runs_backwards_is_listed_and_not_paid() {
+    let file = include_bytes!("../../../examples/runs-backwards.unit");
+    let statement = Memory::of_month().settle_file(file).expect("all is read");
+    let delivered: Vec<i64> = statement.lines.iter().map(|line| line.delivered).collect();
+    assert_eq!(delivered, [-3, -2, 0]);
+    let paid = |line: &Line| line.capped != 0 || line.pence != 0;
+    assert!(!statement.lines.iter().any(paid));
+    assert_eq!((statement.capped, statement.utilisation_pence), (0, 0));
+    assert_eq!(statement.all_pence, 32_400);
 }
 
 #[test]

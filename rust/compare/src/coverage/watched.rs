@@ -68,8 +68,10 @@ impl Coverage {
             .iter()
             .any(|totals| totals.minute >= *DAYS.end() * DAY);
         self.met("watched, minute of a gained hour", gained);
-        let below = shown.iter().any(|totals| totals.capped < 0);
-        self.met("watched, capped below 0", below);
+        let below = shown
+            .iter()
+            .any(|totals| totals.delivered < 0 && totals.capped > 0);
+        self.met("watched, delivered below 0 after a paid line", below);
         let revised = shown
             .iter()
             .any(|totals| memory.revision(totals.minute) > 0);

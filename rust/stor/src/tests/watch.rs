@@ -194,10 +194,10 @@ fn row_of_totals() {
         base: -16_000,
         expected: 24_000,
         delivered: -8_000,
-        capped: -33,
-        pence: -990,
+        capped: 33,
+        pence: 990,
     };
-    let row = "M 64 44639 -16000 24000 -8000 -33 -990\n";
+    let row = "M 64 44639 -16000 24000 -8000 33 990\n";
     assert_eq!(total_row(&totals), row);
 }
 
@@ -245,6 +245,10 @@ fn a_walk_goes_through_every_instruction() {
     let totals = (statement.capped, statement.utilisation_pence);
     assert_eq!((last.capped, last.pence), totals);
     assert_ne!(totals, (0, 0));
+    // Of these segments some run backwards, and the totals never fall.
+    assert!(statement.lines.iter().any(|line| line.delivered < 0));
+    let falls = |pair: &[Totals]| pair[1].capped < pair[0].capped || pair[1].pence < pair[0].pence;
+    assert!(!walked.windows(2).any(falls));
 }
 
 #[test]
@@ -429,7 +433,7 @@ fn base_readings_are_four_and_asked_for_once() {
     }
 }
 
-/// What is changed about totals, and whether steps could have left them so.
+/// What is changed about totals, and whether they are still in their ranges.
 type Change = (fn(&mut Totals), bool);
 
 #[test]
