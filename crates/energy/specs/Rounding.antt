@@ -28,5 +28,5 @@ pub record Rounding·theorem : Type 0 where
   pub monotone : (a b : ℤ) (d : ℕ) → 1 ≤ d → a ≤ℤ b → nearest a d ≤ℤ nearest b d
   -- so the lesser of two rounded is the rounded lesser
   pub least : (a b : ℤ) (d : ℕ) → 1 ≤ d → lesser (nearest a d) (nearest b d) ≡ nearest (lesser a b) d
-  -- and a rounded number, or 0 if it is below 0, is the number, or 0 if that is below 0, rounded
+  -- and what is floored at 0 and then rounded is what is rounded and then floored
   pub floor : (n : ℤ) (d : ℕ) → 1 ≤ d → floored (nearest n d) ≡ nearest (floored n) d

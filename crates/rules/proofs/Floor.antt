@@ -24,11 +24,11 @@ use Rattle.rules.specs.declared.statement.Available.{Available}
 
 module _ (g : Ledger) where
   -- ---- of a segment's line
-  pub energy-of : (s : Segment) → pos 0 ≤ℤ lineOf g s .capped .0
+  energy-of : (s : Segment) → pos 0 ≤ℤ lineOf g s .capped .0
   unfolding lineOf
   energy-of s = omega arithℤ
 
-  pub pence-of : (s : Segment) → pos 0 ≤ℤ lineOf g s .pence .0
+  pence-of : (s : Segment) → pos 0 ≤ℤ lineOf g s .pence .0
   unfolding lineOf
   pence-of s = payment-above (capped (kwh (expectedOf g s)) (kwh (deliveredOf g s))) (rateOf g s) (omega arithℤ)
 

@@ -144,16 +144,16 @@ pub record LastHour : Type 0 where
 
 -- ---- written
 
--- an October in another order than it is written in
+-- an October in another order than it is written in, of one day, so that few minutes are looked into: it ends at 1,500
 abbrev pub mixedOctober : List Command
-mixedOctober = october ++ (metered 44699 (pos 1) ∷ instructed 5 85 ∷ offer 0 30 accepted ∷ [])
+mixedOctober = lasting 1 ∷ dated 2024 10 1 ∷ metered 1499 (pos 1) ∷ instructed 5 85 ∷ offer 0 30 accepted ∷ []
 
 -- contract, date, windows, instructions, readings by rising minute
 pub record DatesWritten : Type 0 where
   pub bytes :
       drop 32 (fileOf (ledgerOf mixedOctober))
       ≡ (0x54 ∷ 0x07 ∷ 0xE8 ∷ 0x0A ∷ 0x01 ∷ []) ++ (0x57 ∷ 0x00 ∷ 0x00 ∷ 0x00 ∷ 0x1E ∷ 0x00 ∷ []) ++ (0x49 ∷ 0x00 ∷ 0x05 ∷ 0x00 ∷ 0x55 ∷ [])
-      ++ (0x4D ∷ 0xAE ∷ 0x9B ∷ 0x00 ∷ 0x00 ∷ 0x00 ∷ 0x01 ∷ [])
+      ++ (0x4D ∷ 0x05 ∷ 0xDB ∷ 0x00 ∷ 0x00 ∷ 0x00 ∷ 0x01 ∷ [])
 
 -- ---- every month with a date
 
