@@ -144,7 +144,8 @@ pub record LastHour : Type 0 where
 
 -- ---- written
 
--- an October in another order than it is written in, of one day, so that few minutes are looked into: it ends at 1,500
+-- a ledger dated as an October, in another order than it is written in: of one day, which commands do not leave (30), so that a closed case has few
+-- minutes to compute; its last minute is 1,499
 abbrev pub mixedOctober : List Command
 mixedOctober = lasting 1 ∷ dated 2024 10 1 ∷ metered 1499 (pos 1) ∷ instructed 5 85 ∷ offer 0 30 accepted ∷ []
 
