@@ -3,6 +3,8 @@
 // Each method asks what its entry meets at the book, and where that is nothing puts it: into the book, and a contract's and a date's marks and
 // a reading into lent memory. It first tests whether the book is sound (11). Whoever enters a list of commands tests once and goes by `enter_known`,
 // which is the same code; a reading among them goes by `book_memory::taking`, which is not handed the book.
+#![tactic(auto)]
+
 mod answers;
 mod closing;
 mod contracts;

@@ -1,5 +1,7 @@
 // Lent memory: a cell for each minute's kW and a byte for its revision. The room in both; the cells, here; the bytes; and the readings that go into
 // them.
+#![tactic(auto)]
+
 pub mod gained;
 pub mod revisions;
 pub mod room;

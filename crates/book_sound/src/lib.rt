@@ -1,4 +1,6 @@
 // The tests on the tables of a book, by value, each on its own: what 11 asks of them.
+#![tactic(auto)]
+
 pub mod agreed;
 pub mod agreement;
 mod columns;

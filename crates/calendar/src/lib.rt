@@ -1,4 +1,6 @@
 // Months of a calendar date: the days of a month, which dates there are, Sundays, and the hour that a dated month gains or loses.
+#![tactic(auto)]
+
 ghost use Rattle.std.specs.Prelude.{◌≡◌};
 ghost use Rattle.calendar.specs.Calendar.{days_of, gained_in, is_date, is_leap, is_no_date, is_sunday, lost_in};
 

@@ -3,4 +3,3 @@ pub mod Integers
 pub mod Sums
 pub mod Puts
 pub mod Rounding
-pub mod Walk

@@ -1,4 +1,6 @@
 // Energy and money: the four kinds of number, rounding, energy and pence. Everything else builds on these promises.
+#![tactic(auto)]
+
 pub mod limits;
 pub mod magnitude;
 pub mod money;

@@ -1,4 +1,6 @@
 // A command as bytes in lent memory, by the table of the unit file.
+#![tactic(auto)]
+
 ghost use Rattle.std.specs.Prelude.{◌≡◌, ◌+◌, ◌≤◌, leb, length, take};
 ghost use Rattle.energy.specs.Lists.{put_at};
 ghost use Rattle.rules.specs.File.{total, write, write_operands};

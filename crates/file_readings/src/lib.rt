@@ -1,4 +1,6 @@
 // The readings of a unit file, which are most of it: taken from their bytes into lent memory, one after the other, without the book. Of either kind.
+#![tactic(auto)]
+
 ghost use Rattle.std.specs.Prelude.{◌≡◌, true, ◌+◌, ◌≤◌, ◌<◌, ◌^◌, length, get_or, take, drop};
 ghost use Rattle.rules.specs.File.{word_from, signed_of};
 ghost use Rattle.book_memory.specs.Meter.{lent};

@@ -1,4 +1,6 @@
 // A book as a unit file.
+#![tactic(auto)]
+
 mod entries;
 mod layout;
 mod length;

@@ -2,6 +2,8 @@
 // totals, by the numbers of a month and one step for each active minute.
 // Every call is total: it answers for every length and every contents of what is lent. Each promise is one equation: the answer and all lent memory
 // after the call are what the definition of the call gives for what was lent.
+#![tactic(auto)]
+
 ghost use Rattle.std.specs.Prelude.{◌≡◌};
 ghost use Rattle.book_memory.specs.Meter.{lent};
 ghost use Rattle.host.specs.Calls.{enter_file, settle_file, settle_tables, write_file, write_tables};

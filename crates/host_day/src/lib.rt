@@ -1,4 +1,6 @@
 // The kind of a day of a book's month, as the one number that a call answers.
+#![tactic(auto)]
+
 ghost use Rattle.std.specs.Prelude.{◌≡◌};
 ghost use Rattle.host_day.specs.DayAnswer.{day_answer, AnswersDay};
 

@@ -1,4 +1,6 @@
 // A book settled into numbers for a host, and what a call answers as one number.
+#![tactic(auto)]
+
 pub mod answers;
 
 ghost use Rattle.std.specs.Prelude.{◌≡◌, cond, ◌≤◌, ◌<◌, ◌^◌, ltb};

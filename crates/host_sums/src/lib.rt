@@ -1,4 +1,6 @@
 // A statement's sums as numbers.
+#![tactic(auto)]
+
 ghost use Rattle.std.specs.Prelude.{◌≡◌, ◌++◌, ◌≤◌, ◌<◌, ◌^◌, length, take, drop};
 ghost use Rattle.energy.specs.Lists.{concat_map};
 ghost use Rattle.host_sums.specs.Sums.{pair_of, sum_count, sums_of, totals_of};

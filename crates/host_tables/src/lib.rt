@@ -1,4 +1,6 @@
 // The book that a host's tables of numbers say.
+#![tactic(auto)]
+
 ghost use Rattle.std.specs.Prelude.{◌≡◌, ◌+◌, min};
 ghost use Rattle.host_tables.specs.Tables.{book_of, contract_of_row, date_of_row, default_of_row, entire, entries_of, instruction_of_row, tables, window_of_row};
 ghost use Rattle.host_tables.specs.Tables.{byte_at, default_numbers, instruction_numbers, number_at, window_numbers, word_at};

@@ -1,4 +1,6 @@
 // A step over a host's plain numbers: its totals stand in memory that the host lends, and are altered where the step is taken only.
+#![tactic(auto)]
+
 ghost use Rattle.std.specs.Prelude.{◌≡◌, true, ◌++◌, ◌≤◌, drop, length};
 ghost use Rattle.commands.specs.Input.{from_to_ℤ};
 ghost use Rattle.host_watch.specs.StepNumbers.{are_totals, numbers_of, step_numbers, stepped_numbers, total_count, totals_in};

@@ -1,4 +1,6 @@
 // The lister: a unit file on standard input, its listing on standard output. Meter memory and revision memory hold 11 days.
+#![tactic(auto)]
+
 mod input;
 mod output;
 mod piece;

@@ -1,4 +1,6 @@
 // A whole answer as bytes in one buffer, row after row: a listing, or the row of a refusal.
+#![tactic(auto)]
+
 ghost use Rattle.std.specs.Prelude.{◌≡◌, ◌+◌, ◌*◌, ◌≤◌, min, length, take};
 ghost use Rattle.energy.specs.Lists.{Laid, concat_map};
 ghost use Rattle.lister_rows.specs.Row.{Counted};

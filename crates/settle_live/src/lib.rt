@@ -1,5 +1,7 @@
 // Live windows. Their periods stand in a table with a byte for each period of the month: the number of the live window that the period is in, from 1,
 // and 0 in none. So a rate is one look, and a default finds its window by its minute.
+#![tactic(auto)]
+
 ghost use Rattle.std.specs.Prelude.{◌≡◌, ◌/◌, ◌≤◌, length};
 ghost use Rattle.settle_live.specs.Live.{Cleared, Unmarked, LiveTable, WindowMarked, Windows, excluded_to, is_live};
 

@@ -1,4 +1,6 @@
 // Settling a book for a host that cannot hold records of enums: each line is eight numbers, the fields of its row in their order.
+#![tactic(auto)]
+
 ghost use Rattle.std.specs.Prelude.{◌≡◌, ◌++◌, map, ℕ, ◌+◌, ◌*◌, ◌≤◌, ◌<◌, length, take, drop};
 ghost use Rattle.book_memory.specs.Meter.{lent};
 ghost use Rattle.energy.specs.Lists.{between, concat_map};

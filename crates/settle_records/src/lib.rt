@@ -1,4 +1,6 @@
 // Settling a book into records of lines: records that the caller lends, or its own.
+#![tactic(auto)]
+
 use rules::statement::{LISTED_MOST, Line};
 use settle::Settlement;
 

@@ -1,4 +1,6 @@
 // Before a line is written: whether every needed minute has a reading, and how many segments there are.
+#![tactic(auto)]
+
 ghost use Rattle.std.specs.Prelude.{◌≡◌, ◌+◌, ◌*◌, ◌≤◌, ◌<◌, length};
 ghost use Rattle.energy.specs.Lists.{all, between};
 ghost use Rattle.rules.specs.Cuts.{touched as touched_of};

@@ -1,4 +1,6 @@
 // What settling reads off a book once: the contract's figures, and the times of the instructions.
+#![tactic(auto)]
+
 ghost use Rattle.std.specs.Prelude.{◌≡◌, ◌≤◌};
 ghost use Rattle.commands.specs.Input.{down_minutes, up_minutes};
 ghost use Rattle.energy.specs.Number.{Upto};

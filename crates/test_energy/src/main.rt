@@ -1,4 +1,6 @@
 // Runs the checked figures that are about energy and money alone, F3, F4, F5, F8 and F10, and prints what it got.
+#![tactic(auto)]
+
 ghost use Rattle.energy.specs.Number.{Upto, Within};
 
 use energy::magnitude::magnitude;

@@ -1,4 +1,6 @@
 // Prints the rows of Appendix 2's statement, then rows with the least and the largest numbers that their fields can hold.
+#![tactic(auto)]
+
 ghost use Rattle.lister_rows.specs.Row.{Counted};
 
 use energy::units::{Kwh, Pence};

@@ -18,6 +18,8 @@
 //   q                   from here to the next q, no command is printed that is taken, and no e
 // After a settlement a row K says how many records there were, how many lines, and how many records hold what they held before.
 // An empty line, and one that starts with #, is printed as it stands.
+#![tactic(auto)]
+
 mod answers;
 mod cells;
 mod change;

@@ -1,4 +1,6 @@
 // The month as a step needs it, from a book: worked out once, by what settling has for it too, into memory that the caller lends.
+#![tactic(auto)]
+
 ghost use Rattle.std.specs.Prelude.{◌≡◌};
 ghost use Rattle.watch_month.specs.MonthOf.{month_book, month_laid};
 

@@ -1,4 +1,6 @@
 // Which days of a dated month are working days: neither a Sunday nor a bank holiday.
+#![tactic(auto)]
+
 ghost use Rattle.std.specs.Prelude.{◌≡◌, cond, [], ◌∷◌, eqb};
 ghost use Rattle.energy.specs.Lists.{any};
 ghost use Rattle.calendar.specs.Calendar.{is_no_date};

@@ -10,8 +10,7 @@ use mir.Facts.{to_z-of_z}
 use Rattle.energy.specs.Number.{Within, floored}
 use Rattle.energy.proofs.Integers.{arith_ℤ, fits_parts, lt_z-on, lt_z_off}
 use Rattle.energy.proofs.Rounding.{floored_above, floored_below}
-use Rattle.energy.proofs.money.capped_kwh.Statement.{statement}
-use Rattle.energy.proofs.money.capped_kwh.Tie as tie
+use Rattle.energy.proofs.money.capped_kwh.Goals as goal
 
 -- what the test of a number, as the machine holds it, says of it floored
 module _ (z : ℤ) (h : Within 500000 z) where
@@ -24,15 +23,15 @@ module _ (z : ℤ) (h : Within 500000 z) where
   above : lt_z (to_z w64 (of_z w64 z)) (pos 0) ≡ false → z ≡ floored z
   above e = sym (floored_above z (omega (arith_ℤ, lt_z_off z (pos 0) (rw (to_z-of_z fits) at e))))
 
-returns : tie.Need-returns
+pub returns-then-k-lt0 : goal.returns-then-k-lt0
+returns-then-k-lt0 c =
+    let l = c.lesser_kwh-least in
+    (below l.result.0 l.ensures.1 c.if-k-lt0.true ∙ ap floored l.ensures.0, omega arith)
+
+pub returns : goal.returns
 returns c =
-    let l = c.before.before.lesser-kwh in
-    (below l.result.0 l.ensures.1 c.if1.true ∙ ap floored l.ensures.0, omega arith)
+    let l = c.lesser_kwh-least in
+    (above l.result.0 l.ensures.1 c.if-k-lt0.false ∙ ap floored l.ensures.0, l.ensures.1)
 
-returns-2 : tie.Need-returns-2
-returns-2 c =
-    let l = c.before.before.lesser-kwh in
-    (above l.result.0 l.ensures.1 c.if1.false ∙ ap floored l.ensures.0, l.ensures.1)
-
-pub capped_kwh_spec : {M : Type 1} → statement M
-capped_kwh_spec = tie.close (tie.spec (λ c κs. c.requires) returns returns-2)
+pub lesser_kwh-least-requires : goal.lesser_kwh-least-requires
+lesser_kwh-least-requires c = c.requires

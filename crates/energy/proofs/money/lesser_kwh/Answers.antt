@@ -9,8 +9,7 @@ use mir.Val.{SFits, to_z, of_z}
 use mir.Facts.{to_z-of_z}
 use Rattle.energy.specs.Number.{Within, lesser}
 use Rattle.energy.proofs.Integers.{fits_parts}
-use Rattle.energy.proofs.money.lesser_kwh.Statement.{statement}
-use Rattle.energy.proofs.money.lesser_kwh.Tie as tie
+use Rattle.energy.proofs.money.lesser_kwh.Goals as goal
 
 -- the kWh fit
 fits : (z : ℤ) → Within 500000 z → SFits w64 z
@@ -26,13 +25,10 @@ module _ (x d : ℤ) (hx : Within 500000 x) (hd : Within 500000 d) where
   unfolding lesser
   second e = rw (rw (to_z-of_z (fits x hx), to_z-of_z (fits d hd)) at e) refl
 
-returns : tie.Need-returns
+pub returns-then-a-b : goal.returns-then-a-b
+returns-then-a-b c =
+    let s = c.before.before.before in (first s.args.x.0 s.args.d.0 s.requires.0 s.requires.1 c.if-a-b.true, s.requires.0)
+
+pub returns : goal.returns
 returns c =
-    let s = c.before.before.before in (first s.args.x.0 s.args.d.0 s.requires.0 s.requires.1 c.if1.true, s.requires.0)
-
-returns-2 : tie.Need-returns-2
-returns-2 c =
-    let s = c.before.before.before in (second s.args.x.0 s.args.d.0 s.requires.0 s.requires.1 c.if1.false, s.requires.1)
-
-pub lesser_kwh_spec : {M : Type 1} → statement M
-lesser_kwh_spec = tie.close (tie.spec returns returns-2)
+    let s = c.before.before.before in (second s.args.x.0 s.args.d.0 s.requires.0 s.requires.1 c.if-a-b.false, s.requires.1)

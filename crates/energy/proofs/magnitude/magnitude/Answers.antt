@@ -9,8 +9,8 @@ use mir.Syntax.{w64}
 use mir.Val.{SFits}
 use mir.Facts.{to_z-of_z}
 use Rattle.energy.proofs.Integers.{abs-parts, add_parts, diff_parts, exact, fits_parts, parts-fit, lt_z-true, lt_z-false, non_neg_parts}
-use Rattle.energy.proofs.magnitude.magnitude.Statement.{statement}
-use Rattle.energy.proofs.magnitude.magnitude.Tie as tie
+use Rattle.energy.proofs.magnitude.magnitude.Goals as goal
+use Rattle.energy.proofs.magnitude.magnitude.Goals.{Then-n-lt0}
 
 -- a number below 0, with 1 added, and turned round
 record Below (z : ℤ) : Type 0 where
@@ -21,12 +21,12 @@ record Below (z : ℤ) : Type 0 where
   size : nat_abs (pos 0 -ℤ (z +ℤ pos 1)) + 1 ≡ nat_abs z
   most : nat_abs z ≤ 2 ^ 63
 
-below : (c : tie.Then1) → Below c.before.args.n
+below : (c : Then-n-lt0) → Below c.args.n
 below c =
-    let z = c.before.args.n in
-    let f : SFits w64 z = c.before.ranges.n in
+    let z = c.args.n in
+    let f : SFits w64 z = c.ranges.n in
     let fit = parts-fit w64 z f in
-    let low = lt_z-true z (pos 0) (simp (to_z-of_z, f) at c.if1.true) in
+    let low = lt_z-true z (pos 0) (simp (to_z-of_z, f) at c.if-n-lt0.true) in
     let a = exact (add_parts z (pos 1)) in
     let b = exact (diff_parts (pos 0) (z +ℤ pos 1)) in
     record {
@@ -38,18 +38,27 @@ below c =
       most = omega (arith, abs-parts z);
     }
 
-cast-result-2 : tie.Need-overflow-cast-result-2
-cast-result-2 c =
-    let n = c.before.args.n in
-    let f : SFits w64 n = c.before.ranges.n in
-    let above = lt_z-false n (pos 0) (simp (to_z-of_z, f) at c.if1.false) in
+pub overflow_cast-result-2 : goal.overflow_cast-result-2
+overflow_cast-result-2 c =
+    let n = c.args.n in
+    let f : SFits w64 n = c.ranges.n in
+    let above = lt_z-false n (pos 0) (simp (to_z-of_z, f) at c.if-n-lt0.false) in
     simp (to_z-of_z, f) (non_neg_parts n (omega arith), omega (arith, abs-parts n, parts-fit w64 n f))
 
-pub magnitude_spec : {M : Type 1} → statement M
-magnitude_spec =
-    tie.close
-    (tie.spec (λ c. let b = below c in simp (to_z-of_z, b.fit) b.next) (λ c. let b = below c in simp (to_z-of_z, b.fit, b.next) b.turned)
-    (λ c. let b = below c in simp (to_z-of_z, b.fit, b.next, b.turned) (b.high, omega arith))
-    (λ c. let b = below c in simp (to_z-of_z, b.fit, b.next, b.turned) (omega arith))
-    (λ c. let b = below c in simp (to_z-of_z, b.fit, b.next, b.turned) b.size) cast-result-2
-    (λ c. simp (to_z-of_z, c.before.ranges.n) refl))
+pub overflow_add-result : goal.overflow_add-result
+overflow_add-result c = let b = below c in simp (to_z-of_z, b.fit) b.next
+
+pub overflow_sub-result : goal.overflow_sub-result
+overflow_sub-result c = let b = below c in simp (to_z-of_z, b.fit, b.next) b.turned
+
+pub overflow_cast-result : goal.overflow_cast-result
+overflow_cast-result c = let b = below c in simp (to_z-of_z, b.fit, b.next, b.turned) (b.high, omega arith)
+
+pub overflow_add-result-then-n-lt0 : goal.overflow_add-result-then-n-lt0
+overflow_add-result-then-n-lt0 c = let b = below c in simp (to_z-of_z, b.fit, b.next, b.turned) (omega arith)
+
+pub returns-then-n-lt0 : goal.returns-then-n-lt0
+returns-then-n-lt0 c = let b = below c in simp (to_z-of_z, b.fit, b.next, b.turned) b.size
+
+pub returns : goal.returns
+returns c = simp (to_z-of_z, c.ranges.n) refl
