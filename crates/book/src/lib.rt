@@ -24,7 +24,7 @@ use commands::entries::{Default, Instruction, Window};
 use rules::answer::Answer;
 
 // The tables are in order of entry; unused entries are zeros.
-#[derive(Drop)]
+#[derive(Clone, Copy)]
 pub struct Book {
     // a contract has been taken
     pub agreed: bool,
@@ -41,7 +41,7 @@ pub struct Book {
 }
 
 // The book after a command, and whether the command was taken.
-#[derive(Drop)]
+#[derive(Clone, Copy)]
 pub struct Entry {
     pub answer: Answer,
     pub book: Book,

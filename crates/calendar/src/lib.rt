@@ -9,7 +9,7 @@ mod week;
 use crate::week::day_number;
 
 // A date as it is told: any of its numbers may be outside its range.
-#[derive(Drop)]
+#[derive(Clone, Copy)]
 pub struct Date {
     pub year: u16,
     pub month: u8,

@@ -11,7 +11,7 @@ use energy::ramp::ramp_minutes;
 use energy::units::{Kw, Minutes};
 
 // The operands of a contract, as they stand in the unit file: any of them may be outside its range.
-#[derive(Drop)]
+#[derive(Clone, Copy)]
 pub struct Contract {
     pub days: u8,
     // 0 generator, 1 demand reducer
@@ -31,7 +31,7 @@ pub struct Contract {
 }
 
 // What comes of a contract's operands: the contract, or the number under which they are turned down.
-#[derive(Drop)]
+#[derive(Clone, Copy)]
 pub enum Offer {
     Agreed(Contract),
     Refused(u8),

@@ -11,7 +11,7 @@ use calendar::Date;
 use energy::units::{Kw, Minutes};
 
 // A window of availability: from its start up to, and without, its end.
-#[derive(Drop)]
+#[derive(Clone, Copy)]
 pub struct Window {
     pub start: Minutes,
     pub end: Minutes,
@@ -20,7 +20,7 @@ pub struct Window {
 }
 
 // An instruction to deliver.
-#[derive(Drop)]
+#[derive(Clone, Copy)]
 pub struct Instruction {
     pub issue: Minutes,
     pub cease: Minutes,
@@ -28,7 +28,7 @@ pub struct Instruction {
 
 // A default. Kinds: 1 data submission, 2 utilisation, 3 availability, 4 delivery.
 // Reaches: 1 the period, 2 the whole window, 3 from that period to the window's end.
-#[derive(Drop)]
+#[derive(Clone, Copy)]
 pub struct Default {
     pub minute: Minutes,
     pub kind: u8,
@@ -36,20 +36,20 @@ pub struct Default {
 }
 
 // The metered kW of a minute.
-#[derive(Drop)]
+#[derive(Clone, Copy)]
 pub struct Reading {
     pub minute: Minutes,
     pub kw: Kw,
 }
 
 // A reading that the meter operator sends again: of those for a minute the greatest number supersedes.
-#[derive(Drop)]
+#[derive(Clone, Copy)]
 pub struct Revision {
     pub number: u8,
     pub reading: Reading,
 }
 
-#[derive(Drop)]
+#[derive(Clone, Copy)]
 pub enum Command {
     Contract(Contract),
     Date(Date),

@@ -10,7 +10,7 @@ use crate::round::{half_up, quotient};
 use crate::units::{Kw, Kwh, Pence};
 
 // What paying answers: the pence, or a refusal's number.
-#[derive(Drop)]
+#[derive(Clone, Copy)]
 pub enum Paid {
     Pays(Pence),
     Refused(u8),

@@ -4,7 +4,7 @@ ghost use Rattle.energy.specs.Answers.{rounded};
 ghost use Rattle.energy.specs.Number.{nearest as nearest_to};
 
 // What rounding answers: the nearest number, or a refusal's number.
-#[derive(Drop)]
+#[derive(Clone, Copy)]
 pub enum Rounded {
     Value(i64),
     Refused(u8),

@@ -3,19 +3,19 @@ ghost use Rattle.std.specs.Prelude.{◌≡◌, ◌*◌, ◌≤◌, nat_abs, pos,
 ghost use Rattle.energy.specs.Number.{Upto, Within};
 
 // Power in kW: a reading, or what a contract offers.
-#[derive(Drop)]
+#[derive(Clone, Copy)]
 pub struct Kw(pub i64);
 
 // Energy in kWh.
-#[derive(Drop)]
+#[derive(Clone, Copy)]
 pub struct Kwh(pub i64);
 
 // Money in pence.
-#[derive(Drop)]
+#[derive(Clone, Copy)]
 pub struct Pence(pub i64);
 
 // A minute of the month, from 0 at its first midnight, or a number of minutes.
-#[derive(Drop)]
+#[derive(Clone, Copy)]
 pub struct Minutes(pub u16);
 
 impl Kwh {

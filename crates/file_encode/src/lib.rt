@@ -13,7 +13,7 @@ use file_table::number::put_number;
 use file_table::table::row_of;
 
 // What writing answers: the position after the command, or a refusal.
-#[derive(Drop)]
+#[derive(Clone, Copy)]
 pub enum Written {
     Next(usize),
     Refused(u8),

@@ -15,7 +15,7 @@ use rules::file::Read;
 
 // How the entering of a file's commands ended: taken at the file's end, or the first refusal, the reader's or the book's; where the reader
 // stood then, before the refused command; and the book with the commands before it.
-#[derive(Drop)]
+#[derive(Clone, Copy)]
 pub struct Loaded {
     pub answer: Answer,
     pub at: usize,
@@ -23,7 +23,7 @@ pub struct Loaded {
 }
 
 // One turn of the loop, and whether there is another.
-#[derive(Drop)]
+#[derive(Clone, Copy)]
 pub struct Turn {
     pub going: bool,
     pub loaded: Loaded,

@@ -5,21 +5,21 @@ ghost use Rattle.file_read.specs.Reader.{position_after, step_at};
 use crate::decode::read_at;
 use rules::file::Read;
 
-#[derive(Drop)]
+#[derive(Clone, Copy)]
 pub struct Reader<'a> {
     pub src: &'a [u8],
     pub at: usize,
 }
 
 // What a reader finds, and the reader after it.
-#[derive(Drop)]
+#[derive(Clone, Copy)]
 pub struct Next<'a> {
     pub reader: Reader<'a>,
     pub read: Read,
 }
 
 // What stands at a position, and the position after it.
-#[derive(Drop)]
+#[derive(Clone, Copy)]
 pub struct Step {
     pub read: Read,
     pub at: usize,

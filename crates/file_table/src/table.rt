@@ -34,7 +34,7 @@ pub const REVISION_LENGTH: u8 = 8;
 const YEAR_WIDTH: u8 = 2;
 
 // A command in the table.
-#[derive(Drop)]
+#[derive(Clone, Copy)]
 pub struct Row {
     pub byte: u8,
     // of the whole command, its byte included

@@ -9,7 +9,7 @@ use commands::entries::{Command, Reading, Revision};
 use energy::units::{Kw, Minutes};
 
 // A table of a book.
-#[derive(Drop)]
+#[derive(Clone, Copy)]
 pub(crate) enum Table {
     Windows,
     Instructions,

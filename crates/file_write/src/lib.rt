@@ -16,7 +16,7 @@ use book_memory::room::room_of;
 use rules::answer::Answer;
 
 // Taken with the file's length, or refused with length 0.
-#[derive(Drop)]
+#[derive(Clone, Copy)]
 pub struct Written {
     pub answer: Answer,
     pub size: usize,

@@ -10,7 +10,7 @@ use file_load::file::load;
 use rules::answer::Answer;
 
 // How a file's entering ended, and the offset of the byte where it did.
-#[derive(Drop)]
+#[derive(Clone, Copy)]
 pub struct Ended {
     pub answer: Answer,
     pub offset: usize,
@@ -18,7 +18,7 @@ pub struct Ended {
 }
 
 // How entering stands after a piece, how many bytes are kept in front of the buffer, and whether there is another piece to read.
-#[derive(Drop)]
+#[derive(Clone, Copy)]
 pub struct Piece {
     pub ended: Ended,
     pub kept: usize,

@@ -10,7 +10,7 @@ use crate::piece::{Ended, Piece, enter_piece};
 use lister_page::BYTES;
 
 // The piece as it was entered, and how many bytes of rows were put: none before the last piece.
-#[derive(Drop)]
+#[derive(Clone, Copy)]
 pub struct Turn {
     pub piece: Piece,
     pub rows: usize,

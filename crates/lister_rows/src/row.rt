@@ -6,7 +6,7 @@ ghost use Rattle.lister_rows.specs.Rows.{digits, signed_digits};
 use energy::magnitude::magnitude;
 
 // The longest row has 112 bytes: an L row with counts of ten digits and amounts of 20 bytes. Bytes past the length are zeros.
-#[derive(Drop)]
+#[derive(Clone, Copy)]
 pub struct Row {
     pub bytes: [u8; 128],
     pub len: usize,

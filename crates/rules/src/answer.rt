@@ -1,7 +1,7 @@
 // What a call answers.
 
 // Taken, or refused under a number.
-#[derive(Drop)]
+#[derive(Clone, Copy)]
 pub enum Answer {
     Taken,
     Refused(u8),

@@ -2,7 +2,7 @@
 use commands::entries::Command;
 
 // At a position: a command and the position after it, a refusal (1 or 2), or the end.
-#[derive(Drop)]
+#[derive(Clone, Copy)]
 pub enum Read {
     Got(Command, usize),
     Refused(u8),

@@ -8,7 +8,7 @@ use rules::statement::Statement;
 pub mod prepare;
 
 // The answer, and the statement: zeros where settling is refused.
-#[derive(Drop)]
+#[derive(Clone, Copy)]
 pub struct Settlement {
     pub answer: Answer,
     pub statement: Statement,

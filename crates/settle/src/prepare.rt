@@ -22,7 +22,7 @@ use settle_terms::times::times_of;
 use settle_terms::{Terms, no_terms, terms_of};
 
 // What settling has before the first record is written: the answer without the lines' sums, the number of lines, and what they are calculated from.
-#[derive(Drop)]
+#[derive(Clone, Copy)]
 pub struct Prepared {
     pub settlement: Settlement,
     pub lines: usize,

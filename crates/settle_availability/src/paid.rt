@@ -17,7 +17,7 @@ use settle_live::table::{mark, number_at};
 use settle_terms::minutes::{PLACES, place_of};
 
 // The entries of the windows, and their pence.
-#[derive(Drop)]
+#[derive(Clone, Copy)]
 pub struct Entries {
     pub windows: [Available; 128],
     pub pence: Pence,

@@ -16,7 +16,7 @@ use settle_terms::minutes::{cell_of, place_of};
 use settle_terms::times::{base_from, cease_at, end_of, expiry_of, issue_at, start_of};
 
 // An instruction under way: its times e, cease and f, its base load as the sum of four readings, and whether a live window pays for its ramps.
-#[derive(Drop)]
+#[derive(Clone, Copy)]
 pub struct Active {
     pub expiry: Minutes,
     pub cease: Minutes,
@@ -27,7 +27,7 @@ pub struct Active {
 }
 
 // The segment that comes next: its instruction, from 0, and its first minute; and the sums of the lines before it.
-#[derive(Drop)]
+#[derive(Clone, Copy)]
 pub struct Cursor {
     pub at: usize,
     pub minute: Minutes,
@@ -37,7 +37,7 @@ pub struct Cursor {
 }
 
 // A line, and the cursor after it.
-#[derive(Drop)]
+#[derive(Clone, Copy)]
 pub struct Stepped {
     pub line: Line,
     pub next: Cursor,

@@ -9,7 +9,7 @@ pub mod listed;
 pub mod own;
 
 // A settlement with line memory of its own.
-#[derive(Drop)]
+#[derive(Clone, Copy)]
 pub struct Listing {
     pub settlement: Settlement,
     pub lines: [Line; LISTED_MOST],

@@ -9,7 +9,7 @@ use book::Book;
 use rules::statement::{LINES_MOST, Line};
 use settle::Settlement;
 
-#[derive(Drop)]
+#[derive(Clone, Copy)]
 pub struct Own {
     pub settlement: Settlement,
     pub lines: [Line; LINES_MOST],

@@ -13,7 +13,7 @@ use settle_terms::minutes::{cell_of, place_of};
 use settle_terms::times::{base_from, cease_at, end_of, expiry_of, issue_at, start_of};
 
 // Of the instructions so far: whether all their readings are there, and the number of their segments.
-#[derive(Drop)]
+#[derive(Clone, Copy)]
 pub struct Survey {
     pub complete: bool,
     pub count: usize,

@@ -14,7 +14,7 @@ pub mod minutes;
 pub mod times;
 
 // What a line needs of the contract, and the number of instructions. Its kW and its minutes put into each other's places do not compile: it was tried.
-#[derive(Drop)]
+#[derive(Clone, Copy)]
 pub struct Terms {
     pub kw: Kw,
     pub kind: u8,

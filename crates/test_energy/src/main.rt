@@ -93,7 +93,7 @@ fn rounding_row(n: i64, d: u32) {
     put_rounded(nearest(n, d));
 }
 
-#[derive(Drop)]
+#[derive(Clone, Copy)]
 struct Line {
     expected: Kwh,
     delivered: Kwh,

@@ -16,7 +16,7 @@ use settle_records::listed::blank;
 use settle_records::own::settle_into;
 
 // How many cells, revision bytes and records are lent, and whether what is taken goes unprinted.
-#[derive(Drop)]
+#[derive(Clone, Copy)]
 struct Setting {
     cells: usize,
     revisions: usize,

@@ -16,7 +16,7 @@ use energy::quarters::total;
 use energy::units::Kw;
 
 // What a step answers: taken, or why not.
-#[derive(Drop)]
+#[derive(Clone, Copy)]
 pub enum StepAnswer {
     Taken,
     // a month or totals that are none
@@ -30,7 +30,7 @@ pub enum StepAnswer {
 }
 
 // The answer, and the totals after the step: as they were where it is not taken.
-#[derive(Drop)]
+#[derive(Clone, Copy)]
 pub struct Stepped {
     pub answer: StepAnswer,
     pub totals: Totals,

@@ -19,7 +19,7 @@ const LINE_KWH: u64 = limits::KWH_MOST as u64;
 const LINE_PENCE: u64 = LINE_KWH * limits::RATE_MOST as u64 / 1000;
 
 // All zeros before the first step.
-#[derive(Drop)]
+#[derive(Clone, Copy)]
 pub struct Totals {
     // the last step's instruction, from 1, and its minute
     pub instruction: u32,

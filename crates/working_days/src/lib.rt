@@ -10,7 +10,7 @@ use book::Book;
 use calendar::{Date, is_sunday};
 
 // What is answered of a day: its kind, that the month has no such day, or the refusal's number.
-#[derive(Drop)]
+#[derive(Clone, Copy)]
 pub enum Day {
     Missing,
     Working,

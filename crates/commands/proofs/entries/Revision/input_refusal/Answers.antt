@@ -1,0 +1,9 @@
+-- `commands::entries::Revision::input_refusal` meets its contract.
+use mathlib.Core.Path.{refl}
+use mathlib.Core.Bool.{◌&&◌}
+use Rattle.commands.proofs.Input.{input_picked}
+use Rattle.commands.proofs.entries.Revision.input_refusal.Goals as goal
+
+pub returns : goal.returns
+returns c =
+    input_picked _ c.pick.ensures (λ i. c.byte_from_to.ensures i && c.in_range.ensures i) refl
