@@ -54,7 +54,7 @@ s enters c = λ a. record { setting = s; command = c; answer = a }
 
 -- a setting settles into line memory for n lines
 abbrev pub ◌settles_into◌ : Setting → ℕ → Answer → Settling
-s settles-into n = λ a. record { setting = s; room = n; answer = a }
+s settles_into n = λ a. record { setting = s; room = n; answer = a }
 
 -- bytes are read at a position
 abbrev pub ◌at◌ : List ℕ → ℕ → Read → Finding
@@ -559,42 +559,42 @@ twice =
 -- 24: an open book, the empty one too. 25: base, ramp up, steady and ramp down minutes, and none but these. 26: a line too many
 abbrev pub settlings : List Settling
 settlings =
-    empty settles-into 6 gets Refused 24
-    ∷ begun settles-into 6 gets Refused 24
-    ∷ shut begun settles-into 0 gets Taken
-    ∷ day appendix2 settles-into 7 gets Taken
-    ∷ day appendix2 settles-into 6 gets Taken
-    ∷ day appendix2 settles-into 5 gets Refused 26
-    ∷ day (without 2 appendix2) settles-into 6 gets Refused 25
-    ∷ day (without 3 appendix2) settles-into 6 gets Refused 25
-    ∷ day (without 4 appendix2) settles-into 6 gets Refused 25
-    ∷ day (without 5 appendix2) settles-into 6 gets Refused 25
-    ∷ day (without 19 appendix2) settles-into 6 gets Refused 25
-    ∷ day (without 24 appendix2) settles-into 6 gets Refused 25
-    ∷ day (without 25 appendix2) settles-into 6 gets Refused 25
-    ∷ day (without 84 appendix2) settles-into 6 gets Refused 25
-    ∷ day (without 85 appendix2) settles-into 6 gets Refused 25
-    ∷ day (without 90 appendix2) settles-into 6 gets Refused 25
-    ∷ day (without 1 (without 6 (without 18 (without 91 appendix2)))) settles-into 6 gets Taken
-    ∷ day twice settles-into 6 gets Taken
-    ∷ day (without 0 twice) settles-into 6 gets Refused 25
-    ∷ day (without 28 twice) settles-into 6 gets Refused 25
-    ∷ day (without 29 twice) settles-into 6 gets Refused 25
-    ∷ day (without 46 twice) settles-into 6 gets Refused 25
+    empty settles_into 6 gets Refused 24
+    ∷ begun settles_into 6 gets Refused 24
+    ∷ shut begun settles_into 0 gets Taken
+    ∷ day appendix2 settles_into 7 gets Taken
+    ∷ day appendix2 settles_into 6 gets Taken
+    ∷ day appendix2 settles_into 5 gets Refused 26
+    ∷ day (without 2 appendix2) settles_into 6 gets Refused 25
+    ∷ day (without 3 appendix2) settles_into 6 gets Refused 25
+    ∷ day (without 4 appendix2) settles_into 6 gets Refused 25
+    ∷ day (without 5 appendix2) settles_into 6 gets Refused 25
+    ∷ day (without 19 appendix2) settles_into 6 gets Refused 25
+    ∷ day (without 24 appendix2) settles_into 6 gets Refused 25
+    ∷ day (without 25 appendix2) settles_into 6 gets Refused 25
+    ∷ day (without 84 appendix2) settles_into 6 gets Refused 25
+    ∷ day (without 85 appendix2) settles_into 6 gets Refused 25
+    ∷ day (without 90 appendix2) settles_into 6 gets Refused 25
+    ∷ day (without 1 (without 6 (without 18 (without 91 appendix2)))) settles_into 6 gets Taken
+    ∷ day twice settles_into 6 gets Taken
+    ∷ day (without 0 twice) settles_into 6 gets Refused 25
+    ∷ day (without 28 twice) settles_into 6 gets Refused 25
+    ∷ day (without 29 twice) settles_into 6 gets Refused 25
+    ∷ day (without 46 twice) settles_into 6 gets Refused 25
     -- 15 24 25 26, each with the later ones
-    ∷ lending 1439 (day (agree guide ∷ instructed 5 85 ∷ [])) settles-into 0 gets Refused 15
-    ∷ day (agree guide ∷ instructed 5 85 ∷ []) settles-into 0 gets Refused 24
-    ∷ shut (day (agree guide ∷ instructed 5 85 ∷ [])) settles-into 0 gets Refused 25
-    ∷ lending 1439 (day appendix2) settles-into 6 gets Refused 15
+    ∷ lending 1439 (day (agree guide ∷ instructed 5 85 ∷ [])) settles_into 0 gets Refused 15
+    ∷ day (agree guide ∷ instructed 5 85 ∷ []) settles_into 0 gets Refused 24
+    ∷ shut (day (agree guide ∷ instructed 5 85 ∷ [])) settles_into 0 gets Refused 25
+    ∷ lending 1439 (day appendix2) settles_into 6 gets Refused 15
     ∷ []
 
 -- 15 by the date's month
 abbrev pub dated_settlings : List Settling
 dated_settlings =
-    lending 44699 (shut in_october) settles-into 0 gets Refused 15
-    ∷ shut in_october settles-into 0 gets Taken
-    ∷ lending 44639 (shut in_march) settles-into 0 gets Refused 15
-    ∷ shut in_march settles-into 0 gets Taken
+    lending 44699 (shut in_october) settles_into 0 gets Refused 15
+    ∷ shut in_october settles_into 0 gets Taken
+    ∷ lending 44639 (shut in_march) settles_into 0 gets Refused 15
+    ∷ shut in_march settles_into 0 gets Taken
     ∷ []
 
 -- ---- reading

@@ -6,12 +6,8 @@ use lib.ListN.{get_or-map}
 use Rattle.rules.specs.File.{table, total}
 use Rattle.file_table.specs.Table.{padded, table_row, layout_at}
 use Rattle.rules.proofs.Lists.{get_d_within}
-use Rattle.file_table.proofs.table.row_at.Statement.{statement}
-use Rattle.file_table.proofs.table.row_at.Tie as tie
+use Rattle.file_table.proofs.table.row_at.Goals as goal
 
-returns : tie.Need-returns
+pub returns : goal.returns
 unfolding table total padded table_row layout_at
-returns c = get_d_within (map table_row table) c.before.args.place _ _ c.before.requires ∙ get_or-map table_row table c.before.args.place _
-
-pub row_at_spec : {M : Type 1} → statement M
-row_at_spec = tie.close (tie.spec (λ c. search rules) (λ c. search rules) returns)
+returns c = get_d_within (map table_row table) c.args.place _ _ c.requires ∙ get_or-map table_row table c.args.place _
