@@ -23,7 +23,6 @@ fit c = record {
   fq = c.ranges.q;
   fz = fits_sum w32 c.args.q (pos 120000000) (omega arith);
   by = raised c.args.q 240 500000 (omega arith) (omega arith);
-
 }
 
 pub overflow_add-raised : goal.overflow_add-raised
