@@ -1,11 +1,11 @@
 -- Minutes without a reading, and an hour marked after them: none of them has one.
 use mathlib.Core.Path.{◌≡◌, sym, ap, ◌∙◌}
 use mathlib.Core.Bool.{false}
-use mathlib.Core.Option.{Option, none, some, none-ne-some}
+use mathlib.Core.Option.{none, none-ne-some}
 use Prim.Native.Nat.{ℕ, ◌+◌, ◌-◌, ◌≤◌, ◌<◌}
 use native.Mathlib.Omega.{arith}
 use lib.IntN.{ℤ}
-use lib.ListN.{length, get_or, replicate, length-replicate, get_or-replicate}
+use lib.ListN.{length, replicate, length-replicate, get_or-replicate}
 use Rattle.energy.proofs.Tests.{either, either-le}
 use Rattle.energy.proofs.Puts.{put_before, put_inside}
 use Rattle.commands.specs.Input.{is_reading}

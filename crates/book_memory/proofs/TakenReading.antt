@@ -6,7 +6,7 @@ use Prim.Native.Nat.{ℕ, ◌<◌, zero, suc}
 use lib.Dec.{T, eqb, ltb}
 use borrow.Author.Tests.{ltb-true, not-true, eq-eqb, ne_eqb, eqb-true}
 use Rattle.energy.proofs.Tests.{to-T, on_and, T_and}
-use Rattle.commands.specs.Command.{revised_as, always}
+use Rattle.commands.specs.Command.{revised_as, always, on_revision}
 use Rattle.commands.specs.Input.{from_to, is_reading, in_range, meterable, ramp_too_long, bad_window, no_such_date, input_refusal, most_minute}
 use Rattle.commands.specs.declared.entries.Reading.{Reading}
 use Rattle.commands.specs.declared.entries.Revision.{Revision}
@@ -57,7 +57,11 @@ pub refused_not : (span : ℕ) (m : Memory) (c : Command) (n : ℕ) → input_re
 unfolding takes_reading
 refused_not span m c n e h =
     metered_or_not (λ c. input_refusal c ≡ n → false ≡ takes_reading span m c) (λ r e. rw (e, ne_eqb n 0 h)) (λ v e. rw (e, ne_eqb n 0 h))
-    (λ c r v e. sym (r Bool _ _ ∙ v Bool _ _)) c e
+    (λ c r v e.
+    let plain : Reading → Bool = takes span m (eqb (input_refusal c) 0) 0 in
+    let revised : Revision → Bool = λ w. takes span m (eqb (input_refusal c) 0) w.number w.reading in
+    sym (r Bool plain (on_revision {A = Bool} revised (always false)) ∙ v Bool revised (always false)))
+    c e
 
 -- a revision that is taken has its operands in range
 pub taken_input : (span : ℕ) (m : Memory) (v : Revision) → takes_reading span m (revisionᶜ v) ≡ true → input_refusal (revisionᶜ v) ≡ 0

@@ -1,0 +1,11 @@
+-- `book_sound::ends_of` meets its contract: after each turn one entry more is copied.
+use Prim.Native.Nat.{◌-◌}
+use Rattle.book_sound.proofs.Tables.{Copied}
+use Rattle.book_sound.proofs.Search.{ends_at}
+use Rattle.book_sound.proofs.columns.ends_of.Given as goal
+
+abbrev pub invariant-loop-i : goal.invariant-loop-i
+invariant-loop-i l = Copied ends_at 128 l.windows l.ends l.i
+
+abbrev pub decreases-loop-i : goal.decreases-loop-i
+decreases-loop-i l = 128 - l.i
