@@ -10,7 +10,6 @@ use borrow.Author.Tests.{leb-false, ltb-false}
 use Rattle.commands.specs.Command.{revised_as, always}
 use Rattle.commands.specs.Input.{is_reading, input_refusal}
 use Rattle.commands.specs.declared.entries.Reading.{Reading}
-use Rattle.commands.specs.declared.entries.Command.{Command}
 use Rattle.commands.proofs.ByKind.{revised_not}
 use Rattle.rules.specs.Ledger.{span_in}
 use Rattle.rules.specs.Refusal.{beyond_span}

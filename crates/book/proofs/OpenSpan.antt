@@ -6,14 +6,15 @@ use native.Mathlib.Omega.{arith}
 use lib.Dec.{eqb, leb, ltb}
 use borrow.Author.Tests.{not-true, leb-true, lt-ltb, le-ltb, lt-leb}
 use Rattle.book.specs.Book.{book_span, book_cells}
-use Rattle.commands.specs.Command.{revised_as, always}
+use Rattle.commands.specs.Command.{revised_as, always, on_reading, on_revision, on_metered}
 use Rattle.commands.specs.Input.{input_refusal}
 use Rattle.energy.proofs.Tests.{on_and}
 use Rattle.commands.proofs.Chain.{true_or_false}
-use Rattle.commands.proofs.ByKind.{metered_or_not}
+use Rattle.commands.proofs.ByKind.{Not, metered_or_not}
 use Rattle.commands.specs.declared.entries.Reading.{Reading}
 use Rattle.commands.specs.declared.entries.Command.{Command}
-use Rattle.book_memory.specs.Meter.{put_meter, written_at, takes_reading, Memory, room_in}
+use Rattle.rules.specs.Refusal.{not_above}
+use Rattle.book_memory.specs.Meter.{put_meter, written_at, metered_at, takes_reading, Memory, room_in}
 use Rattle.book.specs.Enter.{Enters, enter_book, taken_as}
 use Rattle.book_refusal.specs.Refusals.{any_refusal, reading_refusal}
 use Rattle.book.specs.Readings.{open_span}
@@ -75,6 +76,16 @@ Entering : Book → Memory → Command → Type 0
 Entering b meter c =
     sound b ≡ true → takes_reading (open_span b (room_in meter)) meter c ≡ true → enter_book b meter c ≡ record { entry = taken_as b; meter = put_meter meter c }
 
+-- it takes readings alone
+neither : {A : Type 0} (f : ℕ → Reading → A) (g : Command → A) (c : Command) → Not (λ A. on_reading) c → Not (λ A. on_revision) c → on_metered f g c ≡ g c
+neither {A} f g c o q = o A (f 0) (on_revision (λ v. f v.number v.reading) g) ∙ q A (λ v. f v.number v.reading) g
+
+none_other : (span : ℕ) (meter : Memory) (c : Command) → Not (λ A. on_reading) c → Not (λ A. on_revision) c → takes_reading span meter c ≡ false
+unfolding takes_reading
+none_other span meter c o q =
+    neither (λ n r. eqb (input_refusal c) 0 && ltb r.minute.0 span && ltb r.minute.0 (room_in meter) && not (not_above n (metered_at meter r.minute.0)))
+    (always false) c o q
+
 pub reading_enters : (b : Book) (meter : Memory) (c : Command) → sound b ≡ true → takes_reading (open_span b (room_in meter)) meter c ≡ true
     → enter_book b meter c ≡ record { entry = taken_as b; meter = put_meter meter c }
 unfolding Entering
@@ -82,4 +93,4 @@ reading_enters b meter =
     metered_or_not (Entering b meter) (λ r s t. enters b meter s 0 r t)
     (λ v s t. subst (Entering b meter) (revision_is v (taken_input (open_span b (room_in meter)) meter v t))
     (λ s t. enters b meter s v.number v.reading t) s t)
-    (λ c o q s t. absurd (false≢true (unfold takes_reading in sym (o _ _ _ ∙ q _ _ (always false)) ∙ t)))
+    (λ c o q s t. absurd (false≢true (sym (none_other (open_span b (room_in meter)) meter c o q) ∙ t)))

@@ -4,21 +4,21 @@
 ghost use Rattle.lister_rows.specs.Row.{Counted};
 
 use energy::units::{Kwh, Pence};
-use libc::STDOUT_FILENO;
 use lister_rows::row::Row;
 use lister_rows::rows::{line_row, refusal_row, totals_row, window_row};
 use rules::statement::{Available, Line, Rate, Stage, Statement};
+use std::io;
 
 const LEAST: i64 = -9223372036854775808;
 
 const MOST: i64 = 9223372036854775807;
 
-fn print(r: Row)
+fn print(rt: &impl Print, r: Row) -> io::Result<()>
     requires { Counted r }
 {
     let bytes = r.bytes;
     let n = r.len;
-    io::write_all(STDOUT_FILENO, &bytes[..n]);
+    rt.write_all(&bytes[..n])
 }
 
 // A line of instruction 1 at the utilisation rate.
@@ -53,18 +53,27 @@ fn totals(capped: i64, utilisation: i64, availability: i64, total: i64) -> State
     }
 }
 
-fn appendix() {
-    print(line_row(line(1, Stage::Up, 600, 500, 500, 15000)));
-    print(line_row(line(1, Stage::Steady, 1000, 1017, 1000, 30000)));
-    print(line_row(line(2, Stage::Steady, 6000, 5750, 5750, 172500)));
-    print(line_row(line(3, Stage::Steady, 5000, 5417, 5000, 150000)));
-    print(line_row(line(3, Stage::Down, 500, 750, 500, 15000)));
-    print(line_row(line(4, Stage::Down, 100, 50, 50, 1500)));
-    print(window_row(1, available(6, 32400)));
-    print(totals_row(totals(12800, 384000, 32400, 416400)));
+fn appendix(rt: &impl Print) -> io::Result<()> {
+    print(rt, line_row(line(1, Stage::Up, 600, 500, 500, 15000)))?;
+    print(
+        rt,
+        line_row(line(1, Stage::Steady, 1000, 1017, 1000, 30000)),
+    )?;
+    print(
+        rt,
+        line_row(line(2, Stage::Steady, 6000, 5750, 5750, 172500)),
+    )?;
+    print(
+        rt,
+        line_row(line(3, Stage::Steady, 5000, 5417, 5000, 150000)),
+    )?;
+    print(rt, line_row(line(3, Stage::Down, 500, 750, 500, 15000)))?;
+    print(rt, line_row(line(4, Stage::Down, 100, 50, 50, 1500)))?;
+    print(rt, window_row(1, available(6, 32400)))?;
+    print(rt, totals_row(totals(12800, 384000, 32400, 416400)))
 }
 
-fn extremes() {
+fn extremes(rt: &impl Print) -> io::Result<()> {
     let least = Line {
         instruction: 4294967295,
         period: 4294967295,
@@ -75,18 +84,18 @@ fn extremes() {
         capped: Kwh(LEAST),
         pence: Pence(LEAST),
     };
-    print(line_row(least));
-    print(line_row(line(0, Stage::Up, MOST, 0, -1, -10)));
-    print(window_row(4294967295, available(4294967295, MOST)));
-    print(window_row(0, available(0, LEAST)));
-    print(totals_row(totals(LEAST, MOST, 0, -9)));
-    print(totals_row(totals(0, 0, 0, 0)));
-    print(refusal_row(24, 0));
-    print(refusal_row(255, 18446744073709551615));
-    print(refusal_row(0, 10));
+    print(rt, line_row(least))?;
+    print(rt, line_row(line(0, Stage::Up, MOST, 0, -1, -10)))?;
+    print(rt, window_row(4294967295, available(4294967295, MOST)))?;
+    print(rt, window_row(0, available(0, LEAST)))?;
+    print(rt, totals_row(totals(LEAST, MOST, 0, -9)))?;
+    print(rt, totals_row(totals(0, 0, 0, 0)))?;
+    print(rt, refusal_row(24, 0))?;
+    print(rt, refusal_row(255, 18446744073709551615))?;
+    print(rt, refusal_row(0, 10))
 }
 
-fn main() {
-    appendix();
-    extremes();
+fn main(rt: HostRuntime) -> io::Result<()> {
+    appendix(&rt)?;
+    extremes(&rt)
 }

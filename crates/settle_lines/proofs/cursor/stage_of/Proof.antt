@@ -1,9 +1,0 @@
--- `settle_lines::cursor::stage_of` meets its contract: the two tests decide. Assumes nothing.
-use borrow.Author.Rules.{rules}
-use borrow.Author.Tests.{lt-ltb, le-ltb}
-use Rattle.settle_lines.proofs.cursor.stage_of.Statement.{statement}
-use Rattle.settle_lines.proofs.cursor.stage_of.Tie as tie
-
-pub stage_of_spec : {M : Type 1} → statement M
-stage_of_spec =
-    tie.close (tie.spec (λ c. search (lt-ltb, le-ltb, rules)) (λ c. search (lt-ltb, le-ltb, rules)) (λ c. search (lt-ltb, le-ltb, rules)))
