@@ -3,7 +3,7 @@ use mathlib.Core.Path.{◌≡◌, refl, sym, ap, ◌∙◌, subst}
 use mathlib.Core.Logic.{◌≢◌}
 use mathlib.Core.Bool.{Bool, true, false, cond, ◌&&◌, true≢false}
 use mathlib.Core.List.{List, []}
-use mathlib.Core.Option.{Option, some}
+use mathlib.Core.Option.{Option}
 use Prim.Native.Nat.{ℕ, zero, suc, ◌+◌, ◌-◌, ◌≤◌, ◌<◌}
 use native.Mathlib.Nat.{zero-add, suc-add}
 use native.Mathlib.Omega.{arith}
@@ -15,13 +15,16 @@ use Rattle.energy.proofs.Tests.{on_and, either, either-le}
 use Rattle.commands.specs.declared.entries.Command.{Command}
 use Rattle.commands.specs.declared.entries.Command.TheVariants.{Reading as readingᶜ, Revision as revisionᶜ}
 use Rattle.commands.specs.declared.entries.Reading.{Reading}
-use Rattle.commands.specs.Command.{always}
+use Rattle.commands.specs.declared.entries.Revision.{Revision}
+use Rattle.commands.specs.Command.{always, on_revision}
+use Rattle.commands.specs.Input.{input_refusal}
 use Rattle.commands.proofs.ByKind.{metered_or_not}
 use Rattle.rules.specs.File.{table, widths_of, total, operands, byte_of, read_at}
 use Rattle.rules.specs.declared.file.Read.{Read}
 use Rattle.rules.specs.declared.file.Read.TheVariants.{Got, End, Refused as refusedʳ}
 use Rattle.book_memory.specs.Meter.{put_meter, written_at, takes_reading, Memory, room_in}
 use Rattle.book_memory.proofs.Lengths.{written_room}
+use Rattle.book_memory.proofs.TakenReading.{takes}
 use Rattle.file_read.proofs.Finds.{Found, ended, unknown, short, entire, found}
 use Rattle.file_read.proofs.Steps.{got_within, byte_back}
 use Rattle.file_readings.specs.Run.{Stand, stand_by, stand_at, stands, Still, Run, stands_whole}
@@ -143,7 +146,10 @@ module _ (span : ℕ) (s : List ℕ) (at : ℕ) (meter : Memory) where
   unfolding takes_reading
   other_byte =
       metered_or_not (λ c. byte_of c ≢ 0x4D → byte_of c ≢ 0x52 → Left c) (λ r p q. absurd (p refl)) (λ v p q. absurd (q refl))
-      (λ c r v p q. r _ _ _ ∙ v _ _ (always false))
+      (λ c r v p q.
+      let plain : Reading → Bool = takes span meter (eqb (input_refusal c) 0) 0 in
+      let revised : Revision → Bool = λ w. takes span meter (eqb (input_refusal c) 0) w.number w.reading in
+      r Bool plain (on_revision {A = Bool} revised (always false)) ∙ v Bool revised (always false))
 
   -- a command that is there whole has another byte than one that does not stand there whole
   not_whole : (byte n : ℕ) (ws : List ℕ) → stands_whole s at byte n ≡ false → at < length s → 1 + total ws ≤ length s - at

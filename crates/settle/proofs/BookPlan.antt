@@ -9,12 +9,11 @@ use native.Mathlib.Omega.{arith}
 use lib.IntN.{ℤ, pos, negsuc}
 use lib.ListN.{length, get_or}
 use lib.Seq.{get_or-take, length-take-le}
-use lib.Signed.{le_z}
 use borrow.Author.Tests.{lt-ltb}
 use Rattle.energy.specs.Energy.{cell}
-use Rattle.energy.specs.Lists.{all, first, is_some, run, between}
+use Rattle.energy.specs.Lists.{all, first, is_some, between}
 use Rattle.energy.specs.Number.{down, Upto, Within}
-use Rattle.energy.proofs.Integers.{le_z-true, le_z_yes}
+use Rattle.energy.proofs.Integers.{le_z_yes}
 use Rattle.energy.proofs.Sums.{all_in}
 use Rattle.energy.proofs.Tests.{on_and}
 use Rattle.commands.proofs.Terms.{reading_within}

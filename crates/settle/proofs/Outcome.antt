@@ -18,7 +18,7 @@ use Rattle.energy.proofs.Rounding.{half_up}
 use Rattle.commands.specs.Input.{kw_of}
 use Rattle.rules.specs.Ledger.{Ledger}
 use Rattle.rules.specs.Segment.{live, complete, segments}
-use Rattle.rules.specs.Statement.{lines, period_exact, period_pence, statement_of}
+use Rattle.rules.specs.Statement.{period_exact, period_pence, statement_of}
 use Rattle.commands.specs.declared.contract.Contract.{Contract}
 use Rattle.commands.specs.declared.entries.Instruction.{Instruction}
 use Rattle.rules.specs.declared.statement.Statement.{Statement}

@@ -10,7 +10,7 @@ use lib.ListN.{length, take, length-append}
 use lib.Seq.{take-suc, take-length}
 use Rattle.energy.specs.Lists.{all, concat_map, between, is_some}
 use Rattle.energy.proofs.Sums.{all_append, all_ext}
-use Rattle.rules.specs.Ledger.{Ledger, contract_of, span_in, expiry}
+use Rattle.rules.specs.Ledger.{Ledger, contract_of, span_in}
 use Rattle.rules.specs.Segment.{base_minutes, active, needed, complete, segments_of, segments_from, segments}
 use Rattle.commands.specs.declared.contract.Contract.{Contract}
 use Rattle.commands.specs.declared.entries.Instruction.{Instruction}

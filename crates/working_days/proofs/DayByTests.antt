@@ -1,6 +1,6 @@
 -- The kind of a day from what the code asks: whether there is a date, whether the month has the day, whether it is off.
 use mathlib.Core.Path.{◌≡◌, refl, sym, ◌∙◌}
-use mathlib.Core.Bool.{Bool, true, false, not, ◌&&◌, ◌||◌, cond}
+use mathlib.Core.Bool.{Bool, true, false, ◌&&◌, ◌||◌, cond}
 use mathlib.Core.List.{List, [], ◌∷◌}
 use Prim.Native.Nat.{ℕ, ◌≤◌}
 use native.Mathlib.Omega.{arith}
@@ -11,7 +11,6 @@ use Rattle.calendar.specs.Calendar.{is_no_date}
 use Rattle.calendar.specs.declared.Date.{Date}
 use Rattle.commands.specs.Input.{from_to}
 use Rattle.working_days.specs.Days.{is_off, day_kind}
-use Rattle.working_days.specs.declared.Day.{Day}
 use Rattle.working_days.specs.declared.Day.TheVariants.{Missing, Working, NonWorking}
 
 -- a day before the first or after the last is none of the month's

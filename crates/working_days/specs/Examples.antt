@@ -1,5 +1,5 @@
 -- Proved of the rules: days by example.
-use Rattle.std.specs.Prelude.{◌≡◌, List, [], ◌∷◌, ℕ}
+use Rattle.std.specs.Prelude.{◌≡◌, [], ◌∷◌, ℕ}
 use Rattle.rules.specs.Ledger.{ledger_of}
 use Rattle.rules.specs.Dates.{march, october, lasting}
 use Rattle.working_days.specs.Days.{day_in}
