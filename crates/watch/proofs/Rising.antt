@@ -7,7 +7,7 @@ use native.Mathlib.Nat.{le_of_eq}
 use native.Mathlib.Omega.{arith}
 use lib.Dec.{eqb}
 use lib.IntN.{ℤ, pos, ◌+ℤ◌}
-use lib.ListN.{length, length-replicate, replicate, take}
+use lib.ListN.{length-replicate, replicate, take}
 use lib.Signed.{◌≤ℤ◌}
 use Rattle.energy.specs.Energy.{capped, kwh, payment}
 use Rattle.energy.proofs.Integers.{add_parts, arith_ℤ}

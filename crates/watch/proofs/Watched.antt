@@ -5,7 +5,7 @@ use mathlib.Core.List.{List, [], ◌∷◌, ◌++◌}
 use Prim.Native.Nat.{ℕ, suc, ◌+◌, ◌*◌, ◌/◌, ◌≤◌, ◌<◌, zero-le}
 use native.Mathlib.Omega.{arith}
 use lib.Dec.{eqb}
-use lib.IntN.{◌+ℤ◌, +ℤ_idl}
+use lib.IntN.{+ℤ_idl}
 use lib.ListN.{length, drop, get_or, length-append, get_or-append}
 use lib.Seq.{take-length}
 use borrow.Author.Tests.{le-ltb, lt-ltb}
@@ -26,7 +26,6 @@ use Rattle.rules.proofs.OneRate.{same_live, whole}
 use Rattle.rules.proofs.Reached.{parts_of, reached, terms_of_lem}
 use Rattle.book_memory.specs.Meter.{Memory, lent}
 use Rattle.book.specs.Book.{empty_book, ledger_in, put_all}
-use Rattle.book.specs.Sound.{sound}
 use Rattle.book.specs.declared.Book.{Book}
 use Rattle.book.proofs.FromCommands.{Leads, leads}
 use Rattle.watch_step.specs.Month.{month_numbers, month_periods, live_at}

@@ -1,5 +1,5 @@
 -- Proved of the rules: live totals by example: where sums begin anew, when a line is counted, whose base load it is and at which rate it pays.
-use Rattle.std.specs.Prelude.{◌≡◌, [], ◌∷◌, ◌++◌, ℕ, ℤ, pos, length, replicate, set}
+use Rattle.std.specs.Prelude.{◌≡◌, ◌∷◌, ◌++◌, ℕ, ℤ, pos, length, replicate, set}
 use Rattle.rules.specs.Delivered.{touching}
 use Rattle.rules.specs.Examples.{agree, guide, service, flexible, accepted, rejected, offer, instructed, readings_from, minus}
 use Rattle.rules.specs.Examples.{appendix2, appendix3, ledger, two_days}

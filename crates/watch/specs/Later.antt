@@ -3,7 +3,7 @@
 use Rattle.std.specs.Prelude.{◌≡◌, List, ◌++◌, ℕ, suc, ◌≤◌, ℤ, length}
 use Rattle.commands.specs.declared.entries.Command.{Command}
 use Rattle.commands.specs.declared.entries.Instruction.{Instruction}
-use Rattle.rules.specs.Ledger.{Ledger, ledger_of}
+use Rattle.rules.specs.Ledger.{ledger_of}
 use Rattle.rules.specs.Lines.{Active}
 use Rattle.rules.specs.Refusal.{taken}
 use Rattle.book.specs.Book.{empty_book, put_all}
