@@ -14,7 +14,6 @@ use Rattle.rules.specs.File.{file_of}
 use Rattle.rules.specs.declared.answer.Answer.TheVariants.{Taken}
 use Rattle.rules.proofs.DatesTaken.{dates_taken}
 use Rattle.book.specs.Book.{empty_book, book_span, book_cells, ledger_in, put_all}
-use Rattle.book.specs.Sound.{sound}
 use Rattle.book.proofs.FromCommands.{leads, Leads}
 use Rattle.book.proofs.Month.{cells_sound}
 use Rattle.file_write.specs.Write.{write_conditions, write_book}
