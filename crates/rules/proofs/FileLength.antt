@@ -25,6 +25,7 @@ use Rattle.commands.specs.declared.entries.Command.{Command}
 use Rattle.commands.specs.declared.entries.Command.TheVariants.{Contract as contractᶜ, Date as dateᶜ, Window as windowᶜ, Instruction as instructionᶜ}
 use Rattle.commands.specs.declared.entries.Command.TheVariants.{Default as defaultᶜ, Reading as readingᶜ, Revision as revisionᶜ}
 use Rattle.commands.specs.declared.entries.Command.TheVariants.{Close as closeᶜ}
+use Rattle.rules.proofs.AboveHeld.{above_held}
 use Rattle.rules.proofs.Reached.{step as keeps, start, bare}
 use Rattle.rules.proofs.Operands.{write_long}
 use Rattle.rules.proofs.Span.{span_cells, cells_none}
@@ -106,7 +107,7 @@ plain_falls (some x) e = absurd (false≢true (sym e))
 
 revision_falls : (n : ℕ) (o : Option Metered) → 1 ≤ n → n ≤ 255 → not_above n o ≡ false → 8 + 8 * (255 - n) ≤ left o
 revision_falls n none l m e = omega arith
-revision_falls n (some x) l m e = omega (arith, leb-false n x.revision e)
+revision_falls n (some x) l m e = omega (arith, above_held n x e)
 
 step : (size : ℕ) (g : Ledger) (c : Command) → span_in g ≤ size → Allowed size g c → length (write c) + room size (grown g c) ≤ room size g
 unfolding room later table widths_of total

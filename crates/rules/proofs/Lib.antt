@@ -24,6 +24,7 @@ pub mod Bounds
 pub mod Floor
 pub mod Operands
 pub mod Reread
+pub mod AboveHeld
 pub mod FileLength
 pub mod Rewritten
 pub mod Folds

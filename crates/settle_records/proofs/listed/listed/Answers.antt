@@ -1,7 +1,6 @@
 -- `settle_records::listed::listed` meets its contract: of the records that `settle_into` hands back, those lent are copied, one more each turn.
 use mathlib.Core.Path.{◌≡◌, sym, ap, ◌∙◌}
 use mathlib.Core.List.{List}
-use Prim.Native.Nat.{◌-◌, ◌≤◌}
 use native.Mathlib.Numerals.{add-one}
 use native.Mathlib.Omega.{arith}
 use lib.ListN.{length, take, replicate, length-append, length-replicate}
@@ -16,24 +15,23 @@ use Rattle.settle.specs.Settle.{Settled, settle_book}
 use Rattle.settle_records.specs.Listed.{no_line, list_book}
 use Rattle.settle_records.specs.Own.{own_book}
 use Rattle.settle_records.specs.declared.own.Own.{Own}
-use Rattle.settle_records.proofs.listed.listed.Statement.{statement}
+use Rattle.settle_records.proofs.listed.listed.Goals as goal
+use Rattle.settle_records.proofs.listed.listed.Lts as lts
+use Rattle.settle_records.proofs.listed.listed.Reads as reads
 use Rattle.settle_records.proofs.listed.listed.Tie as tie
 
-abbrev invariant-loop : tie.invariant-loop
-invariant-loop meter revisions settlement made lines₀ i₀ lines i = (i ≤ 719) × (length lines ≡ 719) × (take i lines ≡ take i made)
-
-abbrev decreases-loop : tie.decreases-loop
-decreases-loop meter revisions settlement made lines₀ i₀ lines i = 719 - i
+abbrev After-settle_into-own : Type 0
+After-settle_into-own = lts.After-settle_into tie.the-claims reads.Pre reads.Post goal.the-invariant-loop-i goal.the-decreases-loop-i
 
 -- how many records are handed back
-made-size : (k : tie.After-settle-into invariant-loop decreases-loop) → length k.settle-into.result.lines ≡ most_lines
+made-size : (k : After-settle_into-own) → length k.settle_into-own.result.lines ≡ most_lines
 made-size k = search (length_mapped, rules)
 
-loop-again : tie.Need-loop-preserved invariant-loop decreases-loop
-loop-again c =
-    let l = c.before.before.loop in
-    let k = c.before.before.before.before.before.before in
-    let made : List Line = k.settle-into.result.lines in (
+pub loop-i-preserved : goal.loop-i-preserved
+loop-i-preserved c =
+    let l = c.loop-i in
+    let k = c.before.before.before.before.before.before.before in
+    let made : List Line = k.settle_into-own.result.lines in (
       omega arith,
       search rules,
       rw (add-one l.i, take-suc-set l.lines l.i _ (omega arith), take-suc made l.i no_line (omega (arith, made-size k)), l.invariant.2),
@@ -51,16 +49,10 @@ front b meter own lines made long size same =
     sym (take_all 719 lines (omega arith)) ∙ same ∙ ap (λ (o : Own). take 719 o.lines) made ∙ take_at s.memory _ 719 lent in
     λ i. record { settlement = (made i).settlement; lines = is i }
 
-returns : tie.Need-returns invariant-loop decreases-loop
+pub returns : goal.returns
 returns c =
-    let l = c.before.loop in
-    let k = c.before.before.before.before.before in
+    let l = c.loop-i in
+    let k = c.before.before.before.before.before.before in
     let end : l.i ≡ 719 = omega arith in
-    let made = rw k.before.blank.ensures at k.settle-into.ensures in
-    front _ _ k.settle-into.result l.lines made (made-size k) l.invariant.1 (rw end at l.invariant.2)
-
-pub listed_spec : {M : Type 1} → statement M
-listed_spec =
-    tie.close
-    (tie.spec invariant-loop decreases-loop (λ c κs. search rules) (λ c κs. search rules) (λ c. search rules) (λ c. search rules) (λ c. search rules)
-    (λ c. search rules) (λ c. search rules) (λ c. search rules) (λ c. search rules) (λ c. search rules) loop-again returns)
+    let made = rw k.blank.ensures at k.settle_into-own.ensures in
+    front _ _ k.settle_into-own.result l.lines made (made-size k) l.invariant.1 (rw end at l.invariant.2)
