@@ -2,17 +2,22 @@
 use crate::print::{print_number, print_text};
 use book::Entry;
 use rules::answer::Answer;
+use std::io;
 
-fn print_flag(b: bool) {
-    if b { print_number(1) } else { print_number(0) }
+fn print_flag(rt: &impl Print, b: bool) -> io::Result<()> {
+    if b {
+        print_number(rt, 1)
+    } else {
+        print_number(rt, 0)
+    }
 }
 
-fn print_answer(a: Answer) {
+fn print_answer(rt: &impl Print, a: Answer) -> io::Result<()> {
     match a {
-        Answer::Taken => print_text(b": taken"),
+        Answer::Taken => print_text(rt, b": taken"),
         Answer::Refused(n) => {
-            print_text(b":");
-            print_number(n as u64);
+            print_text(rt, b":")?;
+            print_number(rt, n as u64)
         }
     }
 }
@@ -25,20 +30,20 @@ fn is_taken(a: Answer) -> bool {
 }
 
 // A line with its answer, and of the book after it: contract, windows, instructions, defaults, closed. Where it is quiet, only a refusal.
-pub(crate) fn print_entry(line: &[u8], e: Entry, quiet: bool) {
+pub(crate) fn print_entry(rt: &impl Print, line: &[u8], e: Entry, quiet: bool) -> io::Result<()> {
     let a = e.answer;
     if quiet & is_taken(a) {
-        return;
+        return Ok(());
     }
-    print_text(line);
-    print_answer(a);
-    print_text(b" /");
-    print_flag(e.book.agreed);
-    print_number(e.book.nwindows as u64);
-    print_number(e.book.ninstructions as u64);
-    print_number(e.book.ndefaults as u64);
-    print_flag(e.book.closed);
-    print_text(b"\n");
+    print_text(rt, line)?;
+    print_answer(rt, a)?;
+    print_text(rt, b" /")?;
+    print_flag(rt, e.book.agreed)?;
+    print_number(rt, e.book.nwindows as u64)?;
+    print_number(rt, e.book.ninstructions as u64)?;
+    print_number(rt, e.book.ndefaults as u64)?;
+    print_flag(rt, e.book.closed)?;
+    print_text(rt, b"\n")
 }
 
 // A number from 0, and 0 of one below.
@@ -50,24 +55,22 @@ fn natural(kw: i32) -> u64 {
 }
 
 // A cell of meter memory: "marked", "negative", or its kW from 0.
-fn print_cell(kw: i32) {
+fn print_cell(rt: &impl Print, kw: i32) -> io::Result<()> {
     if kw == -2147483648 {
-        print_text(b": marked");
-        return;
+        return print_text(rt, b": marked");
     }
     if kw < 0 {
-        print_text(b": negative");
-        return;
+        return print_text(rt, b": negative");
     }
-    print_text(b":");
-    print_number(natural(kw));
+    print_text(rt, b":")?;
+    print_number(rt, natural(kw))
 }
 
 // A line with a minute's cell and its revision byte.
-pub(crate) fn print_minute(line: &[u8], kw: i32, revision: u8) {
-    print_text(line);
-    print_cell(kw);
-    print_text(b" /");
-    print_number(revision as u64);
-    print_text(b"\n");
+pub(crate) fn print_minute(rt: &impl Print, line: &[u8], kw: i32, revision: u8) -> io::Result<()> {
+    print_text(rt, line)?;
+    print_cell(rt, kw)?;
+    print_text(rt, b" /")?;
+    print_number(rt, revision as u64)?;
+    print_text(rt, b"\n")
 }

@@ -5,6 +5,7 @@ use crate::cells::at_most;
 use crate::print::{print_number, print_text};
 use crate::text::{further_numbers, u32_after};
 use book::Book;
+use std::io;
 use working_days::{Day, day_of};
 
 // The most holidays that a line tells.
@@ -29,28 +30,28 @@ fn told(line: &[u8], holidays: &[u32]) -> usize
 }
 
 // A line with the kind of its day.
-fn print_day(line: &[u8], d: Day) {
-    print_text(line);
+fn print_day(rt: &impl Print, line: &[u8], d: Day) -> io::Result<()> {
+    print_text(rt, line)?;
     match d {
-        Day::Missing => print_text(b": no such day"),
-        Day::Working => print_text(b": working"),
-        Day::NonWorking => print_text(b": non-working"),
+        Day::Missing => print_text(rt, b": no such day")?,
+        Day::Working => print_text(rt, b": working")?,
+        Day::NonWorking => print_text(rt, b": non-working")?,
         Day::Refused(n) => {
-            print_text(b":");
-            print_number(n as u64);
+            print_text(rt, b":")?;
+            print_number(rt, n as u64)?;
         }
     }
-    print_text(b"\n");
+    print_text(rt, b"\n")
 }
 
 // A line with the kind of its day, where the holidays that it tells are the first of these.
-fn show_kind(b: Book, line: &[u8], holidays: &[u32]) {
+fn show_kind(rt: &impl Print, b: Book, line: &[u8], holidays: &[u32]) -> io::Result<()> {
     let n = told(line, holidays);
-    print_day(line, day_of(b, u32_after(line, 1), &holidays[..n]));
+    print_day(rt, line, day_of(b, u32_after(line, 1), &holidays[..n]))
 }
 
 // A line with the kind of its day of a book's month.
-pub(crate) fn show_day(b: Book, line: &[u8]) {
+pub(crate) fn show_day(rt: &impl Print, b: Book, line: &[u8]) -> io::Result<()> {
     let holidays = holidays_of(line);
-    show_kind(b, line, &holidays);
+    show_kind(rt, b, line, &holidays)
 }

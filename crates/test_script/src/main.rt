@@ -20,6 +20,8 @@
 // An empty line, and one that starts with #, is printed as it stands.
 #![tactic(auto)]
 
+ghost use Rattle.std.specs.Prelude.{◌≤◌, length};
+
 mod answers;
 mod cells;
 mod change;
@@ -33,11 +35,29 @@ mod statement;
 mod text;
 
 use crate::run::run_script;
+use std::io;
+use std::io::Read;
 
-fn main() {
-    let mut script = io::large_buffer();
-    let n = io::read_full(libc::STDIN_FILENO, &mut script);
+// Reads until the buffer is full, the input ends or a read fails; how many bytes it put in front.
+fn read_full(input: &mut impl Read, buffer: &mut [u8]) -> usize
+    ensures { result ≤ length buffer.new }
+{
+    let mut done = 0;
+    while done < buffer.len() {
+        let n = input.read(&mut buffer[done..]).unwrap_or(0);
+        if n == 0 {
+            break;
+        }
+        done += n;
+    }
+    done
+}
+
+fn main(rt: HostRuntime) -> io::Result<()> {
+    let mut script = [0u8; 65536];
+    let mut input = rt.stdin();
+    let n = read_full(&mut input, &mut script);
     let mut meter = [0i32; 44700];
     let mut revisions = [0u8; 44700];
-    run_script(&script[..n], &mut meter, &mut revisions);
+    run_script(&rt, &script[..n], &mut meter, &mut revisions)
 }

@@ -14,6 +14,7 @@ use book_memory::room::room_of;
 use rules::statement::{LINES_MOST, LISTED_MOST};
 use settle_records::listed::blank;
 use settle_records::own::settle_into;
+use std::io;
 
 // How many cells, revision bytes and records are lent, and whether what is taken goes unprinted.
 #[derive(Clone, Copy)]
@@ -67,13 +68,14 @@ fn entered(
 
 // The book after a command.
 fn enter(
+    rt: &impl Print,
     b: Book,
     s: Setting,
     letter: u8,
     line: &[u8],
     meter: &mut [i32],
     revisions: &mut [u8],
-) -> Book {
+) -> io::Result<Book> {
     let n = lent(meter, s.cells);
     let m = lent_bytes(revisions, s.revisions);
     let e = entered(
@@ -84,57 +86,85 @@ fn enter(
         &mut meter[..n],
         &mut revisions[..m],
     );
-    print_entry(line, e, s.quiet);
-    e.book
+    print_entry(rt, line, e, s.quiet)?;
+    Ok(e.book)
 }
 
 // The empty book, over cells that all hold a kW and revision bytes that hold anything.
-fn restart(quiet: bool, line: &[u8], meter: &mut [i32], revisions: &mut [u8]) -> Book {
+fn restart(
+    rt: &impl Print,
+    quiet: bool,
+    line: &[u8],
+    meter: &mut [i32],
+    revisions: &mut [u8],
+) -> io::Result<Book> {
     let cells = meter.len();
     put_each(meter, 0, cells, 1, kw_of(i64_after(line, 2)));
     let bytes = revisions.len();
     put_bytes(revisions, 0, bytes, 1, UNWRITTEN);
     if !quiet {
-        print_line(line);
+        print_line(rt, line)?;
     }
-    Book::empty()
+    Ok(Book::empty())
 }
 
 // The book after a line.
 fn book_after(
+    rt: &impl Print,
     b: Book,
     s: Setting,
     letter: u8,
     line: &[u8],
     meter: &mut [i32],
     revisions: &mut [u8],
-) -> Book {
+) -> io::Result<Book> {
     match letter {
         b'C' | b'Y' | b'W' | b'I' | b'D' | b'M' | b'V' | b'Z' => enter(
-            b, s, letter, line, meter, revisions,
+            rt, b, s, letter, line, meter, revisions,
         ),
-        b'e' => restart(s.quiet, line, meter, revisions),
-        b'b' | b'w' | b'i' | b'd' => changed(b, letter, line),
-        _ => b,
+        b'e' => restart(rt, s.quiet, line, meter, revisions),
+        b'b' | b'w' | b'i' | b'd' => Ok(changed(b, letter, line)),
+        _ => Ok(b),
     }
 }
 
 // A settlement into the records lent.
-fn settle_lent(b: Book, s: Setting, line: &[u8], meter: &[i32], revisions: &[u8]) {
+fn settle_lent(
+    rt: &impl Print,
+    b: Book,
+    s: Setting,
+    line: &[u8],
+    meter: &[i32],
+    revisions: &[u8],
+) -> io::Result<()> {
     let n = lent(meter, s.cells);
     let m = lent_bytes(revisions, s.revisions);
     let records = at_most(s.records, LINES_MOST);
     let before = mark();
     let month = settle_into(b, &meter[..n], &revisions[..m], records, before);
-    print_month(month, b.nwindows, u16_after(line, 1), records, before);
+    print_month(rt, month, b.nwindows, u16_after(line, 1), records, before)
 }
 
 // A settlement into records of its own.
-fn settle_own(b: Book, s: Setting, line: &[u8], meter: &[i32], revisions: &[u8]) {
+fn settle_own(
+    rt: &impl Print,
+    b: Book,
+    s: Setting,
+    line: &[u8],
+    meter: &[i32],
+    revisions: &[u8],
+) -> io::Result<()> {
     let n = lent(meter, s.cells);
     let m = lent_bytes(revisions, s.revisions);
     let month = settle_listed(b, &meter[..n], &revisions[..m]);
-    print_month(month, b.nwindows, u16_after(line, 1), LISTED_MOST, blank());
+    print_month(
+        rt,
+        month,
+        b.nwindows,
+        u16_after(line, 1),
+        LISTED_MOST,
+        blank(),
+    )
 }
 
 fn put_cells(line: &[u8], meter: &mut [i32]) {
@@ -159,41 +189,61 @@ fn put_numbers(line: &[u8], revisions: &mut [u8]) {
     );
 }
 
-fn show_minute(line: &[u8], meter: &[i32], revisions: &[u8]) {
+fn show_minute(rt: &impl Print, line: &[u8], meter: &[i32], revisions: &[u8]) -> io::Result<()> {
     let at = usize_after(line, 1);
-    print_minute(line, cell_at(meter, at), byte_at(revisions, at));
+    print_minute(rt, line, cell_at(meter, at), byte_at(revisions, at))
 }
 
 // What a line asks for that leaves the book as it is.
-fn run_line(b: Book, s: Setting, letter: u8, line: &[u8], meter: &mut [i32], revisions: &mut [u8]) {
-    match letter {
-        b'm' => put_cells(line, meter),
-        b'v' => put_numbers(line, revisions),
-        b'g' => show_minute(line, meter, revisions),
-        b'y' => show_day(b, line),
-        b's' => settle_lent(b, s, line, meter, revisions),
-        b'o' => settle_own(b, s, line, meter, revisions),
-        b'#' => print_line(line),
-        _ => {}
-    }
-}
-
-// A line done: the book after it.
-fn after_line(
+fn run_line(
+    rt: &impl Print,
     b: Book,
     s: Setting,
     letter: u8,
     line: &[u8],
     meter: &mut [i32],
     revisions: &mut [u8],
-) -> Book {
-    let after = book_after(b, s, letter, line, meter, revisions);
-    run_line(after, s, letter, line, meter, revisions);
-    after
+) -> io::Result<()> {
+    match letter {
+        b'm' => {
+            put_cells(line, meter);
+            Ok(())
+        }
+        b'v' => {
+            put_numbers(line, revisions);
+            Ok(())
+        }
+        b'g' => show_minute(rt, line, meter, revisions),
+        b'y' => show_day(rt, b, line),
+        b's' => settle_lent(rt, b, s, line, meter, revisions),
+        b'o' => settle_own(rt, b, s, line, meter, revisions),
+        b'#' => print_line(rt, line),
+        _ => Ok(()),
+    }
+}
+
+// A line done: the book after it.
+fn after_line(
+    rt: &impl Print,
+    b: Book,
+    s: Setting,
+    letter: u8,
+    line: &[u8],
+    meter: &mut [i32],
+    revisions: &mut [u8],
+) -> io::Result<Book> {
+    let after = book_after(rt, b, s, letter, line, meter, revisions)?;
+    run_line(rt, after, s, letter, line, meter, revisions)?;
+    Ok(after)
 }
 
 // Every line of a script.
-pub(crate) fn run_script(text: &[u8], meter: &mut [i32], revisions: &mut [u8]) {
+pub(crate) fn run_script(
+    rt: &impl Print,
+    text: &[u8],
+    meter: &mut [i32],
+    revisions: &mut [u8],
+) -> io::Result<()> {
     let mut setting = Setting {
         cells: 0,
         revisions: 0,
@@ -209,7 +259,7 @@ pub(crate) fn run_script(text: &[u8], meter: &mut [i32], revisions: &mut [u8]) {
         let line = &text[at..end];
         let letter = letter_of(line);
         setting = set(setting, letter, line);
-        book = after_line(book, setting, letter, line, meter, revisions);
+        book = after_line(rt, book, setting, letter, line, meter, revisions)?;
         if letter == b'k' {
             kept = book;
         }
@@ -218,4 +268,5 @@ pub(crate) fn run_script(text: &[u8], meter: &mut [i32], revisions: &mut [u8]) {
         }
         at = next;
     }
+    Ok(())
 }

@@ -8,13 +8,14 @@ use lister_rows::rows::{line_row, totals_row, window_row};
 use rules::answer::Answer;
 use rules::statement::{Available, LINES_MOST, Line, Rate, Stage};
 use settle_records::own::Own;
+use std::io;
 
-fn print_row(r: Row)
+fn print_row(rt: &impl Print, r: Row) -> io::Result<()>
     requires { Counted r }
 {
     let bytes = r.bytes;
     let n = r.len;
-    print_text(&bytes[..n]);
+    print_text(rt, &bytes[..n])
 }
 
 // Whether a place is a multiple of the step. No place is one of 0.
@@ -26,28 +27,30 @@ fn falls_on(place: usize, step: u16) -> bool {
 }
 
 // Of the first n records, the first and each `step` on.
-fn print_lines(lines: [Line; LINES_MOST], n: usize, step: u16) {
+fn print_lines(rt: &impl Print, lines: [Line; LINES_MOST], n: usize, step: u16) -> io::Result<()> {
     let mut i = 0;
     while i < LINES_MOST {
         if (i < n) & falls_on(i, step) {
             let l = lines[i];
-            print_row(line_row(l));
+            print_row(rt, line_row(l))?;
         }
         i += 1;
     }
+    Ok(())
 }
 
 // The entries of the first n windows.
-fn print_windows(windows: [Available; 128], n: usize) {
+fn print_windows(rt: &impl Print, windows: [Available; 128], n: usize) -> io::Result<()> {
     let mut i: u32 = 0;
     while i < 128 {
         let at = i as usize;
         if at < n {
             let a = windows[at];
-            print_row(window_row(i + 1, a));
+            print_row(rt, window_row(i + 1, a))?;
         }
         i += 1;
     }
+    Ok(())
 }
 
 fn stage_place(s: Stage) -> u8 {
@@ -108,7 +111,7 @@ fn windows_printed(nwindows: usize, step: u16) -> usize {
 }
 
 // The rows of a statement, or of a refusal.
-fn print_statement(m: Own, nwindows: usize, step: u16) {
+fn print_statement(rt: &impl Print, m: Own, nwindows: usize, step: u16) -> io::Result<()> {
     let s = m.settlement;
     let lines = m.lines;
     let t = s.statement;
@@ -116,26 +119,33 @@ fn print_statement(m: Own, nwindows: usize, step: u16) {
     let a = s.answer;
     match a {
         Answer::Taken => {
-            print_lines(lines, t.lines, step);
-            print_windows(windows, windows_printed(nwindows, step));
-            print_row(totals_row(t));
+            print_lines(rt, lines, t.lines, step)?;
+            print_windows(rt, windows, windows_printed(nwindows, step))?;
+            print_row(rt, totals_row(t))
         }
         Answer::Refused(n) => {
-            print_text(b"R");
-            print_number(n as u64);
-            print_text(b"\n");
+            print_text(rt, b"R")?;
+            print_number(rt, n as u64)?;
+            print_text(rt, b"\n")
         }
     }
 }
 
 // A settlement into so many records, each of which held `before`.
-pub(crate) fn print_month(m: Own, nwindows: usize, step: u16, records: usize, before: Line) {
-    print_statement(m, nwindows, step);
+pub(crate) fn print_month(
+    rt: &impl Print,
+    m: Own,
+    nwindows: usize,
+    step: u16,
+    records: usize,
+    before: Line,
+) -> io::Result<()> {
+    print_statement(rt, m, nwindows, step)?;
     let s = m.settlement;
     let lines = m.lines;
-    print_text(b"K");
-    print_number(records as u64);
-    print_number(s.statement.lines as u64);
-    print_number(kept(lines, records, before));
-    print_text(b"\n");
+    print_text(rt, b"K")?;
+    print_number(rt, records as u64)?;
+    print_number(rt, s.statement.lines as u64)?;
+    print_number(rt, kept(lines, records, before))?;
+    print_text(rt, b"\n")
 }

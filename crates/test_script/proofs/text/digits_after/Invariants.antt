@@ -1,0 +1,10 @@
+-- The place stays within the line, where `number_start` puts it, and falls short of its end by less each turn. That the digits fit is
+-- `with_digit`'s.
+use Rattle.std.proofs.Common.{length, ◌≤◌, ◌-◌}
+use Rattle.test_script.proofs.text.digits_after.Given as goal
+
+abbrev pub invariant-loop-at : goal.invariant-loop-at
+invariant-loop-at l = l.at ≤ length l.line
+
+abbrev pub decreases-loop-at : goal.decreases-loop-at
+decreases-loop-at l = length l.line - l.at
