@@ -6,21 +6,37 @@ ghost use Rattle.lister.specs.Input.{ListedInput};
 use crate::piece::Ended;
 use crate::turn::list_piece;
 use book::Book;
-use libc::STDIN_FILENO;
 use lister_page::BYTES;
 use rules::answer::Answer;
+use std::io::Read;
+
+// Reads until the buffer is full, the input ends or a read fails; how many bytes it put in front.
+fn read_full(input: &mut impl Read, buffer: &mut [u8]) -> usize
+    ensures { result ≤ length buffer.new }
+{
+    let mut done = 0;
+    while done < buffer.len() {
+        let n = input.read(&mut buffer[done..]).unwrap_or(0);
+        if n == 0 {
+            break;
+        }
+        done += n;
+    }
+    done
+}
 
 // The bytes that the buffer holds once standard input has filled it behind those that were kept.
-fn fill(buffer: &mut [u8], kept: usize) -> usize
+fn fill(input: &mut impl Read, buffer: &mut [u8], kept: usize) -> usize
     requires { kept ≤ length buffer.old }
     ensures { (take kept buffer.new ≡ take kept buffer.old) × (kept ≤ result) × (result ≤ length buffer.new) }
 {
-    kept + io::read_full(STDIN_FILENO, &mut buffer[kept..])
+    kept + read_full(input, &mut buffer[kept..])
 }
 
 // Reads standard input up to its end or the first refusal, and puts the rows of what came; how many bytes. It ends because commands that are all
 // taken are no longer than the tables and lent memory have room for (FileLength·theorem of the rules).
 pub fn list_input(
+    input: &mut impl Read,
     buffer: &mut [u8],
     meter: &mut [i32],
     revisions: &mut [u8],
@@ -36,7 +52,7 @@ pub fn list_input(
     };
     let mut kept: usize = 0;
     loop {
-        let have = fill(buffer, kept);
+        let have = fill(input, buffer, kept);
         let t = list_piece(e, have, buffer, meter, revisions, rows);
         let piece = t.piece;
         if !piece.going {

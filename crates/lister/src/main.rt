@@ -7,14 +7,21 @@ mod piece;
 mod turn;
 
 use commands::contract::Contract;
-use libc::STDOUT_FILENO;
 use lister_page::BYTES;
+use std::io;
 
-fn main() {
+fn main(rt: HostRuntime) -> io::Result<()> {
     let mut meter = [Contract::NO_READING; 15840];
     let mut revisions = [Contract::PLAIN; 15840];
     let mut buffer = [0u8; 61440];
     let mut rows = [0u8; BYTES];
-    let n = input::list_input(&mut buffer, &mut meter, &mut revisions, &mut rows);
-    io::write_all(STDOUT_FILENO, &rows[..n]);
+    let mut input = rt.stdin();
+    let n = input::list_input(
+        &mut input,
+        &mut buffer,
+        &mut meter,
+        &mut revisions,
+        &mut rows,
+    );
+    rt.write_all(&rows[..n])
 }

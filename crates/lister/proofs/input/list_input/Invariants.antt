@@ -1,0 +1,17 @@
+-- Entering stands as all bytes so far say, and no rows are put yet. The measure is how far entering can still come: each full buffer moves the offset on.
+use Rattle.std.proofs.Common.{◌≡◌, true, ◌-◌, ◌≤◌, length, take}
+use Rattle.book_memory.specs.Meter.{lent, room_in}
+use Rattle.rules.specs.FileLength.{most_taken}
+use Rattle.book.specs.Sound.{sound}
+use Rattle.lister.proofs.Refill.{SoFar}
+use Rattle.lister.proofs.input.list_input.Given as goal
+
+abbrev pub invariant-loop-piece : goal.invariant-loop-piece
+invariant-loop-piece g l =
+    (sound l.e.book ≡ true) × (l.kept ≤ length l.buffer) × (length l.buffer ≡ length l.initial.buffer) × (length l.meter ≡ length l.initial.meter)
+    × (length l.revisions ≡ length l.initial.revisions)
+    × (l.rows ≡ l.initial.rows)
+    × SoFar (lent l.initial.meter l.initial.revisions) l.e (lent l.meter l.revisions) (take l.kept l.buffer)
+
+abbrev pub decreases-loop-piece : goal.decreases-loop-piece
+decreases-loop-piece g l = most_taken (room_in (lent l.initial.meter l.initial.revisions)) - l.e.offset
