@@ -1,5 +1,5 @@
 /*
- * The settlement package for a host in C. Link with libhost.a, which `rt staticlib host` proves and writes to target/staticlib/.
+ * The settlement package for a host in C. Link with libhost.a, which `rt lib` in crates/host proves and writes to crates/host/out/.
  *
  * Every call has an answer for every length and every contents of what it is lent; what it answers, and what all lent memory holds after it, is
  * proved in crates/host/specs/Calls.antt. The package keeps nothing between calls, allocates nothing, and calls no function but memcpy and memset.

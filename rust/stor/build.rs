@@ -1,6 +1,6 @@
 //! Finds the static library, or has it made: `STOR_LIBRARY` names a ready one,
-//! else `rt staticlib host` proves and writes it, and where there is no `rt` an
-//! earlier one is taken as it is.
+//! else `rt lib` in `crates/host` proves and writes it, and where there is no
+//! `rt` an earlier one is taken as it is.
 
 use std::env;
 use std::path::{Path, PathBuf};
@@ -41,21 +41,19 @@ fn root() -> PathBuf {
 
 /// The library by the toolchain, anew wherever a crate has changed.
 fn made(root: &Path) -> PathBuf {
-    let library = root.join("target/staticlib/libhost.a");
-    for source in ["crates", "crates.txt"] {
-        println!("cargo:rerun-if-changed={}", root.join(source).display());
+    let host = root.join("crates/host");
+    let library = host.join("out/libhost.a");
+    let sources = sources(root);
+    for source in &sources {
+        println!("cargo:rerun-if-changed={}", source.display());
     }
-    if library.is_file() && !older(&library, root) {
+    if library.is_file() && !older(&library, sources) {
         return library;
     }
-    let asked = Command::new("rt")
-        .args(["staticlib", "host"])
-        .current_dir(root)
-        .output();
-    match asked {
+    match Command::new("rt").arg("lib").current_dir(host).output() {
         Ok(output) if output.status.success() => {}
         Ok(output) => fail(&format!(
-            "rt staticlib host failed:\n{}{}",
+            "rt lib failed in crates/host:\n{}{}",
             String::from_utf8_lossy(&output.stdout),
             String::from_utf8_lossy(&output.stderr)
         )),
@@ -70,22 +68,34 @@ fn made(root: &Path) -> PathBuf {
     library
 }
 
-/// Whether some file of the crates is newer than the library.
-fn older(library: &Path, root: &Path) -> bool {
+/// What crates are made of: their list, and of each all but what `rt` makes of
+/// it, its tests and its output.
+fn sources(root: &Path) -> Vec<PathBuf> {
+    let mut sources: Vec<PathBuf> = entries(&root.join("crates"))
+        .flat_map(|named| ["src", "specs", "proofs"].map(|part| named.join(part)))
+        .filter(|folder| folder.is_dir())
+        .collect();
+    sources.push(root.join("crates.txt"));
+    sources
+}
+
+/// Whether some file of these, or in these folders, is newer than the library.
+fn older(library: &Path, sources: Vec<PathBuf>) -> bool {
     let changed = |path: &Path| path.metadata().and_then(|known| known.modified()).ok();
     let made = changed(library);
-    let mut folders = vec![root.join("crates")];
-    let mut newest = changed(&root.join("crates.txt"));
-    while let Some(folder) = folders.pop() {
-        for entry in folder.read_dir().into_iter().flatten().flatten() {
-            let path = entry.path();
-            newest = newest.max(changed(&path));
-            if path.is_dir() {
-                folders.push(path);
-            }
-        }
+    let mut left = sources;
+    let mut newest = None;
+    while let Some(path) = left.pop() {
+        newest = newest.max(changed(&path));
+        left.extend(entries(&path));
     }
     newest > made
+}
+
+/// What stands in a folder; nothing in a file.
+fn entries(folder: &Path) -> impl Iterator<Item = PathBuf> {
+    let found = folder.read_dir().into_iter().flatten().flatten();
+    found.map(|entry| entry.path())
 }
 
 fn fail(why: &str) -> ! {

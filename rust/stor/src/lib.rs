@@ -1,6 +1,6 @@
 //! The proved settlement of a STOR unit's month, for Rust programs: safe calls
-//! over the static library that `rt staticlib host` makes. What stands behind
-//! the calls is proved; this crate is tested only, and is small for that
+//! over the static library that `rt lib` makes of `crates/host`. What stands
+//! behind the calls is proved; this crate is tested only, and is small for that
 //! reason.
 //!
 //! [`Memory`] is what calls are lent. It is made once and serves file after
