@@ -1,5 +1,6 @@
 -- `settle_survey::all_read` meets its contract. The test so far is that of the minutes passed. Assumes nothing.
 use mathlib.Core.Path.{◌≡◌, sym, ◌∙◌, ap}
+use mathlib.Core.Bool.{◌&&◌}
 use native.Mathlib.Omega.{arith}
 use lib.IntN.{pos}
 use lib.ListN.{get_or}
@@ -7,6 +8,7 @@ use borrow.Author.Rules.{rules}
 use mir.Syntax.{w32}
 use mir.Val.{SFits}
 use mir.Facts.{to_z-of_z}
+use Rattle.energy.specs.Lists.{all, between}
 use Rattle.energy.proofs.Sums.{all_snoc, all_none}
 use Rattle.commands.specs.Input.{is_reading}
 use Rattle.settle_survey.specs.Survey.{has}
@@ -23,7 +25,9 @@ loop-i-preserved c =
     let one : c.holds_reading-ok.result ≡ has meter l.loop-i.i = c.holds_reading-ok.ensures ∙ ap is_reading (to_z-of_z x) in (
       omega arith,
       omega arith,
-      rw (l.loop-i.invariant.2, one) (sym (all_snoc (has meter) l.args.from l.loop-i.i l.loop-i.invariant.0)),
+      ap (λ b. b && c.holds_reading-ok.result) l.loop-i.invariant.2
+      ∙ ap (λ b. all (has meter) (between l.args.from l.loop-i.i) && b) one
+      ∙ sym (all_snoc (has meter) l.args.from l.loop-i.i l.loop-i.invariant.0),
     )
 
 pub returns : goal.returns
