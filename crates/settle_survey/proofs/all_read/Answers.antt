@@ -26,8 +26,8 @@ loop-i-preserved c =
       omega arith,
       omega arith,
       ap (λ b. b && c.holds_reading-ok.result) l.loop-i.invariant.2
-      ∙ ap (λ b. all (has meter) (between l.args.from l.loop-i.i) && b) one
-      ∙ sym (all_snoc (has meter) l.args.from l.loop-i.i l.loop-i.invariant.0),
+          ∙ ap (λ b. all (has meter) (between l.args.from l.loop-i.i) && b) one
+          ∙ sym (all_snoc (has meter) l.args.from l.loop-i.i l.loop-i.invariant.0),
     )
 
 pub returns : goal.returns
