@@ -6,6 +6,7 @@ Run once, after the kit's own script, before any edit by hand. It goes by words:
   it stands as a word of an .antt or .rt file, of an edit of must-fail/ or of a page, since nothing of the library is spelled so;
 - a dash in the name of a lemma stays where it joins two names, as in sum-append; before or behind a plain word it becomes an underscore. Such a
   name is turned where it is declared, in the lists of `use`, and where it stands by itself; behind a dot only where a record's field is called so;
+- a lemma that would have its function's name ends in _lem;
 - the proof of a function f is f_spec.
 A name whose new spelling something else has already stays, and is printed. Names of functions, of exports, strings, inputs and outputs stay.
 """
