@@ -56,10 +56,6 @@ sums false a b p q x d h hp hq ex ed =
       delivered = omega (arith, add_parts b q);
     })
 
--- a minute's numbers and the sums so far, as the machine holds them
-sum_fits : (z : ℤ) → Within 120000000 z → SFits w32 z
-sum_fits z h = fits_parts w32 z (omega arith)
-
 held : (n : ℕ) (z : ℤ) → SFits w32 z → Within n z → Within n (to_z w32 (of_z w32 z))
 held n z f h = rw (to_z-of_z f) h
 
