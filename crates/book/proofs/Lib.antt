@@ -1,7 +1,7 @@
 pub mod SoundTests
 pub mod Month
 pub mod Refusals
-pub mod EnteringByNumbers
+pub mod Asked
 pub mod MeteredEntry
 pub mod DatedEntry
 pub mod Holds

@@ -20,9 +20,12 @@ use Rattle.book_refusal.specs.Refusals.{any_refusal, reading_refusal}
 use Rattle.book.specs.Readings.{open_span}
 use Rattle.book.specs.Sound.{sound}
 use Rattle.book.specs.declared.Book.{Book}
-use Rattle.book.proofs.Refusals.{any_of}
-use Rattle.book.proofs.MeteredEntry.{any-revised, takes}
-use Rattle.book.proofs.EnteringByNumbers.{past_any}
+use Rattle.book.proofs.Refusals.{any_of, own_of}
+use Rattle.book.proofs.MeteredEntry.{any-revised, revised_number, takes}
+use Rattle.book.proofs.Asked.{by_own, past_any}
+use Rattle.commands.specs.Refusals.{outcome}
+use Rattle.std.specs.Prelude.{Ok}
+use Rattle.rules.specs.Answer.{Answer}
 use Rattle.book_memory.proofs.TakenReading.{takes_revised, tests, revision_is, taken_input, put_revised}
 
 -- ---- the open span
@@ -51,6 +54,10 @@ none_met : (input : ℕ) (sound closed agreed short : Bool) → eqb input 0 ≡ 
 unfolding any_refusal
 none_met input sound closed agreed short p q r s t = rw (p, q, r, s, t)
 
+none_answered : (n : ℕ) → n ≡ 0 → ◌≡◌ {A = Answer} (Ok tt) (outcome n)
+unfolding outcome
+none_answered n e = rw e refl
+
 module _ (b : Book) (meter : Memory) (s : sound b ≡ true) (n : ℕ) (r : Reading)
     (t : takes_reading (open_span b (room_in meter)) meter (revised_as n r) ≡ true) where
   -- it is taken: no condition holds of it
@@ -65,8 +72,11 @@ module _ (b : Book) (meter : Memory) (s : sound b ≡ true) (n : ℕ) (r : Readi
       ∙ none_met (input_refusal (revised_as n r)) (sound b) b.closed b.agreed (ltb (room_in meter) (book_cells b)) p.input s o.unclosed o.agreed
       (le-ltb (room_in meter) (book_cells b) o.fits) in
       let below : r.minute.0 < book_span b = omega (arith, p.inside, o.whole) in
-      takes b meter n r (past_any b (room_in meter) (revised_as n r) 0 (sym any) refl) (reading_refusal (book_span b) meter n r) (book_span b) refl refl
-      (rw (lt-leb (book_span b) r.minute.0 below, lt-ltb r.minute.0 (book_span b) below, p.above))
+      let p' = past_any b (room_in meter) (revised_as n r) any in
+      let own : own_of b meter (revised_as n r) ≡ 0 =
+      sym (revised_number b meter n r (book_span b) p' refl)
+      ∙ rw (lt-leb (book_span b) r.minute.0 below, lt-ltb r.minute.0 (book_span b) below, p.above) refl in
+      takes b meter n r (by_own b (room_in meter) (revised_as n r) p' meter refl (none_answered (own_of b meter (revised_as n r)) own)) refl
 
   enters : enter_book b meter (revised_as n r) ≡ record { entry = taken_as b; meter = put_meter meter (revised_as n r) }
   enters i = record { entry = sym taken.entry i; meter = sym (put_revised meter n r ∙ taken.meter) i }

@@ -5,13 +5,12 @@ use mathlib.Core.Bool.{Bool, true, false, not, ◌&&◌, cond, false≢true}
 use lib.IntN.{ℤ}
 use mathlib.Core.List.{List, [], ◌∷◌, ◌++◌}
 use mathlib.Core.Option.{Option, none, some}
-use Prim.Native.Nat.{ℕ, zero, suc, ◌-◌, ◌≤◌, zero-le, max}
+use Prim.Native.Nat.{ℕ, zero, suc, ◌≤◌, zero-le, max}
 use native.Mathlib.Omega.{arith}
 use lib.Dec.{eqb, ltb}
-use lib.ListN.{length, take, get_or}
-use lib.Seq.{length-take-le}
+use lib.ListN.{length, take}
 use borrow.Author.Tests.{ne_eqb, le-leb, lt-ltb}
-use Rattle.energy.specs.Lists.{any, between, last, is_empty, is_some}
+use Rattle.energy.specs.Lists.{any, between, is_empty, is_some}
 use Rattle.energy.proofs.Tests.{either}
 use Rattle.energy.proofs.Sums.{any_ext}
 use Rattle.calendar.specs.Calendar.{is_no_date}
@@ -28,13 +27,11 @@ use Rattle.commands.specs.declared.entries.Command.TheVariants.{Contract as cont
 use Rattle.commands.specs.declared.entries.Command.TheVariants.{Default as defaultᶜ, Close as closeᶜ}
 use Rattle.commands.proofs.Input.{numbers, numbered, first_number, first_numbered, numbers-append}
 use Rattle.commands.proofs.ByKind.{contract_or_not}
-use Rattle.rules.specs.Ledger.{Metered, is_contract, span_of, full_span, span_in, no_window, no_instruction}
-use Rattle.rules.specs.Refusal.{cells_for, not_above, book_conditions, kind_conditions, conditions, refusal, recovered}
+use Rattle.rules.specs.Ledger.{Metered, is_contract, span_of, full_span, span_in}
+use Rattle.rules.specs.Refusal.{cells_for, not_above, book_conditions, kind_conditions, conditions, refusal}
 use Rattle.book_memory.specs.Meter.{Memory, room_in, kw_at, revision_at, cell_reading, metered_at}
-use Rattle.book_refusal.specs.Refusals.{any_refusal, date_refusal, windows_end, window_refusal, ready_after, instruction_refusal, default_refusal, held_refusal}
+use Rattle.book_refusal.specs.Refusals.{any_refusal, date_refusal, window_refusal, instruction_refusal, default_refusal, held_refusal}
 use Rattle.book_refusal.specs.Refusals.{reading_refusal}
-use Rattle.book_sound.proofs.Tables.{last_used}
-use Rattle.book_sound.proofs.Walks.{recovered-last}
 use Rattle.book.specs.Book.{book_span, book_cells, ledger_in}
 use Rattle.book.specs.Sound.{sound}
 use Rattle.book.specs.declared.Book.{Book}
@@ -125,19 +122,6 @@ unfolding is_some
 some_held none = refl
 some_held (some x) = sym (le-leb 0 x.revision zero-le)
 
--- the end of the last window, from its entry
-windows_end_lem : (ws : List Window) (n : ℕ) → n ≤ length ws → (last no_window (take n ws)).end.0 ≡ windows_end n (get_or ws (n - 1) no_window)
-windows_end_lem ws zero h = unfold last in refl
-windows_end_lem ws (suc n) h = rw (ne_eqb (suc n) 0 (λ q. omega arith)) (ap (λ (w : Window). w.end.0) (last_used ws (suc n) no_window (omega arith) h))
-
--- the same of instructions
-ready_after_lem : (k : Contract) (is : List Instruction) (n : ℕ) → n ≤ length is → recovered k (take n is) ≡ ready_after k n (get_or is (n - 1) no_instruction)
-ready_after_lem k is zero h = refl
-ready_after_lem k is (suc n) h =
-    rw (ne_eqb (suc n) 0 (λ q. omega arith))
-    (recovered-last k (take (suc n) is) no_instruction (omega (arith, length-take-le (suc n) is h))
-    ∙ ap (λ (i : Instruction). ready_after k 1 i) (last_used is (suc n) no_instruction (omega arith) h))
-
 -- a date is none where the book's is zeros
 dated_is : (none : Bool) (d : Date) → not (is_empty (cond none [] (d ∷ []))) ≡ not none
 unfolding is_empty
@@ -177,26 +161,19 @@ module _ (b : Book) (meter : Memory) (s : b.agreed ≡ true) where
       let called : not (is_empty g.instructions) ≡ not (eqb b.ninstructions 0) = unfold ledger_in in used_is b.instructions b.ninstructions k in
       rw (dated, windowed, called, read_is, contract_is b meter s)
 
-  pub window_number : (w : Window) → b.nwindows ≤ length b.windows
-      → own_of b meter (windowᶜ w)
-      ≡ window_refusal b.contract.service (book_span b) (windows_end b.nwindows (get_or b.windows (b.nwindows - 1) no_window)) b.nwindows w
+  pub window_number : (w : Window) → own_of b meter (windowᶜ w) ≡ window_refusal b.contract.service (book_span b) (take b.nwindows b.windows) w
   unfolding numbers ledger_in window_refusal
-  window_number w h =
-      rw (contract_is b meter s, span_is b meter s, length-take-le b.nwindows b.windows h, windows_end_lem b.windows b.nwindows h)
+  window_number w = rw (contract_is b meter s, span_is b meter s)
 
-  pub instruction_number : (i : Instruction) → b.ninstructions ≤ length b.instructions
-      → own_of b meter (instructionᶜ i)
-      ≡ instruction_refusal b.contract (book_span b)
-      (ready_after b.contract b.ninstructions (get_or b.instructions (b.ninstructions - 1) no_instruction)) b.ninstructions i
+  pub instruction_number : (i : Instruction)
+      → own_of b meter (instructionᶜ i) ≡ instruction_refusal b.contract (book_span b) (take b.ninstructions b.instructions) i
   unfolding numbers ledger_in instruction_refusal
-  instruction_number i h =
-      let ready = ready_after_lem b.contract b.instructions b.ninstructions h in
-      rw (contract_is b meter s, span_is b meter s, length-take-le b.ninstructions b.instructions h, ready)
+  instruction_number i = rw (contract_is b meter s, span_is b meter s)
 
-  pub default_number : (d : Default) → b.ndefaults ≤ length b.defaults
-      → own_of b meter (defaultᶜ d) ≡ default_refusal (book_span b) (take b.nwindows b.windows) b.ndefaults d
+  pub default_number : (d : Default)
+      → own_of b meter (defaultᶜ d) ≡ default_refusal (book_span b) (take b.nwindows b.windows) (take b.ndefaults b.defaults) d
   unfolding numbers ledger_in default_refusal
-  default_number d h = rw (span_is b meter s, length-take-le b.ndefaults b.defaults h)
+  default_number d = rw (span_is b meter s)
 
   pub reading_number : (n : ℕ) (r : Reading) → own_of b meter (revised_as n r) ≡ reading_refusal (book_span b) meter n r
   unfolding numbers ledger_in reading_refusal held_refusal

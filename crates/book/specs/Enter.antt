@@ -1,6 +1,7 @@
 -- "A book takes a command and hands back the book after it": answer, book and lent memory after, by one equation over the rules.
 use Rattle.std.specs.Prelude.{◌≡◌, not, ℕ}
 use Rattle.std.proofs.Math.Option.{Option, none, some}
+use Rattle.rules.specs.Answer.{Answer}
 use Rattle.rules.specs.Refusal.{refusal, answer_of}
 use Rattle.commands.specs.declared.entries.Command.{Command}
 use Rattle.book_memory.specs.Meter.{put_meter, Memory, room_in}
@@ -39,3 +40,11 @@ pub record Enters (b : Book) (before : Memory) (c : Command) (e : Entry) (after 
 -- the same of an entry that leaves lent memory as it is, whatever memory of that room is lent
 abbrev pub EntersAt : Book → ℕ → Command → Entry → Type 0
 EntersAt b room c e = (meter : Memory) → room_in meter ≡ room → Enters b meter c e meter
+
+-- what a command is answered at a book: the refusal that it meets there, if there is one
+abbrev pub AnswersTo : Book → Memory → Command → Answer → Type 0
+AnswersTo b meter c a = a ≡ answer_of (refusal (not (sound b)) (room_in meter) (ledger_in b meter) c)
+
+-- the same, whatever memory of that room is lent
+abbrev pub AnswersAt : Book → ℕ → Command → Answer → Type 0
+AnswersAt b room c a = (meter : Memory) → room_in meter ≡ room → AnswersTo b meter c a

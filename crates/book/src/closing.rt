@@ -20,9 +20,8 @@ impl Book {
         requires { sound ≡ sound_of self }
         ensures { EntersAt self room Command.Close result }
     {
-        let met = self.first_refusal(0, sound, room);
-        if met != 0 {
-            return self.refused(met);
+        if let Err(refusal) = self.first_refusal(sound, room) {
+            return self.refused(refusal);
         }
         self.closed = true;
         self.taken()

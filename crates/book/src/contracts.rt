@@ -11,7 +11,7 @@ use book_memory::revisions::clear;
 use book_memory::room::room_of;
 use book_refusal::any::any_refusal;
 use book_sound::agreement::span_of;
-use commands::contract::{Contract, Offer};
+use commands::contract::Contract;
 use commands::entries::Command;
 
 impl Book {
@@ -37,8 +37,8 @@ impl Book {
             (lent meter.new revisions.new) }
     {
         match k.offer() {
-            Offer::Agreed(agreed) => self.agree(sound, agreed, meter, revisions),
-            Offer::Refused(number) => self.refused(number),
+            Ok(agreed) => self.agree(sound, agreed, meter, revisions),
+            Err(refusal) => self.refused(refusal),
         }
     }
 
@@ -50,9 +50,8 @@ impl Book {
     {
         let span = span_of(k);
         let short = room_of(meter, revisions) < span;
-        let met = any_refusal(0, sound, self.closed, self.agreed, true, short);
-        if met != 0 {
-            return self.refused(met);
+        if let Err(refusal) = any_refusal(sound, self.closed, self.agreed, true, short) {
+            return self.refused(refusal);
         }
         mark(meter, span);
         clear(revisions, span);

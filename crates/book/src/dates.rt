@@ -1,7 +1,7 @@
 // The date.
 ghost use Rattle.std.specs.Prelude.{◌≡◌};
 ghost use Rattle.book_memory.specs.Meter.{lent};
-ghost use Rattle.book.specs.Enter.{Enters};
+ghost use Rattle.book.specs.Enter.{AnswersTo, Enters};
 ghost use Rattle.book.specs.Sound.{sound as sound_of};
 
 use crate::{Book, Entry};
@@ -12,6 +12,7 @@ use book_refusal::any::any_refusal;
 use book_refusal::dates::{cells_for_date, date_refusal};
 use calendar::Date;
 use commands::entries::{Command, date_input_refusal};
+use rules::answer::Answer;
 
 impl Book {
     // Enters a date.
@@ -35,21 +36,30 @@ impl Book {
         ensures { Enters self (lent meter.old revisions.old) (Command.Date d) result
             (lent meter.new revisions.new) }
     {
-        let input = date_input_refusal(d);
-        let k = self.contract;
-        let short = room_of(meter, revisions) < cells_for_date(self.cells(), k, d);
-        let met = any_refusal(input, sound, self.closed, self.agreed, false, short);
-        if met != 0 {
-            return self.refused(met);
-        }
-        let before = self.date;
-        let read = any_reading(meter, self.span());
-        let own = date_refusal(before, self.nwindows, self.ninstructions, read, k, d);
-        if own != 0 {
-            return self.refused(own);
+        if let Err(refusal) = self.date_asked(sound, d, meter, revisions) {
+            return self.refused(refusal);
         }
         mark_gained(d, meter, revisions);
         self.date = d;
         self.taken()
+    }
+
+    // What it is answered.
+    fn date_asked(self, sound: bool, d: Date, meter: &[i32], revisions: &[u8]) -> Answer
+        requires { sound ≡ sound_of self }
+        ensures { AnswersTo self (lent meter.now revisions.now) (Command.Date d) result }
+    {
+        date_input_refusal(d)?;
+        let short = room_of(meter, revisions) < cells_for_date(self.cells(), self.contract, d);
+        any_refusal(sound, self.closed, self.agreed, false, short)?;
+        let read = any_reading(meter, self.span());
+        date_refusal(
+            self.date,
+            self.nwindows,
+            self.ninstructions,
+            read,
+            self.contract,
+            d,
+        )
     }
 }

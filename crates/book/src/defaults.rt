@@ -1,11 +1,12 @@
 // Defaults.
 ghost use Rattle.std.specs.Prelude.{◌≡◌};
-ghost use Rattle.book.specs.Enter.{EntersAt};
+ghost use Rattle.book.specs.Enter.{AnswersAt, EntersAt};
 ghost use Rattle.book.specs.Sound.{sound as sound_of};
 
 use crate::{Book, Entry};
 use book_refusal::defaults::default_refusal;
 use commands::entries::{Command, Default};
+use rules::answer::Answer;
 
 impl Book {
     // Enters a default, with so much room in lent memory.
@@ -21,19 +22,24 @@ impl Book {
         requires { sound ≡ sound_of self }
         ensures { EntersAt self room (Command.Default d) result }
     {
-        let input = d.input_refusal();
-        let met = self.first_refusal(input, sound, room);
-        if met != 0 {
-            return self.refused(met);
+        if let Err(refusal) = self.default_asked(sound, d, room) {
+            return self.refused(refusal);
         }
         let n = self.ndefaults;
-        let windows = self.windows;
-        let own = default_refusal(self.span(), windows, self.nwindows, n, d);
-        if own != 0 {
-            return self.refused(own);
-        }
         self.defaults[n] = d;
         self.ndefaults = n + 1;
         self.taken()
+    }
+
+    // What it is answered.
+    fn default_asked(self, sound: bool, d: Default, room: usize) -> Answer
+        requires { sound ≡ sound_of self }
+        ensures { AnswersAt self room (Command.Default d) result }
+    {
+        d.input_refusal()?;
+        self.first_refusal(sound, room)?;
+        let windows = &self.windows[..self.nwindows];
+        let defaults = &self.defaults[..self.ndefaults];
+        default_refusal(self.span(), windows, defaults, d)
     }
 }

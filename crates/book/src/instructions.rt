@@ -1,12 +1,12 @@
 // Instructions.
 ghost use Rattle.std.specs.Prelude.{◌≡◌};
-ghost use Rattle.book.specs.Enter.{EntersAt};
+ghost use Rattle.book.specs.Enter.{AnswersAt, EntersAt};
 ghost use Rattle.book.specs.Sound.{sound as sound_of};
 
-use crate::answers::last_place;
 use crate::{Book, Entry};
 use book_refusal::instructions::instruction_refusal;
 use commands::entries::{Command, Instruction};
+use rules::answer::Answer;
 
 impl Book {
     // Enters an instruction, with so much room in lent memory.
@@ -22,21 +22,23 @@ impl Book {
         requires { sound ≡ sound_of self }
         ensures { EntersAt self room (Command.Instruction i) result }
     {
-        let input = i.input_refusal();
-        let met = self.first_refusal(input, sound, room);
-        if met != 0 {
-            return self.refused(met);
+        if let Err(refusal) = self.instruction_asked(sound, i, room) {
+            return self.refused(refusal);
         }
         let n = self.ninstructions;
-        let at = last_place(n);
-        let last = self.instructions[at];
-        let k = self.contract;
-        let own = instruction_refusal(k, self.span(), last, n, i);
-        if own != 0 {
-            return self.refused(own);
-        }
         self.instructions[n] = i;
         self.ninstructions = n + 1;
         self.taken()
+    }
+
+    // What it is answered.
+    fn instruction_asked(self, sound: bool, i: Instruction, room: usize) -> Answer
+        requires { sound ≡ sound_of self }
+        ensures { AnswersAt self room (Command.Instruction i) result }
+    {
+        i.input_refusal()?;
+        self.first_refusal(sound, room)?;
+        let instructions = &self.instructions[..self.ninstructions];
+        instruction_refusal(self.contract, self.span(), instructions, i)
     }
 }

@@ -3,7 +3,7 @@ ghost use Rattle.std.specs.Prelude.{◌≡◌};
 ghost use Rattle.commands.specs.Command.{revised_as};
 ghost use Rattle.commands.specs.Input.{input_refusal};
 ghost use Rattle.book_memory.specs.Meter.{lent};
-ghost use Rattle.book.specs.Enter.{Enters};
+ghost use Rattle.book.specs.Enter.{AnswersTo, Enters};
 ghost use Rattle.book.specs.Sound.{sound as sound_of};
 
 use crate::{Book, Entry};
@@ -12,6 +12,7 @@ use book_memory::taking::put_reading;
 use book_refusal::readings::reading_refusal;
 use commands::contract::Contract;
 use commands::entries::{Command, Reading, Revision};
+use rules::answer::Answer;
 
 impl Book {
     // Enters a reading.
@@ -44,9 +45,8 @@ impl Book {
         ensures { Enters self (lent meter.old revisions.old) (Command.Reading r) result
             (lent meter.new revisions.new) }
     {
-        let input = r.input_refusal();
-        if input != 0 {
-            return self.refused(input);
+        if let Err(refusal) = r.input_refusal() {
+            return self.refused(refusal);
         }
         self.meter(sound, Contract::PLAIN, r, meter, revisions)
     }
@@ -62,12 +62,10 @@ impl Book {
         ensures { Enters self (lent meter.old revisions.old) (Command.Revision v) result
             (lent meter.new revisions.new) }
     {
-        let input = v.input_refusal();
-        if input != 0 {
-            return self.refused(input);
+        if let Err(refusal) = v.input_refusal() {
+            return self.refused(refusal);
         }
-        let r = v.reading;
-        self.meter(sound, v.number, r, meter, revisions)
+        self.meter(sound, v.number, v.reading, meter, revisions)
     }
 
     // A reading of any revision whose operands are not turned down. It changes lent memory alone.
@@ -83,16 +81,26 @@ impl Book {
         ensures { Enters self (lent meter.old revisions.old) (revised_as number r) result
             (lent meter.new revisions.new) }
     {
-        let room = room_of(meter, revisions);
-        let met = self.first_refusal(0, sound, room);
-        if met != 0 {
-            return self.refused(met);
-        }
-        let own = reading_refusal(self.span(), number, r, meter, revisions);
-        if own != 0 {
-            return self.refused(own);
+        if let Err(refusal) = self.reading_asked(sound, number, r, meter, revisions) {
+            return self.refused(refusal);
         }
         put_reading(number, r, meter, revisions);
         self.taken()
+    }
+
+    // What it is answered.
+    fn reading_asked(
+        self,
+        sound: bool,
+        number: u8,
+        r: Reading,
+        meter: &[i32],
+        revisions: &[u8],
+    ) -> Answer
+        requires { (sound ≡ sound_of self) × (input_refusal (revised_as number r) ≡ 0) }
+        ensures { AnswersTo self (lent meter.now revisions.now) (revised_as number r) result }
+    {
+        self.first_refusal(sound, room_of(meter, revisions))?;
+        reading_refusal(self.span(), number, r, meter, revisions)
     }
 }

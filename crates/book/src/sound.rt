@@ -6,76 +6,57 @@ ghost use Rattle.book.specs.Sound.{table_tests, empty_tests, sound};
 use crate::Book;
 use book_sound::agreed::agreed_sound;
 use book_sound::agreement::{date_sound, is_no_contract};
-use book_sound::defaults::defaults_unused;
-use book_sound::instructions::instructions_unused;
-use book_sound::windows::windows_unused;
+use book_sound::unused::unused;
 use commands::contract::Contract;
+use commands::entries::{Default, Instruction, Window};
 
 impl Book {
     // Whether some list of commands leaves this book.
+    #[tactic(auto, unfolding(crate::specs::Sound::sound, energy::specs::Lists::pass))]
     pub fn sound(self) -> bool
         ensures { result ≡ sound self }
     {
-        let tables = self.tables_sound();
-        if !tables {
+        if !self.tables_sound() {
             return false;
         }
         if !self.agreed {
             return self.empty_sound();
         }
-        let k = self.contract;
-        let date = self.date;
-        let dated = date_sound(k, date);
-        if !dated {
+        if !date_sound(self.contract, self.date) {
             return false;
         }
-        let span = self.span();
-        let windows = self.windows;
-        let instructions = self.instructions;
-        let defaults = self.defaults;
         agreed_sound(
-            k,
-            span,
-            windows,
-            self.nwindows,
-            instructions,
-            self.ninstructions,
-            defaults,
-            self.ndefaults,
+            self.contract,
+            self.span(),
+            &self.windows[..self.nwindows],
+            &self.instructions[..self.ninstructions],
+            &self.defaults[..self.ndefaults],
         )
     }
 
     // Counts within the tables, and zeros in the entries after them.
+    #[tactic(auto, unfolding(crate::specs::Sound::table_tests, energy::specs::Lists::pass))]
     fn tables_sound(self) -> bool
         ensures { result ≡ pass (table_tests self) }
     {
-        let w = self.nwindows;
-        let i = self.ninstructions;
-        let d = self.ndefaults;
-        let within = (w <= Contract::WINDOWS_MOST)
-            & (i <= Contract::INSTRUCTIONS_MOST)
-            & (d <= Contract::DEFAULTS_MOST);
+        let within = (self.nwindows <= Contract::WINDOWS_MOST)
+            & (self.ninstructions <= Contract::INSTRUCTIONS_MOST)
+            & (self.ndefaults <= Contract::DEFAULTS_MOST);
         if !within {
             return false;
         }
-        let windows = self.windows;
-        let instructions = self.instructions;
-        let defaults = self.defaults;
-        windows_unused(windows, w)
-            & instructions_unused(instructions, i)
-            & defaults_unused(defaults, d)
+        unused(&self.windows[self.nwindows..], &Window::NONE)
+            & unused(&self.instructions[self.ninstructions..], &Instruction::NONE)
+            & unused(&self.defaults[self.ndefaults..], &Default::NONE)
     }
 
     // Without a contract nothing is entered.
+    #[tactic(auto, unfolding(crate::specs::Sound::empty_tests, energy::specs::Lists::pass))]
     fn empty_sound(self) -> bool
         ensures { result ≡ pass (empty_tests self) }
     {
-        let k = self.contract;
-        let date = self.date;
-        let zeros = is_no_contract(k);
-        let undated = date.is_none();
-        zeros
-            & undated
+        is_no_contract(self.contract)
+            & self.date.is_none()
             & !self.closed
             & (self.nwindows == 0)
             & (self.ninstructions == 0)

@@ -9,23 +9,23 @@ use calendar::lost;
 
 impl Book {
     // The span: a March has an hour less than its cells.
+    #[tactic(auto, unfolding(crate::specs::Book::book_span, crate::specs::Book::book_cells))]
     pub fn span(self) -> usize
         ensures { result ≡ book_span self }
     {
-        let cells = self.cells();
-        let less = lost(self.date.month);
-        if less <= cells { cells - less } else { 0 }
+        self.cells().saturating_sub(lost(self.date.month))
     }
 
     // The minutes that lent memory must have room for, as 15 asks.
+    #[tactic(auto, unfolding(crate::specs::Book::book_cells))]
     pub fn cells(self) -> usize
         ensures { result ≡ book_cells self }
     {
-        let k = self.contract;
-        full_span(k, self.date.month)
+        full_span(self.contract, self.date.month)
     }
 
     // The span in which readings are taken into lent memory with so much room, 0 where none is. Only a contract, a date and a close change it.
+    #[tactic(auto, unfolding(crate::specs::Readings::open_span))]
     pub fn open_span(self, room: usize) -> usize
         ensures { result ≡ open_span self room }
     {

@@ -1,12 +1,12 @@
 // Windows.
 ghost use Rattle.std.specs.Prelude.{◌≡◌};
-ghost use Rattle.book.specs.Enter.{EntersAt};
+ghost use Rattle.book.specs.Enter.{AnswersAt, EntersAt};
 ghost use Rattle.book.specs.Sound.{sound as sound_of};
 
-use crate::answers::last_place;
 use crate::{Book, Entry};
 use book_refusal::windows::window_refusal;
 use commands::entries::{Command, Window};
+use rules::answer::Answer;
 
 impl Book {
     // Enters a window, with so much room in lent memory.
@@ -22,21 +22,23 @@ impl Book {
         requires { sound ≡ sound_of self }
         ensures { EntersAt self room (Command.Window w) result }
     {
-        let input = w.input_refusal();
-        let met = self.first_refusal(input, sound, room);
-        if met != 0 {
-            return self.refused(met);
+        if let Err(refusal) = self.window_asked(sound, w, room) {
+            return self.refused(refusal);
         }
         let n = self.nwindows;
-        let at = last_place(n);
-        let last = self.windows[at];
-        let k = self.contract;
-        let own = window_refusal(k.service, self.span(), last, n, w);
-        if own != 0 {
-            return self.refused(own);
-        }
         self.windows[n] = w;
         self.nwindows = n + 1;
         self.taken()
+    }
+
+    // What it is answered.
+    fn window_asked(self, sound: bool, w: Window, room: usize) -> Answer
+        requires { sound ≡ sound_of self }
+        ensures { AnswersAt self room (Command.Window w) result }
+    {
+        w.input_refusal()?;
+        self.first_refusal(sound, room)?;
+        let windows = &self.windows[..self.nwindows];
+        window_refusal(self.contract.service, self.span(), windows, w)
     }
 }

@@ -1,13 +1,9 @@
 -- The room in lent memory: no more than either length, and the same in memory of the same lengths.
-use mathlib.Core.Path.{◌≡◌, sym, ap₂, ◌∙◌}
-use mathlib.Core.Bool.{◌&&◌}
-use Prim.Native.Nat.{ℕ, suc, ◌+◌, ◌≤◌, ◌<◌, min}
-use native.Mathlib.Nat.{min-le_left, min-le_right, min-eq_left, min-eq_right, le-min, le_refl}
+use mathlib.Core.Path.{◌≡◌, ap₂, ◌∙◌}
+use Prim.Native.Nat.{ℕ, ◌+◌, ◌≤◌, ◌<◌, min}
+use native.Mathlib.Nat.{min-le_left, min-le_right, min-eq_left, le_refl}
 use native.Mathlib.Omega.{arith}
 use lib.IntN.{ℤ}
-use lib.Dec.{ltb}
-use borrow.Author.Tests.{ltb-true, ltb-false, lt-ltb, le-ltb}
-use Rattle.energy.proofs.Tests.{either}
 use Rattle.energy.proofs.Puts.{length_put}
 use lib.ListN.{length, replicate, length-replicate, length-append, length-drop, length-set}
 use Rattle.book_memory.specs.Meter.{Memory, missing, lent, room_in, marked_to, marked_from, written_at}
@@ -20,15 +16,6 @@ pub room_revisions : (m : Memory) → room_in m ≤ length m.revisions
 unfolding room_in
 room_revisions m = min-le_right (length m.cells) (length m.revisions)
 
--- whichever is shorter
-pub few_cells_lem : (m : Memory) → length m.cells ≤ length m.revisions → length m.cells ≡ room_in m
-unfolding room_in
-few_cells_lem m h = sym (min-eq_left h)
-
-pub few_revisions : (m : Memory) → length m.revisions ≤ length m.cells → length m.revisions ≡ room_in m
-unfolding room_in
-few_revisions m h = sym (min-eq_right h)
-
 room_same : (m n : Memory) → length m.cells ≡ length n.cells → length m.revisions ≡ length n.revisions → room_in m ≡ room_in n
 unfolding room_in
 room_same m n c r = ap₂ min c r
@@ -36,20 +23,6 @@ room_same m n c r = ap₂ min c r
 -- a minute that there is room for has a cell and a byte
 pub room_holds : (m : Memory) (i : ℕ) → i < room_in m → (i < length m.cells) × (i < length m.revisions)
 room_holds m i h = (omega (arith, h, room_cells m), omega (arith, h, room_revisions m))
-
--- there is room for it where both have a place for it
-pub room_test : (m : Memory) (i : ℕ) → (ltb i (length m.cells) && ltb i (length m.revisions)) ≡ ltb i (room_in m)
-unfolding room_in
-room_test m i =
-    either (ltb i (length m.cells))
-    (λ c.
-    either (ltb i (length m.revisions))
-    (λ r.
-    let both : suc i ≤ min (length m.cells) (length m.revisions) =
-    le-min (omega (arith, ltb-true i (length m.cells) c)) (omega (arith, ltb-true i (length m.revisions) r)) in
-    rw (c, r, lt-ltb i (min (length m.cells) (length m.revisions)) (omega arith)))
-    (λ r. rw (c, r, le-ltb i (min (length m.cells) (length m.revisions)) (omega (arith, room_revisions m, ltb-false i (length m.revisions) r)))))
-    (λ c. rw (c, le-ltb i (min (length m.cells) (length m.revisions)) (omega (arith, room_cells m, ltb-false i (length m.cells) c))))
 
 -- ---- what commands put leaves the room
 

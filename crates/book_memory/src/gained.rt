@@ -9,6 +9,7 @@ use calendar::{Date, days_of, gained};
 use commands::contract::Contract;
 
 // Marks the hour's cells and clears their bytes. Of a month that gains none, nothing is written.
+#[tactic(auto, using(crate::proofs::Lengths::room_cells, crate::proofs::Lengths::room_revisions))]
 pub fn mark_gained(d: Date, meter: &mut [i32], revisions: &mut [u8])
     requires { 1440 * days_of d.year d.month + gained_in d.month ≤ room_in (lent meter.old revisions.old) }
     ensures { lent meter.new revisions.new

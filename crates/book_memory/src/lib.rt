@@ -32,12 +32,10 @@ pub fn holds_reading(cell: i32) -> bool
 pub(crate) fn cell_at(meter: &[i32], m: Minutes) -> i32
     ensures { result ≡ get_or meter.now m.0 missing }
 {
-    let at = m.0 as usize;
-    if at < meter.len() {
-        meter[at]
-    } else {
-        Contract::NO_READING
-    }
+    meter
+        .get(m.0 as usize)
+        .copied()
+        .unwrap_or(Contract::NO_READING)
 }
 
 // Marks the first n cells as minutes without a reading.
@@ -45,9 +43,5 @@ pub fn mark(meter: &mut [i32], n: usize)
     requires { n ≤ length meter.old }
     ensures { meter.new ≡ replicate n missing ++ drop n meter.old }
 {
-    let mut i = 0;
-    while i < n {
-        meter[i] = Contract::NO_READING;
-        i += 1;
-    }
+    meter[..n].fill(Contract::NO_READING);
 }

@@ -1,5 +1,5 @@
 // Revision memory: the bytes that a contract clears, and the revision that a minute holds.
-ghost use Rattle.std.specs.Prelude.{◌≡◌, ◌++◌, ◌≤◌, ◌<◌, length, get_or, drop, set, replicate};
+ghost use Rattle.std.specs.Prelude.{◌≡◌, ◌++◌, ◌≤◌, length, get_or, drop, replicate};
 ghost use Rattle.rules.specs.Refusal.{not_above};
 ghost use Rattle.book_memory.specs.Meter.{lent, metered_at};
 
@@ -11,12 +11,10 @@ use energy::units::Minutes;
 fn revision_at(revisions: &[u8], m: Minutes) -> u8
     ensures { result ≡ get_or revisions.now m.0 0 }
 {
-    let at = m.0 as usize;
-    if at < revisions.len() {
-        revisions[at]
-    } else {
-        Contract::PLAIN
-    }
+    revisions
+        .get(m.0 as usize)
+        .copied()
+        .unwrap_or(Contract::PLAIN)
 }
 
 // Whether a minute holds a reading of this revision or one above it: a plain reading, of revision 0, is turned down by any. The byte of a minute
@@ -27,22 +25,10 @@ pub fn not_above(number: u8, meter: &[i32], revisions: &[u8], m: Minutes) -> boo
     holds_reading(cell_at(meter, m)) & (number <= revision_at(revisions, m))
 }
 
-// Puts a minute's revision, of a plain reading too: 0.
-pub(crate) fn put_revision(revisions: &mut [u8], at: usize, number: u8)
-    requires { at < length revisions.old }
-    ensures { revisions.new ≡ set revisions.old at number }
-{
-    revisions[at] = number;
-}
-
 // Clears the first n bytes.
 pub fn clear(revisions: &mut [u8], n: usize)
     requires { n ≤ length revisions.old }
     ensures { revisions.new ≡ replicate n 0 ++ drop n revisions.old }
 {
-    let mut i = 0;
-    while i < n {
-        revisions[i] = Contract::PLAIN;
-        i += 1;
-    }
+    revisions[..n].fill(Contract::PLAIN);
 }

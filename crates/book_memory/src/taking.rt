@@ -5,7 +5,7 @@ ghost use Rattle.commands.specs.Command.{revised_as};
 ghost use Rattle.commands.specs.Input.{is_reading, input_refusal};
 ghost use Rattle.book_memory.specs.Meter.{lent, written_at, put_meter, takes_reading};
 
-use crate::revisions::{not_above, put_revision};
+use crate::revisions::not_above;
 use crate::room::has_room;
 use commands::contract::Contract;
 use commands::entries::{Command, Reading, Revision};
@@ -16,7 +16,7 @@ pub fn take_reading(span: usize, r: Reading, meter: &mut [i32], revisions: &mut 
         × (lent meter.new revisions.new
         ≡ cond result (put_meter (lent meter.old revisions.old) (Command.Reading r)) (lent meter.old revisions.old)) }
 {
-    if r.input_refusal() != 0 {
+    if r.input_refusal().is_err() {
         return false;
     }
     take_metered(span, Contract::PLAIN, r, meter, revisions)
@@ -28,11 +28,10 @@ pub fn take_revision(span: usize, v: Revision, meter: &mut [i32], revisions: &mu
         × (lent meter.new revisions.new
         ≡ cond result (put_meter (lent meter.old revisions.old) (Command.Revision v)) (lent meter.old revisions.old)) }
 {
-    if v.input_refusal() != 0 {
+    if v.input_refusal().is_err() {
         return false;
     }
-    let r = v.reading;
-    take_metered(span, v.number, r, meter, revisions)
+    take_metered(span, v.number, v.reading, meter, revisions)
 }
 
 // The same of a reading of any revision whose operands are not turned down.
@@ -60,12 +59,11 @@ fn is_taken(span: usize, number: u8, r: Reading, meter: &[i32], revisions: &[u8]
     requires { input_refusal (revised_as number r) ≡ 0 }
     ensures { result ≡ takes_reading span (lent meter.now revisions.now) (revised_as number r) }
 {
-    let minute = r.minute;
-    let at = minute.0 as usize;
+    let at = r.minute.0 as usize;
     if !has_room(meter, revisions, at) {
         return false;
     }
-    (at < span) & !not_above(number, meter, revisions, minute)
+    (at < span) & !not_above(number, meter, revisions, r.minute)
 }
 
 // Puts a reading into its minute's cell, and its revision into the minute's byte.
@@ -76,5 +74,5 @@ pub fn put_reading(number: u8, r: Reading, meter: &mut [i32], revisions: &mut [u
 {
     let at = r.minute.0 as usize;
     meter[at] = r.kw.0 as i32;
-    put_revision(revisions, at, number);
+    revisions[at] = number;
 }

@@ -1,25 +1,24 @@
 // The conditions before those of a command's own kind.
 ghost use Rattle.std.specs.Prelude.{◌≡◌};
+ghost use Rattle.commands.specs.Refusals.{outcome};
 ghost use Rattle.book_refusal.specs.Refusals.{any_refusal};
 
-use commands::checks::pick;
+use commands::refusal::{Refusal, refuse_if};
 
-// The number from a command's input, then 11 to 15.
+// 11 to 15.
 // sound: some list of commands leaves the book; contract: the command is one; short: lent memory has too little room.
 pub fn any_refusal(
-    input: u8,
     sound: bool,
     closed: bool,
     agreed: bool,
     contract: bool,
     short: bool,
-) -> u8
-    ensures { result ≡ any_refusal input sound closed agreed contract short }
+) -> Result<(), Refusal>
+    ensures { result ≡ outcome (any_refusal 0 sound closed agreed contract short) }
 {
-    let r15 = pick(short, 15, 0);
-    let r14 = pick(agreed & contract, 14, r15);
-    let r13 = pick(!agreed & !contract, 13, r14);
-    let r12 = pick(closed, 12, r13);
-    let r11 = pick(!sound, 11, r12);
-    pick(input != 0, input, r11)
+    refuse_if(!sound, Refusal::NotReached)?;
+    refuse_if(closed, Refusal::Closed)?;
+    refuse_if(!agreed & !contract, Refusal::NoContract)?;
+    refuse_if(agreed & contract, Refusal::SecondContract)?;
+    refuse_if(short, Refusal::ShortMemory)
 }

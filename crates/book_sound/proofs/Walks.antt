@@ -1,67 +1,49 @@
--- One turn of the walks over windows, instructions and defaults.
-use mathlib.Core.Path.{◌≡◌, refl, ap, ◌∙◌}
-use mathlib.Core.Logic.{◌↔◌}
-use mathlib.Core.Bool.{Bool, not, ◌&&◌, and-true, and_assoc}
-use mathlib.Core.List.{List, [], ◌∷◌, map}
-use Prim.Native.Nat.{ℕ, ◌+◌, ◌≤◌, ◌<◌}
-use native.Mathlib.Omega.{arith}
-use lib.Dec.{T, eqb, ltb}
-use lib.ListN.{length, take}
-use Rattle.energy.specs.Lists.{all, last, pass}
+-- One turn of the walks over windows and instructions.
+use Rattle.std.proofs.Common.{◌≡◌, ℕ, ◌+◌, ◌<◌, ◌&&◌, List, [], ◌∷◌, length, drop, get_or, add-one}
+use mathlib.Core.Bool.{not, and-true, and_assoc}
+use Rattle.std.proofs.Math.Seq.{drop-cons}
+use mathlib.Core.Path.{ap, sym, ◌∙◌}
+use mathlib.Core.Bool.{true}
+use Rattle.energy.proofs.Tests.{on_and}
+use Rattle.energy.specs.Lists.{all, pass}
 use Rattle.rules.specs.Ledger.{end_of}
-use Rattle.rules.specs.Refusal.{recovered}
 use Rattle.commands.specs.Input.{in_range, ramp_too_long, input_refusal}
 use Rattle.rules.specs.Reached.{windows_sound, instructions_sound, default_sound, agreed_tests}
 use Rattle.commands.specs.declared.contract.Contract.{Contract}
 use Rattle.commands.specs.declared.entries.Window.{Window}
 use Rattle.commands.specs.declared.entries.Instruction.{Instruction}
 use Rattle.commands.specs.declared.entries.Default.{Default}
-use Rattle.commands.specs.declared.entries.Command.TheVariants.{Contract as contractᶜ, Default as defaultᶜ}
-use Rattle.commands.proofs.Input.{input_none}
-use Rattle.book_sound.specs.Columns.{Held}
-use Rattle.book_sound.proofs.Tables.{Walk}
-use Rattle.book_sound.proofs.Search.{start_of, ends_at, in_table}
+use Rattle.commands.specs.declared.entries.Command.TheVariants.{Contract as contractᶜ}
+use Rattle.commands.proofs.Input.{input_ok}
+use Rattle.commands.specs.Refusals.{outcome}
+use Rattle.std.specs.Prelude.{is_ok}
 
--- no refusal from the input
-pub contract_input : (k : Contract) → eqb (input_refusal (contractᶜ k)) 0 ≡ (in_range (contractᶜ k) && not (ramp_too_long (contractᶜ k)))
-contract_input k = input_none (contractᶜ k) ∙ ap (λ b. in_range (contractᶜ k) && b) (and-true (not (ramp_too_long (contractᶜ k))))
-
--- ---- windows and instructions in their order
-
-pub windows_walk : (k : Contract) (span : ℕ) → Walk (windows_sound k span) (λ e w. windows_sound k span e (w ∷ [])) (λ w. w.end.0)
+-- windows from one on: it fits after a minute, and those after it fit after its end
+pub windows_turn : (k : Contract) (span e : ℕ) (ws : List Window) (i : ℕ) (d : Window) → i < length ws
+    → windows_sound k span e (drop i ws)
+    ≡ (windows_sound k span e (get_or ws i d ∷ []) && windows_sound k span (get_or ws i d).end.0 (drop (i + 1) ws))
 unfolding windows_sound
-windows_walk k span = record { none = λ e. refl; first = λ e w ws. rw and-true }
+windows_turn k span e ws i d h = rw (add-one, drop-cons ws i d, and-true)
 
-pub instructions_walk : (k : Contract) (span : ℕ)
-    → Walk (instructions_sound k span) (λ e i. instructions_sound k span e (i ∷ [])) (λ i. end_of k i + k.recovery.0)
+-- the same of instructions, which recover
+pub instructions_turn : (k : Contract) (span e : ℕ) (is : List Instruction) (i : ℕ) (d : Instruction) → i < length is
+    → instructions_sound k span e (drop i is)
+    ≡ (instructions_sound k span e (get_or is i d ∷ []) && instructions_sound k span (end_of k (get_or is i d) + k.recovery.0) (drop (i + 1) is))
 unfolding instructions_sound
-instructions_walk k span = record { none = λ e. refl; first = λ e i is. rw and-true }
-
--- when an instruction may be issued, by the last one
-pub recovered-last : (k : Contract) (is : List Instruction) (d : Instruction) → 0 < length is → recovered k is ≡ end_of k (last d is) + k.recovery.0
-unfolding last
-recovered-last k [] d h = absurd (omega arith)
-recovered-last k (i ∷ is) d h = refl
-
--- ---- defaults beside windows that are given by their columns
-
--- what the columns say
-pub record Columns (ws : List Window) (n : ℕ) (starts ends : List ℕ) : Type 0 where
-  pub first : starts ≡ map start_of ws
-  pub last : ends ≡ map ends_at ws
-  pub used : n ≤ length ws
-
--- the test of one default
-pub default_fits : (k : Contract) (span : ℕ) {ws : List Window} {n : ℕ} {starts ends : List ℕ} (d : Default) (r : Bool) → Columns ws n starts ends
-    → T r ↔ Held starts ends n d.minute.0 → (eqb (input_refusal (defaultᶜ d)) 0 && ltb d.minute.0 span && r) ≡ default_sound k span (take n ws) d
-default_fits k span {ws} {n} d r t h =
-    let held : T r ↔ Held (map start_of ws) (map ends_at ws) n d.minute.0 = rw (t.first, t.last) at h in
-    rw (input_none (defaultᶜ d), and-true, in_table ws n t.used d.minute.0 r held)
+instructions_turn k span e is i d h = rw (add-one, drop-cons is i d, and-true)
 
 -- ---- all entries under a contract
 
+-- no refusal from the input
+contract_input : (k : Contract) → is_ok (outcome (input_refusal (contractᶜ k))) ≡ (in_range (contractᶜ k) && not (ramp_too_long (contractᶜ k)))
+contract_input k = input_ok (contractᶜ k) ∙ ap (λ b. in_range (contractᶜ k) && b) (and-true (not (ramp_too_long (contractᶜ k))))
+
+pub contract_fits : (k : Contract) → is_ok (outcome (input_refusal (contractᶜ k))) ≡ true → in_range (contractᶜ k) ≡ true
+contract_fits k e =
+    (on_and (in_range (contractᶜ k)) (not (ramp_too_long (contractᶜ k))) (sym (contract_input k) ∙ e)).0
+
 pub agreed_apart : (k : Contract) (span : ℕ) (ws : List Window) (is : List Instruction) (ds : List Default)
     → pass (agreed_tests k span ws is ds)
-    ≡ (eqb (input_refusal (contractᶜ k)) 0 && (windows_sound k span 0 ws && (instructions_sound k span 0 is && all (default_sound k span ws) ds)))
+    ≡ (is_ok (outcome (input_refusal (contractᶜ k))) && windows_sound k span 0 ws && instructions_sound k span 0 is && all (default_sound k span ws) ds)
 unfolding agreed_tests pass
 agreed_apart k span ws is ds = rw (contract_input k) (simp (and_assoc, and-true))

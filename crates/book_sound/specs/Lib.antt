@@ -1,2 +1,2 @@
 pub mod Unused
-pub mod Columns
+pub mod InOrder

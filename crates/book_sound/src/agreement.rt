@@ -17,6 +17,7 @@ pub fn span_of(k: Contract) -> usize
 }
 
 // The same with the hour that an October gains.
+#[tactic(auto, using(calendar::proofs::Months::gained_most))]
 pub fn full_span(k: Contract, month: u8) -> usize
     ensures { result ≡ span_of k + gained_in month }
 {
@@ -24,27 +25,17 @@ pub fn full_span(k: Contract, month: u8) -> usize
 }
 
 // Whether a contract has no date, or one that could be entered under it: the 1st of a month with its days.
+#[tactic(auto, unfolding(energy::specs::Lists::all))]
 pub fn date_sound(k: Contract, d: Date) -> bool
     ensures { result ≡ all (date_sound k) (cond (is_no_date d) [] (d ∷ [])) }
 {
-    let none = d.is_none();
-    let stands = d.exists();
-    none | (stands & (d.day == Date::DAY_LEAST) & (days_of(d.year, d.month) == k.days))
+    d.is_none() | (d.exists() & (d.day == Date::DAY_LEAST) & (days_of(d.year, d.month) == k.days))
 }
 
 // Whether a contract is all zeros.
+#[tactic(auto, using(crate::proofs::Tables::zero_is), unfolding(crate::specs::Unused::no_contract_tests, energy::specs::Lists::pass))]
 pub fn is_no_contract(k: Contract) -> bool
     ensures { result ≡ pass (no_contract_tests k) }
 {
-    (k.days == 0)
-        & (k.kind == 0)
-        & (k.service == 0)
-        & (k.contracted.0 == 0)
-        & (k.rampup == 0)
-        & (k.rampdown == 0)
-        & (k.response.0 == 0)
-        & (k.recovery.0 == 0)
-        & (k.availability == 0)
-        & (k.utilisation == 0)
-        & (k.optional == 0)
+    k == Contract::NONE
 }

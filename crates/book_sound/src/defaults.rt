@@ -1,67 +1,37 @@
 // The table of defaults.
-ghost use Rattle.std.specs.Prelude.{◌≡◌, true, ◌≤◌, take, drop};
+ghost use Rattle.std.specs.Prelude.{◌≡◌, ◌&&◌, ltb};
 ghost use Rattle.energy.specs.Lists.{all, any};
+ghost use Rattle.commands.specs.Input.{in_range};
 ghost use Rattle.rules.specs.Ledger.{within};
-ghost use Rattle.rules.specs.Reached.{windows_sound, default_sound};
-ghost use Rattle.book_sound.specs.Columns.{WindowsInOrder};
-ghost use Rattle.book_sound.specs.Unused.{is_no_default};
+ghost use Rattle.rules.specs.Reached.{default_sound};
+ghost use Rattle.commands.specs.declared.contract.Contract.{Contract};
+ghost use Rattle.book_sound.specs.InOrder.{WindowsInOrder};
 
-use crate::columns::{ends_of, in_columns, starts_of};
-use commands::contract::Contract;
-use commands::entries::{Default, Window};
+use commands::entries::{Command, Default, Window};
 use energy::units::Minutes;
 
-// Whether a minute is in one of the first n windows.
-pub fn in_window(windows: [Window; 128], n: usize, m: Minutes) -> bool
-    requires { (n ≤ 128) × WindowsInOrder 0 (take n windows) }
-    ensures { result ≡ any (λ w. within w m.0) (take n windows) }
+// Whether a minute is in one of these windows. As they are in order, the last one that starts by then is the only one that can hold it.
+pub fn in_window(windows: &[Window], m: Minutes) -> bool
+    requires { WindowsInOrder 0 windows.now }
+    ensures { result ≡ any (λ w. within w m.0) windows.now }
 {
-    let starts = starts_of(windows);
-    let ends = ends_of(windows);
-    in_columns(&starts, &ends, n, m.0)
+    let started = windows.partition_point(|w| w.start <= m);
+    windows[..started].last().is_some_and(|w| m < w.end)
 }
 
-// Whether the first n defaults could be entered beside the first w windows.
-pub fn defaults_sound(
-    k: Contract,
-    span: usize,
-    windows: [Window; 128],
-    w: usize,
-    defaults: [Default; 128],
-    n: usize,
-) -> bool
-    requires { (n ≤ 128) × (w ≤ 128) × (windows_sound k span 0 (take w windows) ≡ true) }
-    ensures { result ≡ all (default_sound k span (take w windows)) (take n defaults) }
+// Whether a default could be entered beside these windows in a month with this span.
+#[tactic(auto, using(commands::proofs::Input::input_ok))]
+fn default_fits(span: usize, windows: &[Window], d: Default) -> bool
+    requires { WindowsInOrder 0 windows.now }
+    ensures { result ≡ (in_range (Command.Default d) && ltb d.minute.0 span && any (λ w. within w d.minute.0) windows.now) }
 {
-    let starts = starts_of(windows);
-    let ends = ends_of(windows);
-    let mut i = 0;
-    while i < n {
-        let d = defaults[i];
-        let fits = (d.input_refusal() == 0)
-            & ((d.minute.0 as usize) < span)
-            & in_columns(&starts, &ends, w, d.minute.0);
-        if !fits {
-            return false;
-        }
-        i += 1;
-    }
-    true
+    d.input_refusal().is_ok() & ((d.minute.0 as usize) < span) & in_window(windows, d.minute)
 }
 
-// Whether the defaults after the first n are zeros.
-pub fn defaults_unused(defaults: [Default; 128], n: usize) -> bool
-    requires { n ≤ 128 }
-    ensures { result ≡ all is_no_default (drop n defaults) }
+// Whether defaults could be entered beside these windows.
+pub fn defaults_sound(span: usize, windows: &[Window], defaults: &[Default]) -> bool
+    requires { WindowsInOrder 0 windows.now }
+    ensures { (k : Contract) → result ≡ all (default_sound k span windows.now) defaults.now }
 {
-    let mut i = n;
-    while i < Contract::DEFAULTS_MOST {
-        let d = defaults[i];
-        let zero = (d.minute.0 == 0) & (d.kind == 0) & (d.reach == 0);
-        if !zero {
-            return false;
-        }
-        i += 1;
-    }
-    true
+    defaults.iter().all(|d| default_fits(span, windows, *d))
 }

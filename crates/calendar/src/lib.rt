@@ -9,7 +9,7 @@ mod week;
 use crate::week::day_number;
 
 // A date as it is told: any of its numbers may be outside its range.
-#[derive(Clone, Copy)]
+#[derive(Clone, Copy, Debug, PartialEq, Eq)]
 pub struct Date {
     pub year: u16,
     pub month: u8,
@@ -35,22 +35,27 @@ impl Date {
     // minutes by which they do
     pub const HOUR: usize = 60;
 
+    // stands for no date
+    pub const NONE: Date = Date {
+        year: 0,
+        month: 0,
+        day: 0,
+    };
+
     // Whether the calendar has this date.
     pub fn exists(self) -> bool
         ensures { result ≡ is_date self }
     {
-        let days = days_of(self.year, self.month);
-        let year = (Date::YEAR_LEAST <= self.year) & (self.year <= Date::YEAR_MOST);
-        let month = (Date::MONTH_LEAST <= self.month) & (self.month <= Date::MONTH_MOST);
-        let day = (Date::DAY_LEAST <= self.day) & (self.day <= days);
-        year & month & day
+        (Date::YEAR_LEAST..=Date::YEAR_MOST).contains(&self.year)
+            & (Date::MONTH_LEAST..=Date::MONTH_MOST).contains(&self.month)
+            & (Date::DAY_LEAST..=days_of(self.year, self.month)).contains(&self.day)
     }
 
     // Whether this stands for no date.
     pub fn is_none(self) -> bool
         ensures { result ≡ is_no_date self }
     {
-        (self.year == 0) & (self.month == 0) & (self.day == 0)
+        self == Date::NONE
     }
 }
 

@@ -15,11 +15,9 @@ fn year_days(year: u16) -> usize
 fn before_year(year: u16) -> usize
     ensures { (result ≡ sum_ℕ year_days (between 2007 year)) × (result ≤ 366 * year) }
 {
-    let mut days: usize = 0;
-    let mut y = Date::YEAR_LEAST;
-    while y < year {
+    let mut days = 0;
+    for y in Date::YEAR_LEAST..year {
         days += year_days(y);
-        y += 1;
     }
     days
 }
@@ -28,11 +26,9 @@ fn before_year(year: u16) -> usize
 fn before_month(year: u16, month: u8) -> usize
     ensures { (result ≡ sum_ℕ (days_of year) (between 1 month)) × (result ≤ 31 * month) }
 {
-    let mut days: usize = 0;
-    let mut m = Date::MONTH_LEAST;
-    while m < month {
+    let mut days = 0;
+    for m in Date::MONTH_LEAST..month {
         days += days_of(year, m) as usize;
-        m += 1;
     }
     days
 }

@@ -12,7 +12,11 @@ use Rattle.energy.proofs.Tests.{T_and}
 use Rattle.commands.specs.Input.{from_to, in_range, ramp_too_long, bad_window, no_such_date, Condition, input_conditions, first_met, input_refusal, or_zero}
 use Rattle.commands.specs.Input.{offer_for, offer_of}
 use Rattle.commands.specs.declared.contract.Contract.{Contract}
-use Rattle.commands.specs.declared.contract.Offer.TheVariants.{Agreed, Refused}
+use Rattle.commands.specs.declared.refusal.Refusal.{Refusal}
+use Rattle.commands.specs.declared.refusal.Refusal.TheVariants.{OutOfRange}
+use Rattle.commands.proofs.Outcomes.{Answered, outcome_ok}
+use Rattle.commands.specs.Refusals.{outcome, refusal_of}
+use Rattle.std.specs.Prelude.{Ok, Err, is_ok}
 use Rattle.commands.specs.declared.entries.Command.{Command}
 use Rattle.commands.specs.declared.entries.Command.TheVariants.{Contract as contractᶜ}
 
@@ -82,18 +86,24 @@ pub input_cond : (c : Command) → input_refusal c ≡ cond (not (in_range c)) 3
 unfolding input_refusal numbers
 input_cond c = first_number (input_conditions c) tt
 
--- the number from the test of the range, and that of the conditions after it
-pub input_picked : (c : Command) {b : Bool} {r n : ℕ} → r ≡ cond (not b) 3 n → b ≡ in_range c
-    → n ≡ cond (ramp_too_long c) 4 (cond (bad_window c) 5 (cond (no_such_date c) 28 0))
-    → r ≡ input_refusal c
-input_picked c e f g = e ∙ (λ i. cond (not (f i)) 3 (g i)) ∙ sym (input_cond c)
+-- the number of the conditions after the test of the range
+abbrev pub rest_number : Command → ℕ
+rest_number c = cond (ramp_too_long c) 4 (cond (bad_window c) 5 (cond (no_such_date c) 28 0))
 
 -- an operand outside its range comes first
-pub input_out : (c : Command) → in_range c ≡ false → 3 ≡ input_refusal c
-input_out c e = rw (input_cond c, e)
+pub input_out : (c : Command) → in_range c ≡ false → Err OutOfRange ≡ outcome (input_refusal c)
+unfolding outcome refusal_of
+input_out c e = rw (input_cond c, e) refl
 
-pub input_in : (c : Command) → in_range c ≡ true → cond (ramp_too_long c) 4 (cond (bad_window c) 5 (cond (no_such_date c) 28 0)) ≡ input_refusal c
-input_in c e = rw (input_cond c, e)
+pub input_in : (c : Command) → in_range c ≡ true → outcome (rest_number c) ≡ outcome (input_refusal c)
+input_in c e = rw (input_cond c, e) refl
+
+-- what is answered where there is no condition after it
+pub input_only : (c : Command) {b : Bool} {r : Answered} → r ≡ cond (not b) (Err OutOfRange) (Ok tt) → b ≡ in_range c → rest_number c ≡ 0
+    → r ≡ outcome (input_refusal c)
+unfolding outcome
+input_only c {b = true} e f g = e ∙ rw g at (input_in c (sym f))
+input_only c {b = false} e f g = e ∙ input_out c (sym f)
 
 -- no number from the input: no condition of it holds
 pub input_none : (c : Command) → eqb (input_refusal c) 0 ≡ (in_range c && (not (ramp_too_long c) && not (no_such_date c || bad_window c)))
@@ -107,6 +117,10 @@ input_none c = ap (λ n. eqb n 0) (input_cond c) ∙ go (in_range c) (ramp_too_l
     go true false false false = refl
     go false q r s = refl
 
+-- and nothing is answered but that there is none
+pub input_ok : (c : Command) → is_ok (outcome (input_refusal c)) ≡ (in_range c && (not (ramp_too_long c) && not (no_such_date c || bad_window c)))
+input_ok c = outcome_ok (input_refusal c) ∙ input_none c
+
 -- ---- an operand against its range
 
 pub inside : (a b n : ℕ) → a ≤ n → n ≤ b → true ≡ from_to a b n
@@ -118,29 +132,34 @@ below a b n h = rw (lt-leb a n h)
 pub above : (a b n : ℕ) → b < n → false ≡ from_to a b n
 above a b n h = rw (lt-leb n b h) (sym (and-false (leb a n)))
 
--- ---- the offer for a number
+-- ---- what is answered for a number
 
-pub offer_agreed : (k : Contract) → input_refusal (contractᶜ k) ≡ 0 → Agreed k ≡ offer_of k
+pub offer_agreed : (k : Contract) → input_refusal (contractᶜ k) ≡ 0 → Ok k ≡ offer_of k
 unfolding offer_of
 offer_agreed k e = sym (ap (offer_for k) (input_number (contractᶜ k) ∙ ap numbered e))
 
-pub offer_refused : (k : Contract) → input_refusal (contractᶜ k) ≢ 0 → Refused (input_refusal (contractᶜ k)) ≡ offer_of k
-unfolding offer_of
-offer_refused k h = sym (ap (offer_for k) (input_number (contractᶜ k) ∙ numbered_some (input_refusal (contractᶜ k)) h))
-
--- the number that an offer gives: that of the operands, or none where they are agreed to
-pub offer-says : (k : Contract) (n : ℕ) → offer_of k ≡ Refused n → (input_refusal (contractᶜ k) ≡ n) × (n ≢ 0)
-unfolding offer_of
-offer-says k n e = go (input_refusal (contractᶜ k)) (sym (ap (offer_for k) (input_number (contractᶜ k))) ∙ e)
+pub offer_refused : (k : Contract) (r : Refusal) → Err r ≡ outcome (input_refusal (contractᶜ k)) → Err r ≡ offer_of k
+unfolding offer_of outcome
+offer_refused k r e = rw (input_number (contractᶜ k)) (go (input_refusal (contractᶜ k)) e)
   where
-    go : (x : ℕ) → offer_for k (numbered x) ≡ Refused n → (x ≡ n) × (n ≢ 0)
-    go zero q = let z : ◌≡◌ {A = ℕ} 0 1 = cc in absurd (omega arith)
-    go (suc x) q = let same : suc x ≡ n = cc in (same, λ z. omega arith)
+    go : (n : ℕ) → Err r ≡ outcome n → Err r ≡ offer_for k (numbered n)
+    go zero q = cc
+    go (suc n) q = cc
 
-pub offer_agrees : (k a : Contract) → offer_of k ≡ Agreed a → (k ≡ a) × (input_refusal (contractᶜ k) ≡ 0)
+-- a contract that is agreed to has no number, and is the one that was offered
+pub offer_agrees : (k a : Contract) → offer_of k ≡ Ok a → (k ≡ a) × (input_refusal (contractᶜ k) ≡ 0)
 unfolding offer_of
 offer_agrees k a e = go (input_refusal (contractᶜ k)) (sym (ap (offer_for k) (input_number (contractᶜ k))) ∙ e)
   where
-    go : (x : ℕ) → offer_for k (numbered x) ≡ Agreed a → (k ≡ a) × (x ≡ 0)
+    go : (x : ℕ) → offer_for k (numbered x) ≡ Ok a → (k ≡ a) × (x ≡ 0)
     go zero q = (cc, refl)
     go (suc x) q = let z : ◌≡◌ {A = ℕ} 0 1 = cc in absurd (omega arith)
+
+-- a refusal of the offer is that of the operands
+pub offer_says : (k : Contract) (r : Refusal) → Err r ≡ offer_of k → Err r ≡ outcome (input_refusal (contractᶜ k))
+unfolding offer_of outcome
+offer_says k r e = go (input_refusal (contractᶜ k)) (e ∙ ap (offer_for k) (input_number (contractᶜ k)))
+  where
+    go : (n : ℕ) → Err r ≡ offer_for k (numbered n) → Err r ≡ outcome n
+    go zero q = cc
+    go (suc n) q = cc

@@ -1,3 +1,4 @@
+pub mod Outcomes
 pub mod Chain
 pub mod Input
 pub mod Terms

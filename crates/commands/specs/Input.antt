@@ -1,14 +1,14 @@
 -- "From the input": what a command's own operands are turned down for, whatever the book, and what comes of a contract's operands.
-use Rattle.std.specs.Prelude.{Bool, true, false, not, ◌&&◌, ◌||◌, List, [], ◌∷◌, ℕ, ◌%◌, ℤ, pos, negsuc, nat_abs, eqb, leb, ltb}
+use Rattle.std.specs.Prelude.{Bool, true, false, not, ◌&&◌, ◌||◌, List, [], ◌∷◌, ℕ, ◌%◌, ℤ, pos, negsuc, nat_abs, eqb, leb, ltb, Result, Ok, Err}
 use Rattle.std.proofs.Math.Option.{Option, none, some}
 use Rattle.std.specs.Int.Signed.{le_z}
 use Rattle.energy.specs.Number.{ceiling}
 use Rattle.calendar.specs.Calendar.{is_date}
 pub use Rattle.calendar.specs.Calendar.{from_to}
+use Rattle.commands.specs.Refusals.{refusal_of}
 use Rattle.commands.specs.Command.{on_contract, on_date, on_window, on_instruction, on_default, on_reading, on_revision, always}
 use Rattle.commands.specs.declared.contract.Contract.{Contract}
-use Rattle.commands.specs.declared.contract.Offer.{Offer}
-use Rattle.commands.specs.declared.contract.Offer.TheVariants.{Agreed, Refused}
+use Rattle.commands.specs.declared.refusal.Refusal.{Refusal}
 use Rattle.commands.specs.declared.entries.Reading.{Reading}
 use Rattle.commands.specs.declared.entries.Command.{Command}
 use Rattle.commands.specs.declared.entries.Command.TheVariants.{Contract as contractᶜ}
@@ -113,11 +113,11 @@ or_zero (some n) = n
 unfoldable pub input_refusal : Command → ℕ
 input_refusal c = or_zero (first_met (input_conditions c))
 
--- the offer for a number: the contract where there is none
-abbrev pub offer_for : Contract → Option ℕ → Offer
-offer_for k none = Agreed k
-offer_for k (some n) = Refused n
+-- what is answered for a number: the contract where there is none
+abbrev pub offer_for : Contract → Option ℕ → Result Contract Refusal
+offer_for k none = Ok k
+offer_for k (some n) = Err (refusal_of n)
 
 -- what comes of a contract's operands
-unfoldable pub offer_of : Contract → Offer
+unfoldable pub offer_of : Contract → Result Contract Refusal
 offer_of k = offer_for k (first_met (input_conditions (contractᶜ k)))

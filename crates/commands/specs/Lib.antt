@@ -1,2 +1,3 @@
 pub mod Command
+pub mod Refusals
 pub mod Input

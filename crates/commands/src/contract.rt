@@ -1,17 +1,18 @@
 // The contract of a unit: its operands, and the limits of every operand of an entry under it.
 ghost use Rattle.std.specs.Prelude.{◌≡◌, true};
+ghost use Rattle.commands.specs.Refusals.{outcome};
 ghost use Rattle.commands.specs.Input.{in_range, input_refusal, kw_of, offer_of, up_minutes, down_minutes};
 ghost use Rattle.energy.specs.Number.{ceiling};
 ghost use Rattle.commands.specs.declared.entries.Command.TheVariants.{Contract as contractᶜ};
 
-use crate::checks::{byte_from_to, kw_from_to, minutes_from_to, number_from_to, pick};
+use crate::refusal::{Refusal, refuse_if};
 use energy::limits;
 use energy::limits::KW_MOST;
 use energy::ramp::ramp_minutes;
 use energy::units::{Kw, Minutes};
 
 // The operands of a contract, as they stand in the unit file: any of them may be outside its range.
-#[derive(Clone, Copy)]
+#[derive(Clone, Copy, Debug, PartialEq, Eq)]
 pub struct Contract {
     pub days: u8,
     // 0 generator, 1 demand reducer
@@ -30,14 +31,22 @@ pub struct Contract {
     pub optional: u32,
 }
 
-// What comes of a contract's operands: the contract, or the number under which they are turned down.
-#[derive(Clone, Copy)]
-pub enum Offer {
-    Agreed(Contract),
-    Refused(u8),
-}
-
 impl Contract {
+    // in place of a contract that is not there: zeros
+    pub const NONE: Contract = Contract {
+        days: 0,
+        kind: 0,
+        service: 0,
+        contracted: Kw(0),
+        rampup: 0,
+        rampdown: 0,
+        response: Minutes(0),
+        recovery: Minutes(0),
+        availability: 0,
+        utilisation: 0,
+        optional: 0,
+    };
+
     pub const DAYS_LEAST: u8 = 1;
 
     pub const DAYS_MOST: u8 = 31;
@@ -145,7 +154,7 @@ impl Contract {
         availability: u32,
         utilisation: u32,
         optional: u32,
-    ) -> Offer
+    ) -> Result<Contract, Refusal>
         ensures { result ≡ offer_of (record {
           days = days;
           kind = kind;
@@ -173,49 +182,39 @@ impl Contract {
             utilisation,
             optional,
         };
-        let number = contract.input_refusal();
-        if number != 0 {
-            return Offer::Refused(number);
-        }
-        Offer::Agreed(contract)
+        contract.input_refusal()?;
+        Ok(contract)
     }
 
     // What comes of the operands that a command has: the constructor's answer.
-    pub fn offer(self) -> Offer
+    pub fn offer(self) -> Result<Contract, Refusal>
         ensures { result ≡ offer_of self }
     {
-        let contracted = self.contracted;
-        let response = self.response;
-        let recovery = self.recovery;
         Contract::new(
             self.days,
             self.kind,
             self.service,
-            contracted,
+            self.contracted,
             self.rampup,
             self.rampdown,
-            response,
-            recovery,
+            self.response,
+            self.recovery,
             self.availability,
             self.utilisation,
             self.optional,
         )
     }
 
-    // The first refusal that its own operands meet, 0 for none. Ramps are asked only of operands in range, as 3 comes before 4.
-    pub fn input_refusal(self) -> u8
-        ensures { result ≡ input_refusal (contractᶜ self) }
+    // The first refusal that its own operands meet, if there is one. Ramps are asked only of operands in range.
+    pub fn input_refusal(self) -> Result<(), Refusal>
+        ensures { result ≡ outcome (input_refusal (contractᶜ self)) }
     {
-        let fits = self.in_range();
-        if !fits {
-            return 3;
-        }
+        refuse_if(!self.in_range(), Refusal::OutOfRange)?;
         let up = self.ramp_up_minutes();
         let down = self.ramp_down_minutes();
-        pick(
+        refuse_if(
             ((self.response.0 as u32) < up) | (Contract::RAMP_DOWN_MOST < down),
-            4,
-            0,
+            Refusal::RampTooLong,
         )
     }
 
@@ -240,31 +239,23 @@ impl Contract {
         requires { in_range (contractᶜ self) ≡ true }
         ensures { result ≡ ceiling (kw_of self) ramp }
     {
-        let kw = self.contracted;
-        ramp_minutes(kw, ramp)
+        ramp_minutes(self.contracted, ramp)
     }
 
     // Whether each operand is in its range or one of its values.
     fn in_range(self) -> bool
         ensures { result ≡ in_range (contractᶜ self) }
     {
-        let contracted = self.contracted;
-        let response = self.response;
-        let recovery = self.recovery;
-        byte_from_to(Contract::DAYS_LEAST, Contract::DAYS_MOST, self.days)
-            & byte_from_to(Contract::GENERATOR, Contract::DEMAND_REDUCER, self.kind)
-            & byte_from_to(Contract::COMMITTED, Contract::FLEXIBLE, self.service)
-            & kw_from_to(
-                Contract::CONTRACTED_LEAST,
-                Contract::CONTRACTED_MOST,
-                contracted,
-            )
-            & number_from_to(Contract::RAMP_LEAST, Contract::RAMP_MOST, self.rampup)
-            & number_from_to(Contract::RAMP_LEAST, Contract::RAMP_MOST, self.rampdown)
-            & minutes_from_to(Contract::RESPONSE_LEAST, Contract::RESPONSE_MOST, response)
-            & minutes_from_to(Contract::RECOVERY_LEAST, Contract::RECOVERY_MOST, recovery)
-            & number_from_to(Contract::RATE_LEAST, Contract::RATE_MOST, self.availability)
-            & number_from_to(Contract::RATE_LEAST, Contract::RATE_MOST, self.utilisation)
-            & number_from_to(Contract::RATE_LEAST, Contract::RATE_MOST, self.optional)
+        (Contract::DAYS_LEAST..=Contract::DAYS_MOST).contains(&self.days)
+            & (Contract::GENERATOR..=Contract::DEMAND_REDUCER).contains(&self.kind)
+            & (Contract::COMMITTED..=Contract::FLEXIBLE).contains(&self.service)
+            & (Contract::CONTRACTED_LEAST..=Contract::CONTRACTED_MOST).contains(&self.contracted)
+            & (Contract::RAMP_LEAST..=Contract::RAMP_MOST).contains(&self.rampup)
+            & (Contract::RAMP_LEAST..=Contract::RAMP_MOST).contains(&self.rampdown)
+            & (Contract::RESPONSE_LEAST..=Contract::RESPONSE_MOST).contains(&self.response)
+            & (Contract::RECOVERY_LEAST..=Contract::RECOVERY_MOST).contains(&self.recovery)
+            & (Contract::RATE_LEAST..=Contract::RATE_MOST).contains(&self.availability)
+            & (Contract::RATE_LEAST..=Contract::RATE_MOST).contains(&self.utilisation)
+            & (Contract::RATE_LEAST..=Contract::RATE_MOST).contains(&self.optional)
     }
 }

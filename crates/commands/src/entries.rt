@@ -1,17 +1,18 @@
 // The entries of a unit file, and the command that is one of them or a close. A field holds whatever its operand bytes can say;
 // an entry's `input_refusal` tells whether that is in its range.
 ghost use Rattle.std.specs.Prelude.{◌≡◌, ◌+◌, ◌<◌, ◌^◌};
+ghost use Rattle.commands.specs.Refusals.{outcome};
 ghost use Rattle.commands.specs.Input.{from_to, input_refusal, meterable};
 ghost use Rattle.commands.specs.declared.entries.Command.TheVariants.{Date as dateᶜ, Window as windowᶜ, Instruction as instructionᶜ};
 ghost use Rattle.commands.specs.declared.entries.Command.TheVariants.{Default as defaultᶜ, Reading as readingᶜ, Revision as revisionᶜ};
 
-use crate::checks::{byte_from_to, kw_from_to, minutes_from_to, pick};
 use crate::contract::Contract;
+use crate::refusal::{Refusal, refuse_if};
 use calendar::Date;
 use energy::units::{Kw, Minutes};
 
 // A window of availability: from its start up to, and without, its end.
-#[derive(Clone, Copy)]
+#[derive(Clone, Copy, Debug, PartialEq, Eq)]
 pub struct Window {
     pub start: Minutes,
     pub end: Minutes,
@@ -20,7 +21,7 @@ pub struct Window {
 }
 
 // An instruction to deliver.
-#[derive(Clone, Copy)]
+#[derive(Clone, Copy, Debug, PartialEq, Eq)]
 pub struct Instruction {
     pub issue: Minutes,
     pub cease: Minutes,
@@ -28,7 +29,7 @@ pub struct Instruction {
 
 // A default. Kinds: 1 data submission, 2 utilisation, 3 availability, 4 delivery.
 // Reaches: 1 the period, 2 the whole window, 3 from that period to the window's end.
-#[derive(Clone, Copy)]
+#[derive(Clone, Copy, Debug, PartialEq, Eq)]
 pub struct Default {
     pub minute: Minutes,
     pub kind: u8,
@@ -36,20 +37,20 @@ pub struct Default {
 }
 
 // The metered kW of a minute.
-#[derive(Clone, Copy)]
+#[derive(Clone, Copy, Debug, PartialEq, Eq)]
 pub struct Reading {
     pub minute: Minutes,
     pub kw: Kw,
 }
 
 // A reading that the meter operator sends again: of those for a minute the greatest number supersedes.
-#[derive(Clone, Copy)]
+#[derive(Clone, Copy, Debug, PartialEq, Eq)]
 pub struct Revision {
     pub number: u8,
     pub reading: Reading,
 }
 
-#[derive(Clone, Copy)]
+#[derive(Clone, Copy, Debug, PartialEq, Eq)]
 pub enum Command {
     Contract(Contract),
     Date(Date),
@@ -61,84 +62,90 @@ pub enum Command {
     Close,
 }
 
-// The first refusal that a date's own operands meet, 0 for none; so for each entry below.
-pub fn date_input_refusal(d: Date) -> u8
-    ensures { result ≡ input_refusal (dateᶜ d) }
+// The first refusal that a date's own operands meet, if there is one; so for each entry below.
+pub fn date_input_refusal(d: Date) -> Result<(), Refusal>
+    ensures { result ≡ outcome (input_refusal (dateᶜ d)) }
 {
-    let stands = d.exists();
-    pick(!stands, 28, 0)
+    refuse_if(!d.exists(), Refusal::NoSuchDate)
 }
 
 impl Window {
-    pub fn input_refusal(self) -> u8
-        ensures { result ≡ input_refusal (windowᶜ self) }
+    // in place of a window that is not there: zeros; so for the two below
+    pub const NONE: Window = Window {
+        start: Minutes(0),
+        end: Minutes(0),
+        verdict: 0,
+    };
+
+    pub fn input_refusal(self) -> Result<(), Refusal>
+        ensures { result ≡ outcome (input_refusal (windowᶜ self)) }
     {
-        let start = self.start;
-        let end = self.end;
-        let fits = minutes_from_to(Contract::MINUTE_LEAST, Contract::MINUTE_MOST, start)
-            & minutes_from_to(Contract::MINUTE_LEAST, Contract::MINUTE_MOST, end)
-            & byte_from_to(Contract::ACCEPTED, Contract::REJECTED, self.verdict);
-        let bad = (end.0 <= start.0)
-            | !(start.0 % Contract::PERIOD.0 == 0)
-            | !(end.0 % Contract::PERIOD.0 == 0);
-        let r5 = pick(bad, 5, 0);
-        pick(!fits, 3, r5)
+        let fits = (Contract::MINUTE_LEAST..=Contract::MINUTE_MOST).contains(&self.start)
+            & (Contract::MINUTE_LEAST..=Contract::MINUTE_MOST).contains(&self.end)
+            & (Contract::ACCEPTED..=Contract::REJECTED).contains(&self.verdict);
+        let bad = (self.end.0 <= self.start.0)
+            | !(self.start.0 % Contract::PERIOD.0 == 0)
+            | !(self.end.0 % Contract::PERIOD.0 == 0);
+        refuse_if(!fits, Refusal::OutOfRange)?;
+        refuse_if(bad, Refusal::BadWindow)
     }
 }
 
 impl Instruction {
-    pub fn input_refusal(self) -> u8
-        ensures { result ≡ input_refusal (instructionᶜ self) }
+    pub const NONE: Instruction = Instruction {
+        issue: Minutes(0),
+        cease: Minutes(0),
+    };
+
+    pub fn input_refusal(self) -> Result<(), Refusal>
+        ensures { result ≡ outcome (input_refusal (instructionᶜ self)) }
     {
-        let issue = self.issue;
-        let cease = self.cease;
-        let fits = minutes_from_to(Contract::ISSUE_LEAST, Contract::MINUTE_MOST, issue)
-            & minutes_from_to(Contract::MINUTE_LEAST, Contract::MINUTE_MOST, cease);
-        pick(!fits, 3, 0)
+        let fits = (Contract::ISSUE_LEAST..=Contract::MINUTE_MOST).contains(&self.issue)
+            & (Contract::MINUTE_LEAST..=Contract::MINUTE_MOST).contains(&self.cease);
+        refuse_if(!fits, Refusal::OutOfRange)
     }
 }
 
 impl Default {
-    pub fn input_refusal(self) -> u8
-        ensures { result ≡ input_refusal (defaultᶜ self) }
+    pub const NONE: Default = Default {
+        minute: Minutes(0),
+        kind: 0,
+        reach: 0,
+    };
+
+    pub fn input_refusal(self) -> Result<(), Refusal>
+        ensures { result ≡ outcome (input_refusal (defaultᶜ self)) }
     {
-        let minute = self.minute;
-        let fits = minutes_from_to(Contract::MINUTE_LEAST, Contract::MINUTE_MOST, minute)
+        let fits = (Contract::MINUTE_LEAST..=Contract::MINUTE_MOST).contains(&self.minute)
             & known_kind(self.kind)
             & known_reach(self.reach);
-        pick(!fits, 3, 0)
+        refuse_if(!fits, Refusal::OutOfRange)
     }
 }
 
 impl Reading {
-    pub fn input_refusal(self) -> u8
-        ensures { result ≡ input_refusal (readingᶜ self) }
+    pub fn input_refusal(self) -> Result<(), Refusal>
+        ensures { result ≡ outcome (input_refusal (readingᶜ self)) }
     {
-        pick(!self.in_range(), 3, 0)
+        refuse_if(!self.in_range(), Refusal::OutOfRange)
     }
 
     // Whether minute and kW are in their ranges.
     fn in_range(self) -> bool
         ensures { result ≡ meterable self }
     {
-        let minute = self.minute;
-        let kw = self.kw;
-        minutes_from_to(Contract::MINUTE_LEAST, Contract::MINUTE_MOST, minute)
-            & kw_from_to(Contract::READING_LEAST, Contract::READING_MOST, kw)
+        (Contract::MINUTE_LEAST..=Contract::MINUTE_MOST).contains(&self.minute)
+            & (Contract::READING_LEAST..=Contract::READING_MOST).contains(&self.kw)
     }
 }
 
 impl Revision {
-    pub fn input_refusal(self) -> u8
-        ensures { result ≡ input_refusal (revisionᶜ self) }
+    pub fn input_refusal(self) -> Result<(), Refusal>
+        ensures { result ≡ outcome (input_refusal (revisionᶜ self)) }
     {
-        let reading = self.reading;
-        let fits = byte_from_to(
-            Contract::REVISION_LEAST,
-            Contract::REVISION_MOST,
-            self.number,
-        ) & reading.in_range();
-        pick(!fits, 3, 0)
+        let fits = (Contract::REVISION_LEAST..=Contract::REVISION_MOST).contains(&self.number)
+            & self.reading.in_range();
+        refuse_if(!fits, Refusal::OutOfRange)
     }
 }
 

@@ -11,7 +11,6 @@ use Rattle.commands.specs.Input.{first_met}
 use Rattle.rules.specs.Ledger.{cells_in}
 use Rattle.rules.specs.Dates.{october, on}
 use Rattle.rules.specs.File.{file_of}
-use Rattle.rules.specs.declared.answer.Answer.TheVariants.{Taken}
 use Rattle.rules.proofs.DatesTaken.{dates_taken}
 use Rattle.book.specs.Book.{empty_book, book_span, book_cells, ledger_in, put_all}
 use Rattle.book.proofs.FromCommands.{leads, Leads}
@@ -20,6 +19,7 @@ use Rattle.file_write.specs.Write.{write_conditions, write_book}
 use Rattle.demands.specs.RoundTrip.{RoundTrip·theorem}
 use Rattle.demands.specs.Dated.{october_book, read_again, DatedAgain·theorem}
 use Rattle.demands.proofs.RoundTrip.{round_trip}
+use Rattle.rules.specs.Answer.{Taken}
 
 left : Leads 44700 october
 left = subst (Leads 44700) dates_taken.in_october (leads 44700 october)

@@ -8,7 +8,6 @@ use Prim.Native.Nat.{ℕ}
 use lib.ListN.{length, get_elem?}
 use Rattle.book_memory.specs.Meter.{room_in}
 use Rattle.rules.specs.Refusal.{refusal}
-use Rattle.rules.specs.declared.answer.Answer.TheVariants.{Taken}
 use Rattle.book.specs.Book.{ledger_in}
 use Rattle.book.specs.Sound.{sound}
 use Rattle.book.specs.Enter.{enter_book, entered_by}
@@ -19,6 +18,7 @@ use Rattle.demands.specs.Demand3.{Demand3·theorem}
 use Rattle.demands.proofs.Along.{At, at_start, at_place, by_rules, state_left}
 use Rattle.demands.proofs.Settled.{settlement_right}
 use Rattle.demands.proofs.FileReads.{entered_list_lem, whole_file_lem}
+use Rattle.rules.specs.Answer.{Taken}
 
 -- ---- one place of a list
 

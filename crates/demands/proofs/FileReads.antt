@@ -10,10 +10,10 @@ use Rattle.energy.specs.Lists.{concat_map}
 use Rattle.rules.specs.File.{read_at, read_on, write, commands_from, commands_in}
 use Rattle.rules.proofs.FileLength.{written_longer}
 use Rattle.commands.specs.declared.entries.Command.{Command}
-use Rattle.rules.specs.declared.file.Read.{Read}
-use Rattle.rules.specs.declared.file.Read.TheVariants.{Got, End, Refused as refusedʳ}
 use Rattle.file_read.proofs.Steps.{got_long}
 use Rattle.demands.specs.Steps.{enter, read, stop, read_call, Place, outset, onwards, place_from, reads_to}
+use Rattle.rules.specs.Answer.{Read, Got, End}
+use Rattle.std.specs.Prelude.{Err}
 
 module _ (file : List ℕ) where
   -- commands that are entered
@@ -41,7 +41,7 @@ module _ (file : List ℕ) where
           → (r : Read) → read_at file p.at ≡ r
           → (place_from file (onwards p (read_call r)) (replicate n read)).commands ≡ p.commands ++ read_on (λ next. commands_from n file next) r
       go rest (Got c next) e = rest (record { at = next; commands = p.commands ++ c ∷ [] }) ∙ append_snoc p.commands c (commands_from n file next)
-      go rest (refusedʳ x) e = ap (λ q. q.commands) (stays p n (refusedʳ x) (ap read_call e)) ∙ sym (append-nil p.commands)
+      go rest (Err x) e = ap (λ q. q.commands) (stays p n (Err x) (ap read_call e)) ∙ sym (append-nil p.commands)
       go rest End e = ap (λ q. q.commands) (stays p n End (ap read_call e)) ∙ sym (append-nil p.commands)
 
   pub whole_file_lem : (reads_to file (length file)).commands ≡ commands_in file
@@ -62,5 +62,5 @@ module _ (file : List ℕ) where
           ≡ length (concat_map write (place_from file (onwards p (read_call r)) (replicate n read)).commands)
       go rest (Got c next) e =
           rest (record { at = next; commands = p.commands ++ c ∷ [] }) (omega (arith, got_long file p.at e, written_longer p.commands c))
-      go rest (refusedʳ x) e = rest p h
+      go rest (Err x) e = rest p h
       go rest End e = rest p h

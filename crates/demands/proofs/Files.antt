@@ -16,10 +16,6 @@ use Rattle.rules.specs.File.{read_at, read_on, write, commands_from, commands_in
 use Rattle.rules.specs.FileLength.{most_taken}
 use Rattle.rules.proofs.FileLength.{file_length}
 use Rattle.commands.specs.declared.entries.Command.{Command}
-use Rattle.rules.specs.declared.answer.Answer.{Answer}
-use Rattle.rules.specs.declared.answer.Answer.TheVariants.{Taken, Refused}
-use Rattle.rules.specs.declared.file.Read.{Read}
-use Rattle.rules.specs.declared.file.Read.TheVariants.{Got, End, Refused as refusedʳ}
 use Rattle.book.specs.Book.{empty_book}
 use Rattle.book.specs.Enter.{enter_book, Entered}
 use Rattle.book.specs.declared.Book.{Book}
@@ -33,6 +29,10 @@ use Rattle.demands.specs.Files.{read_refusal, state_at_end, FileRight, File·the
 use Rattle.demands.proofs.Along.{taken-snoc, Along, sets_out, enters, At, state_left}
 use Rattle.demands.proofs.Settled.{refused_taken, settlement_right}
 use Rattle.demands.proofs.FileReads.{behind}
+use Rattle.rules.specs.Answer.{Answer, Taken, Read, Got, End}
+use Rattle.std.specs.Prelude.{Err}
+use Rattle.commands.specs.Refusals.{refusal_of}
+use Rattle.commands.proofs.Outcomes.{refusal_back}
 
 module _ (file : List ℕ) (memory : Memory) where
   abbrev size : ℕ
@@ -120,14 +120,14 @@ module _ (file : List ℕ) (memory : Memory) where
             along = a;
           }))
       entering rest c next got (some x) f a =
-          stopped (suc n) (Refused x) (record { inside = r.inside; all_taken = r.all_taken; along = a }) (sym (ap answer_of f) ∙ decides got)
-          (λ d. absurd (refused_taken x d)) (λ d. absurd (refused_taken x d))
+          stopped (suc n) (Err (refusal_of x)) (record { inside = r.inside; all_taken = r.all_taken; along = a }) (sym (ap answer_of f) ∙ decides got)
+          (λ d. absurd (refused_taken (refusal_of x) d)) (λ d. absurd (refused_taken (refusal_of x) d))
 
       go : Rest → (w : Read) → read_at file p.at ≡ w → Ran (suc n) p (loads_on (λ next b m. load_from n file next b m) p.at b m w)
       go rest (Got c next) got =
           subst⁻¹ (λ a. Ran (suc n) p (carries_on (load_from n file next) p.at a (e c))) (answers c r.along.follows)
           (entering rest c next got (refusal false size (ledger_of t) c) refl (enters r.along c))
-      go rest (refusedʳ x) got = stopped (suc n) (Refused x) r (decides got) (λ d. absurd (refused_taken x d)) (λ d. absurd (refused_taken x d))
+      go rest (Err x) got = stopped (suc n) (Err x) r (sym (ap Err (refusal_back x)) ∙ decides got) (λ d. absurd (refused_taken x d)) (λ d. absurd (refused_taken x d))
       go rest End got =
           stopped (suc n) Taken r (decides got) (λ d. omega (arith, piece_end file [] p.at got)) (λ d. ap (read_on (λ next. commands_from n file next)) got)
 

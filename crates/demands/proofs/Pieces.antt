@@ -3,7 +3,7 @@
 -- that is entering the bytes from there on as a file of its own; if it ends otherwise, the whole ends so too, since the book never answers 2.
 use mathlib.Core.Path.{◌≡◌, refl, sym, ap, ◌∙◌, subst, subst⁻¹}
 use mathlib.Core.Logic.{⊎_elim}
-use mathlib.Core.Bool.{false, not, true≢false}
+use mathlib.Core.Bool.{Bool, false, not, true≢false}
 use mathlib.Core.Option.{Option, none, some, none-ne-some, some-injective}
 use mathlib.Core.List.{List, [], ◌∷◌, ◌++◌}
 use Prim.Native.Nat.{ℕ, ◌+◌, ◌≤◌, ◌<◌}
@@ -21,9 +21,6 @@ use Rattle.rules.specs.Refusal.{conditions, refusal}
 use Rattle.rules.proofs.Taken.{at_first, past_first}
 use Rattle.rules.specs.File.{read_at}
 use Rattle.commands.specs.declared.entries.Command.{Command}
-use Rattle.rules.specs.declared.answer.Answer.{Answer}
-use Rattle.rules.specs.declared.answer.Answer.TheVariants.{Refused}
-use Rattle.rules.specs.declared.file.Read.TheVariants.{Got, Refused as refusedʳ}
 use Rattle.book.specs.Book.{ledger_in}
 use Rattle.book.specs.Sound.{sound}
 use Rattle.book.specs.Enter.{enter_book, entered_by}
@@ -33,32 +30,42 @@ use Rattle.file_read.proofs.Pieces.{piece_got, piece_unknown, piece_end, read-dr
 use Rattle.file_load.specs.Load.{LoadedFile, carries_on, load_from, load}
 use Rattle.file_load.proofs.From.{enough, from, from_step, by_turns}
 use Rattle.demands.specs.Pieces.{unfinished, shifted_by, Pieces·theorem}
+use Rattle.rules.specs.Answer.{Answer, Got}
+use Rattle.std.specs.Prelude.{Err}
+use Rattle.commands.specs.declared.refusal.Refusal.{Refusal}
+use Rattle.commands.specs.Refusals.{number_of, refusal_of}
+use Rattle.commands.specs.declared.refusal.Refusal.TheVariants.{CutOff}
+use Rattle.commands.proofs.Outcomes.{refusal_back}
+
+-- the refusal with a number is 2
+abbrev is_cut : ℕ → Bool
+is_cut n = eqb (number_of (refusal_of n)) 2
 
 -- the book never answers 2
-first_not : (cs : List Condition) → T (all (λ c. not (eqb c.number 2)) cs) → (x : ℕ) → first_met cs ≡ some x → eqb x 2 ≡ false
+first_not : (cs : List Condition) → T (all (λ c. not (is_cut c.number)) cs) → (x : ℕ) → first_met cs ≡ some x → is_cut x ≡ false
 unfolding first_met all
 first_not [] t x e = absurd (none-ne-some x e)
 first_not (c ∷ cs) t x e =
-    let ts = T_and (not (eqb c.number 2)) (all (λ c. not (eqb c.number 2)) cs) t in
+    let ts = T_and (not (is_cut c.number)) (all (λ c. not (is_cut c.number)) cs) t in
     either c.holds
-    (λ h. subst (λ y. eqb y 2 ≡ false) (some-injective c.number x (sym (at_first c cs h) ∙ e)) (not_on (eqb c.number 2) ts.0))
+    (λ h. subst (λ y. is_cut y ≡ false) (some-injective c.number x (sym (at_first c cs h) ∙ e)) (not_on (is_cut c.number) ts.0))
     (λ h. first_not cs ts.1 x (sym (past_first c cs h) ∙ e))
 
-book_not_two : (b : Book) (m : Memory) (c : Command) (x : ℕ) → (enter_book b m c).entry.answer ≡ Refused x → T (eqb x 2) → ⊥
+book_not_two : (b : Book) (m : Memory) (c : Command) (x : Refusal) → (enter_book b m c).entry.answer ≡ Err x → T (eqb (number_of x) 2) → ⊥
 unfolding enter_book refusal conditions
 book_not_two b m c x e t = go (refusal (not (sound b)) (room_in m) (ledger_in b m) c) refl e
   where
-    go : (r : Option ℕ) → refusal (not (sound b)) (room_in m) (ledger_in b m) c ≡ r → (entered_by r b m c).entry.answer ≡ Refused x → ⊥
+    go : (r : Option ℕ) → refusal (not (sound b)) (room_in m) (ledger_in b m) c ≡ r → (entered_by r b m c).entry.answer ≡ Err x → ⊥
     go none f h = let z : ◌≡◌ {A = ℕ} 0 1 = cc in omega arith
     go (some y) f h =
-        let same : y ≡ x = cc in
-        subst (λ v. T v) (first_not (conditions (not (sound b)) (room_in m) (ledger_in b m) c) (unfold all in tt) y f) (subst (λ v. T (eqb v 2)) (sym same) t)
+        let same : refusal_of y ≡ x = cc in
+        subst (λ v. T v) (first_not (conditions (not (sound b)) (room_in m) (ledger_in b m) c) (unfold all refusal_of in tt) y f) (subst (λ v. T (eqb (number_of v) 2)) (sym same) t)
 
 -- 1 in a piece is 1 in the whole
-kept_refused : (p q : List ℕ) (at x : ℕ) → read_at p at ≡ refusedʳ x → eqb x 2 ≡ false → read_at (p ++ q) at ≡ refusedʳ x
+kept_refused : (p q : List ℕ) (at : ℕ) (x : Refusal) → read_at p at ≡ Err x → eqb (number_of x) 2 ≡ false → read_at (p ++ q) at ≡ Err x
 kept_refused p q at x e t =
-    ⊎_elim (λ one. subst⁻¹ (λ n. read_at (p ++ q) at ≡ refusedʳ n) one (piece_unknown p q at (subst (λ n. read_at p at ≡ refusedʳ n) one e)))
-    (λ two. absurd (true≢false (sym (eq-eqb x 2 two) ∙ t)))
+    ⊎_elim (λ one. subst⁻¹ (λ n. read_at (p ++ q) at ≡ Err n) one (piece_unknown p q at (subst (λ n. read_at p at ≡ Err n) one e)))
+    (λ two. absurd (true≢false (sym (eq-eqb (number_of x) 2 (ap number_of two)) ∙ t)))
     (refused_number p at e)
 
 -- the commands behind k bytes, of the bytes behind them
@@ -119,12 +126,17 @@ pieces p q b m =
 
 -- ---- what a piece leaves unread
 
+-- the refusal with the number 2
+cut_off : (x : Refusal) → number_of x ≡ 2 → x ≡ CutOff
+unfolding refusal_of
+cut_off x e = sym (refusal_back x) ∙ ap refusal_of e
+
 left : (n : ℕ) (p : List ℕ) (at : ℕ) (b : Book) (m : Memory) → length p ≤ at + n → T (unfinished (load_from n p at b m).loaded.answer)
     → length p < (load_from n p at b m).loaded.at + 32
 left n p =
     by_turns p (λ n at b m l. length p ≤ at + n → T (unfinished l.loaded.answer) → length p < l.loaded.at + 32) (λ at b m h t. omega arith)
     (λ n at b m e h t. omega (arith, piece_end p [] at e))
-    (λ n at b m x e h t. refused_near p at (subst (λ n. read_at p at ≡ refusedʳ n) (eqb→eq x 2 t) e))
+    (λ n at b m x e h t. refused_near p at (subst (λ n. read_at p at ≡ Err n) (cut_off x (eqb→eq (number_of x) 2 t)) e))
     (λ n at b m c next x e a h t. absurd (book_not_two b m c x a t)) (λ n at b m c next e a l r h t. r (omega (arith, got_within p at e)) t) n
 
 -- where it is unfinished, fewer bytes than the longest command has

@@ -19,8 +19,6 @@ use Rattle.rules.specs.File.{write, written, file_of, commands_from, commands_in
 use Rattle.rules.specs.Reached.{Reached}
 use Rattle.rules.specs.Rewritten.{Revised, Rewritten}
 use Rattle.commands.specs.declared.entries.Command.{Command}
-use Rattle.rules.specs.declared.answer.Answer.TheVariants.{Taken}
-use Rattle.rules.specs.declared.file.Read.TheVariants.{End, Refused as refusedʳ}
 use Rattle.rules.proofs.Replay.{Accepted}
 use Rattle.rules.proofs.Rewritten.{rewritten, written_replay, file_commands}
 use Rattle.rules.proofs.Taken.{Clear, clear, grown, ledger_of-snoc}
@@ -41,6 +39,9 @@ use Rattle.demands.specs.RoundTrip.{bytes_in, InBytes, SameAgain, RoundTrip·the
 use Rattle.demands.proofs.Along.{Along}
 use Rattle.demands.proofs.Settled.{refused_taken}
 use Rattle.demands.proofs.Files.{file_right, taken_along}
+use Rattle.commands.specs.Refusals.{refusal_of}
+use Rattle.rules.specs.Answer.{Taken, End}
+use Rattle.std.specs.Prelude.{Err}
 
 -- ---- what was written
 
@@ -68,7 +69,7 @@ writable b memory bytes e = go (first_met met) refl e
           cells = ltb-false (room_in memory) (cells_in g) c.1.0;
           file = ap (λ o. bytes_in (written_by o g bytes)) q ∙ take-append_seam (file_of g) (drop (length (file_of g)) bytes);
         }
-    go (some n) q h = absurd (refused_taken n h)
+    go (some n) q h = absurd (refused_taken (refusal_of n) h)
 
 -- ---- loaded again
 
@@ -86,7 +87,7 @@ module _ (file : List ℕ) {size : ℕ} where
       (λ at b m t f a l. refl) (λ n at b m e t f a l. refl)
       (λ n at b m x e t f a l.
       let none : commands_from (suc n) file at ≡ [] = rw e in
-      let z : refusedʳ x ≡ End = sym e ∙ past_end file at (omega (arith, l, ap (λ cs. length (concat_map write cs)) none)) in
+      let z : Err x ≡ End = sym e ∙ past_end file at (omega (arith, l, ap (λ cs. length (concat_map write cs)) none)) in
       absurd (let o : ◌≡◌ {A = ℕ} 0 1 = cc in omega arith))
       (λ n at b m c next x e r t f a l.
       let first = rw e at a in

@@ -23,7 +23,6 @@ use Rattle.rules.specs.Segment.{needed, complete, segments}
 use Rattle.rules.specs.Statement.{lines, line_of, statement_of, settle_refusal, settle_conditions}
 use Rattle.commands.specs.declared.entries.Command.{Command}
 use Rattle.rules.specs.declared.statement.Line.{Line}
-use Rattle.rules.specs.declared.answer.Answer.TheVariants.{Taken, Refused}
 use Rattle.rules.proofs.Taken.{Clear, clear}
 use Rattle.rules.proofs.FileLength.{cells_fit}
 use Rattle.rules.proofs.Partition.{partition}
@@ -32,6 +31,11 @@ use Rattle.book.specs.declared.Book.{Book}
 use Rattle.settle.specs.Settle.{settle_book, settled_by}
 use Rattle.demands.specs.Demand3.{Needed, Given, SettlementRight, StatementRight}
 use Rattle.demands.proofs.Along.{Along, settles}
+use Rattle.commands.specs.Refusals.{refusal_of}
+use Rattle.rules.specs.Answer.{Taken}
+use Rattle.std.specs.Prelude.{Err}
+use Rattle.commands.specs.declared.refusal.Refusal.{Refusal}
+use Rattle.rules.specs.Answer.{Answer}
 
 -- ---- a reading in every needed minute
 
@@ -98,7 +102,7 @@ not_refused size room g fits s =
     )
 
 -- a refusal is no taking
-pub refused_taken : (n : ℕ) → Refused n ≡ Taken → ⊥
+pub refused_taken : (r : Refusal) → ◌≡◌ {A = Answer} (Err r) Taken → ⊥
 refused_taken n e = let z : ◌≡◌ {A = ℕ} 0 1 = cc in omega arith
 
 -- ---- the settlement
@@ -131,12 +135,12 @@ module _ (size : ℕ) (t : List Command) (records : List Line) (fits : cells_in 
           record {
             number = ap answer_of (sym e);
             answered = (
-              λ d. absurd (refused_taken n d),
+              λ d. absurd (refused_taken (refusal_of n) d),
               λ h.
                   let s : Settleable (length records) g = record { closed = h.0; whole = (complete_given g).1 h.1; enough = h.2 } in
                   absurd (none-ne-some n (sym (not_refused size (length records) g fits s) ∙ e)),
             );
-            statement = λ d. absurd (refused_taken n d);
+            statement = λ d. absurd (refused_taken (refusal_of n) d);
             kept = refl;
             refused_kept = λ m d. refl;
           }

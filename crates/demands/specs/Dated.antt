@@ -3,12 +3,12 @@ use Rattle.std.specs.Prelude.{◌≡◌, List, ℕ, ◌≤◌, length}
 use Rattle.book_memory.specs.Meter.{Memory, room_in}
 use Rattle.rules.specs.Dates.{october, on}
 use Rattle.rules.specs.File.{file_of}
-use Rattle.rules.specs.declared.answer.Answer.TheVariants.{Taken}
 use Rattle.book.specs.Book.{empty_book, book_span, ledger_in, put_all}
 use Rattle.book.specs.declared.Book.{Book}
 use Rattle.file_load.specs.Load.{load}
 use Rattle.file_write.specs.Write.{write_book}
 use Rattle.demands.specs.RoundTrip.{bytes_in, InBytes}
+use Rattle.rules.specs.Answer.{Taken}
 
 -- the book of a contract of 31 days and the date of October 2024
 abbrev pub october_book : Book

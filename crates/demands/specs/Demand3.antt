@@ -13,10 +13,12 @@ use Rattle.rules.specs.Lines.{Partition}
 use Rattle.rules.specs.File.{commands_in}
 use Rattle.commands.specs.declared.entries.Command.{Command}
 use Rattle.rules.specs.declared.statement.Line.{Line}
-use Rattle.rules.specs.declared.answer.Answer.TheVariants.{Taken, Refused}
 use Rattle.settle.specs.Settle.{Settled}
 use Rattle.settle.specs.declared.Settlement.{Settlement}
 use Rattle.demands.specs.Steps.{Step, enter, settle, entered, settled, start, after_all, outcomes, outset, place_from, reads_to, ruled_from, left_at}
+use Rattle.rules.specs.Answer.{Taken}
+use Rattle.std.specs.Prelude.{Err}
+use Rattle.commands.specs.declared.refusal.Refusal.{Refusal}
 
 -- ---- what a settlement must be answered, for the commands taken before it
 
@@ -50,7 +52,7 @@ pub record SettlementRight (size : ℕ) (t : List Command) (records : List Line)
   pub statement : r.settlement.answer ≡ Taken → StatementRight (ledger_of t) r.settlement (take r.settlement.statement.lines r.memory)
   -- records after the lines keep their contents, and a refusal leaves all of them
   pub kept : drop r.settlement.statement.lines r.memory ≡ drop r.settlement.statement.lines records
-  pub refused_kept : (n : ℕ) → r.settlement.answer ≡ Refused n → r.memory ≡ records
+  pub refused_kept : (x : Refusal) → r.settlement.answer ≡ Err x → r.memory ≡ records
 
 -- ---- the list
 

@@ -7,19 +7,19 @@ use Rattle.rules.specs.Refusal.{refusal, taken, answer_of}
 use Rattle.rules.specs.File.{read_at, commands_in}
 use Rattle.commands.specs.declared.entries.Command.{Command}
 use Rattle.rules.specs.declared.statement.Line.{Line}
-use Rattle.rules.specs.declared.answer.Answer.TheVariants.{Taken}
-use Rattle.rules.specs.declared.file.Read.{Read}
-use Rattle.rules.specs.declared.file.Read.TheVariants.{Got, End, Refused as refusedʳ}
 use Rattle.book.specs.Book.{empty_book}
 use Rattle.settle.specs.Settle.{settle_book}
 use Rattle.file_load.specs.Load.{LoadedFile, load}
 use Rattle.demands.specs.Steps.{State, reads_to, left_at}
 use Rattle.demands.specs.Demand3.{SettlementRight}
+use Rattle.rules.specs.Answer.{Taken, Read, Got, End}
+use Rattle.std.specs.Prelude.{Err}
+use Rattle.commands.specs.Refusals.{number_of}
 
 -- the number under which what is read is turned down, for the commands t taken before it: the reader's own, or the book's
 abbrev pub read_refusal : ℕ → List Command → Read → Option ℕ
 read_refusal size t (Got c next) = refusal false size (ledger_of t) c
-read_refusal size t (refusedʳ n) = some n
+read_refusal size t (Err r) = some (number_of r)
 read_refusal size t End = none
 
 -- where entering a file ended, with the book and lent memory then

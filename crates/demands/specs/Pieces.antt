@@ -1,15 +1,16 @@
 -- A unit file in pieces: entered one after the other, they do what the whole file does.
 use Rattle.std.specs.Prelude.{◌≡◌, Bool, true, false, List, ◌++◌, ℕ, ◌+◌, T, eqb, drop}
 use Rattle.book_memory.specs.Meter.{Memory}
-use Rattle.rules.specs.declared.answer.Answer.{Answer}
-use Rattle.rules.specs.declared.answer.Answer.TheVariants.{Taken, Refused}
 use Rattle.book.specs.declared.Book.{Book}
 use Rattle.file_load.specs.Load.{LoadedFile, load}
+use Rattle.rules.specs.Answer.{Answer, Taken}
+use Rattle.std.specs.Prelude.{Err}
+use Rattle.commands.specs.Refusals.{number_of}
 
 -- a piece ended inside or behind a command, so more bytes may follow: at its end, or under 2
 abbrev pub unfinished : Answer → Bool
 unfinished Taken = true
-unfinished (Refused n) = eqb n 2
+unfinished (Err r) = eqb (number_of r) 2
 
 -- the same with every position that much later
 abbrev pub shifted_by : ℕ → LoadedFile → LoadedFile

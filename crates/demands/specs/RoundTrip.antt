@@ -2,13 +2,13 @@
 use Rattle.std.specs.Prelude.{◌≡◌, List, ℕ, ◌≤◌, length, take}
 use Rattle.book_memory.specs.Meter.{Memory, room_in, revision_at}
 use Rattle.rules.specs.declared.statement.Line.{Line}
-use Rattle.rules.specs.declared.answer.Answer.TheVariants.{Taken}
 use Rattle.book.specs.Book.{ledger_in, empty_book}
 use Rattle.book.specs.Sound.{Shaped}
 use Rattle.book.specs.declared.Book.{Book}
 use Rattle.settle.specs.Settle.{settle_book}
 use Rattle.file_load.specs.Load.{LoadedFile, load}
 use Rattle.file_write.specs.Write.{write_book, WrittenBytes}
+use Rattle.rules.specs.Answer.{Taken}
 
 -- the bytes that a file has in the lent bytes
 abbrev pub bytes_in : WrittenBytes → List ℕ

@@ -8,13 +8,12 @@ use Rattle.rules.specs.Statement.{settle_refusal}
 use Rattle.rules.specs.File.{read_at}
 use Rattle.commands.specs.declared.entries.Command.{Command}
 use Rattle.rules.specs.declared.statement.Line.{Line}
-use Rattle.rules.specs.declared.answer.Answer.{Answer}
-use Rattle.rules.specs.declared.file.Read.{Read}
-use Rattle.rules.specs.declared.file.Read.TheVariants.{Got, End, Refused as refusedʳ}
 use Rattle.book.specs.Book.{empty_book, put_all}
 use Rattle.book.specs.Enter.{enter_book}
 use Rattle.book.specs.declared.Book.{Book}
 use Rattle.settle.specs.Settle.{settle_book, settled_by, Settled}
+use Rattle.rules.specs.Answer.{Answer, Read, Got, End}
+use Rattle.std.specs.Prelude.{Err}
 
 -- a step: a command is entered, the file's next command is read and entered, or there is a settlement with lent line records of any number and contents
 pub data Step : Type 0 where
@@ -39,7 +38,7 @@ pub data Call : Type 0 where
 -- a command read is entered, and the reader goes on behind it; at end, 1 and 2 it stops
 abbrev pub read_call : Read → Call
 read_call (Got c next) = command c next
-read_call (refusedʳ n) = stop (refusedʳ n)
+read_call (Err n) = stop (Err n)
 read_call End = stop End
 
 -- what a step comes to, with the reader at a position

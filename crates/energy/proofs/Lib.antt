@@ -3,3 +3,4 @@ pub mod Integers
 pub mod Sums
 pub mod Puts
 pub mod Rounding
+pub mod Ranges

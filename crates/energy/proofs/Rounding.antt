@@ -2,19 +2,23 @@
 -- `nearest-within` says where the nearest lies, both by the parts of the integer kit.
 use mathlib.Core.Path.{◌≡◌, refl, sym, ap, ◌∙◌, subst}
 use mathlib.Core.Logic.{◌⊎◌, inl, inr, ⊎_elim}
-use Prim.Native.Nat.{ℕ, suc, ◌+◌, ◌*◌, ◌-◌, ◌/◌, ◌≤◌, ◌<◌}
-use native.Mathlib.Nat.{mul-add, mul_comm, suc-mul, div-add-mod', div-lt_iff_lt-mul, mod-lt, mul-le-mul_left, lt_of_mul-lt-mul_left}
+use Prim.Native.Nat.{ℕ, zero, suc, ◌+◌, ◌*◌, ◌-◌, ◌/◌, ◌%◌, ◌≤◌, ◌<◌, min}
+use Rattle.std.proofs.lemmas.Nat.{div-mul-add}
+use Rattle.std.specs.Int.{int_min, int_max}
+use native.Mathlib.Nat.{mul-add, mul_comm, suc-mul, div-add-mod', mod-lt, mul-le-mul_left, lt_of_mul-lt-mul_left}
 use native.Mathlib.Nat.{le_of_lt, le_of_eq, mul-le-mul, mul-zero}
 use native.Mathlib.Omega.{arith}
 use lib.Dec.{lit<}
+use borrow.Author.Tests.{lt-ltb}
 use lib.IntN.{ℤ, pos, negsuc, nat_abs, ◌+ℤ◌, ◌-ℤ◌, ◌*ℤ◌}
-use lib.Signed.{shr_z, le_z, ◌≤ℤ◌, ◌<ℤ◌}
+use lib.Signed.{shr_z, le_z, lt_z, ◌≤ℤ◌, ◌<ℤ◌}
+use mathlib.Core.Bool.{Bool, true, false, cond}
 use Rattle.energy.specs.Energy.{capped, kwh, payment}
-use Rattle.energy.specs.Number.{lesser, floored, nearest, up, down, Within}
+use Rattle.energy.specs.Number.{ceiling, lesser, floored, nearest, up, down, Within}
 use Rattle.energy.specs.Rounding.{Nearest, Rounding·theorem, distance}
 use Rattle.energy.proofs.Tests.{either}
 use Rattle.energy.proofs.Integers.{exact, abs-parts, order, from_parts, le_z-on, le_z_yes}
-use Rattle.energy.proofs.Integers.{<-apart, ≤-apart, add_parts, diff_parts, mul-parts, arith_ℤ}
+use Rattle.energy.proofs.Integers.{<-apart, ≤-apart, add_parts, diff_parts, mul-parts, arith_ℤ, tests_ℤ}
 
 -- ---- the floor q of z / m: m q ≤ z < m q + m, by the parts
 floor_bounds : (z : ℤ) (m : ℕ) → 0 < m
@@ -193,7 +197,33 @@ pub payment_above : (c : ℤ) (rate : ℕ) → pos 0 ≤ℤ c → pos 0 ≤ℤ p
 payment_above (pos k) rate h = nearest_above (pos (k * rate)) 1000 (lit< tt) (omega arith_ℤ)
 payment_above (negsuc k) rate h = absurd (omega arith_ℤ)
 
--- ---- a quotient taken up to a whole number: what is added first is less than d, so it is at most what is divided
-pub raised_most : (n y d : ℕ) → y < d → (n + y) / d ≤ n
-raised_most n y d h =
-    omega (arith, (div-lt_iff_lt-mul {k = d} {x = n + y} {y = suc n} (omega arith)).1 (omega (arith, suc-mul n d, mul-le-mul_left n h)))
+-- ---- a quotient taken up to a whole number: a remainder, where there is one, makes one more
+by_remainder : (q r d : ℕ) → r < d → (q * d + r + (d - 1)) / d ≡ q + min 1 r
+by_remainder q zero d h =
+    ap (λ n. n / d) (omega arith) ∙ div-mul-add q d (d - 1) (omega arith) ∙ omega arith
+by_remainder q (suc k) d h =
+    ap (λ n. n / d) (omega (arith, suc-mul q d)) ∙ div-mul-add (suc q) d k (omega arith) ∙ omega arith
+
+pub taken_up : (n d : ℕ) → 0 < d → n / d + min 1 (n % d) ≡ ceiling n d
+unfolding ceiling
+taken_up n d h =
+    sym (ap (λ m. (m + (d - 1)) / d) (sym (div-add-mod' n d)) ∙ by_remainder (n / d) (n % d) d (mod-lt n h))
+
+-- ---- the library's lesser of two, and greater of one and 0, as the definitions have them
+min_lesser : (a b : ℤ) → int_min a b ≡ lesser a b
+unfolding lesser
+min_lesser a b = by (le_z a b) (lt_z b a) refl refl
+  where
+    by : (s t : Bool) → le_z a b ≡ s → lt_z b a ≡ t → cond t b a ≡ cond s a b
+    by true true p q = absurd (omega (arith_ℤ, tests_ℤ, p, q))
+    by true false p q = refl
+    by false true p q = refl
+    by false false p q = absurd (omega (arith_ℤ, tests_ℤ, p, q))
+
+max_floored : (z : ℤ) → int_max z (pos 0) ≡ floored z
+max_floored (pos zero) = refl
+max_floored (pos (suc n)) = ap (λ b. cond b (pos (suc n)) (pos 0)) (lt-ltb 0 (suc n) (omega arith))
+max_floored (negsuc n) = refl
+
+pub floored_lesser : (a b : ℤ) → int_max (int_min a b) (pos 0) ≡ capped a b
+floored_lesser a b = ap (λ z. int_max z (pos 0)) (min_lesser a b) ∙ max_floored (lesser a b)

@@ -1,5 +1,25 @@
 // How large the numbers are that are paid for. The contract names these as its limits (`commands::contract`), and what a segment delivers follows.
 
+use std::error::Error;
+use std::fmt;
+
+// A number outside its range: what the calls that take any numbers refuse.
+#[derive(Clone, Copy, Debug, PartialEq, Eq)]
+pub struct OutOfRange;
+
+impl OutOfRange {
+    // the number of this refusal
+    pub const NUMBER: u8 = 3;
+}
+
+impl fmt::Display for OutOfRange {
+    fn fmt<W: fmt::Write>(&self, f: &mut fmt::Formatter<W>) -> fmt::Result {
+        write!(f, "refused {}", OutOfRange::NUMBER)
+    }
+}
+
+impl Error for OutOfRange {}
+
 // contracted kW, and readings either way
 pub const KW_MOST: i64 = 500000;
 

@@ -5,8 +5,5 @@ ghost use Rattle.std.specs.Prelude.{◌≡◌, nat_abs};
 pub fn magnitude(n: i64) -> u64
     ensures { result ≡ nat_abs n }
 {
-    if n < 0 {
-        return (0 - (n + 1)) as u64 + 1;
-    }
-    n as u64
+    n.unsigned_abs()
 }

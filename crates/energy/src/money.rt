@@ -5,16 +5,9 @@ ghost use Rattle.energy.specs.Answers.{paid_for, paid_for_period};
 ghost use Rattle.energy.specs.Energy.{capped, kwh, payment, pence_of_parts, period_parts};
 ghost use Rattle.energy.specs.Number.{Upto, Within, down, lesser};
 
-use crate::limits::{KW_MOST, KWH_LEAST, KWH_MOST, P_MOST, RATE_MOST};
+use crate::limits::{KW_MOST, KWH_LEAST, KWH_MOST, OutOfRange, P_MOST, RATE_MOST};
 use crate::round::{half_up, quotient};
 use crate::units::{Kw, Kwh, Pence};
-
-// What paying answers: the pence, or a refusal's number.
-#[derive(Clone, Copy)]
-pub enum Paid {
-    Pays(Pence),
-    Refused(u8),
-}
 
 // The kWh expected of a segment.
 pub fn expected_kwh(q: u32) -> Kwh
@@ -35,30 +28,12 @@ pub fn delivered_kwh(q: i32) -> Kwh
     Kwh(k)
 }
 
-// The lesser of what is expected and what is delivered.
-fn lesser_kwh(x: Kwh, d: Kwh) -> Kwh
-    requires { Within 500000 x.0 × Within 500000 d.0 }
-    ensures { (result.0 ≡ lesser x.0 d.0) × Within 500000 result.0 }
-{
-    let a = x.0;
-    let b = d.0;
-    if a <= b {
-        return x;
-    }
-    d
-}
-
 // The lesser of the two, or 0 if that is below 0: a segment that runs backwards earns and costs nothing.
 pub fn capped_kwh(x: Kwh, d: Kwh) -> Kwh
     requires { Within 500000 x.0 × Within 500000 d.0 }
     ensures { (result.0 ≡ capped x.0 d.0) × Within 500000 result.0 }
 {
-    let least = lesser_kwh(x, d);
-    let k = least.0;
-    if k < 0 {
-        return Kwh(0);
-    }
-    least
+    Kwh(x.0.min(d.0).max(0))
 }
 
 // The pence for kWh at a rate in pence per MWh, raised by 500,000,000 pence.
@@ -90,24 +65,24 @@ pub fn kwh_of(quarters: i64) -> Kwh
     Kwh(k)
 }
 
-// The pence for kWh at a rate, for any numbers: 3 for kWh that no segment has, or a rate that no contract has.
-pub fn pay(capped: Kwh, rate: u32) -> Paid
+// The pence for kWh at a rate, for any numbers: refused for kWh that no segment has, or a rate that no contract has.
+pub fn pay(capped: Kwh, rate: u32) -> Result<Pence, OutOfRange>
     ensures { result ≡ paid_for capped.0 rate }
 {
     let k = capped.0;
     if (KWH_LEAST <= k) & (k <= KWH_MOST) & (rate <= RATE_MOST) {
-        return Paid::Pays(payment_pence(capped, rate));
+        return Ok(payment_pence(capped, rate));
     }
-    Paid::Refused(3)
+    Err(OutOfRange)
 }
 
-// The pence of a period, for any numbers: 3 for kW below 0 or above every contract's, a rate that no contract has, or a P above its limit.
-pub fn pay_period(kw: Kw, rate: u32, p: u32) -> Paid
+// The pence of a period, for any numbers: refused for kW below 0 or above every contract's, a rate that no contract has, or a P above its limit.
+pub fn pay_period(kw: Kw, rate: u32, p: u32) -> Result<Pence, OutOfRange>
     ensures { result ≡ paid_for_period kw.0 rate p }
 {
     let power = kw.0;
     if (0 <= power) & (power <= KW_MOST) & (rate <= RATE_MOST) & (p <= P_MOST) {
-        return Paid::Pays(period_pence(kw, rate, p));
+        return Ok(period_pence(kw, rate, p));
     }
-    Paid::Refused(3)
+    Err(OutOfRange)
 }

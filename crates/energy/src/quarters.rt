@@ -11,12 +11,9 @@ pub fn total(meter: &[i32], from: usize, to: usize) -> i32
     requires { Readable meter.now from to }
     ensures { result ≡ sum (cell meter.now) (between from to) }
 {
-    let mut sum: i32 = 0;
-    let mut i = from;
-    while i < to {
-        let x = meter[i];
-        sum = sum + x;
-        i += 1;
+    let mut sum = 0;
+    for reading in &meter[from..to] {
+        sum += *reading;
     }
     sum
 }

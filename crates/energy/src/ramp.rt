@@ -13,6 +13,5 @@ pub fn ramp_minutes(kw: Kw, ramp: u32) -> u32
     if ramp == 0 {
         return 0;
     }
-    let raised = kw.0 as u64 + (ramp - 1) as u64;
-    (raised / ramp as u64) as u32
+    (kw.0 as u64).div_ceil(ramp as u64) as u32
 }

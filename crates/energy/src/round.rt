@@ -3,21 +3,16 @@ ghost use Rattle.std.specs.Prelude.{◌≡◌, ◌+◌, ◌<◌, ◌^◌, pos};
 ghost use Rattle.energy.specs.Answers.{rounded};
 ghost use Rattle.energy.specs.Number.{nearest as nearest_to};
 
-// What rounding answers: the nearest number, or a refusal's number.
-#[derive(Clone, Copy)]
-pub enum Rounded {
-    Value(i64),
-    Refused(u8),
-}
+use crate::limits::OutOfRange;
 
-// n / d to the nearest for any numbers: the divisor 0 gets 3.
-pub fn nearest(n: i64, d: u32) -> Rounded
+// n / d to the nearest for any numbers: the divisor 0 is refused.
+pub fn nearest(n: i64, d: u32) -> Result<i64, OutOfRange>
     ensures { result ≡ rounded n d }
 {
     if 1 <= d {
-        return Rounded::Value(quotient(n, d));
+        return Ok(quotient(n, d));
     }
-    Rounded::Refused(3)
+    Err(OutOfRange)
 }
 
 // The same where the divisor is known not to be 0. The remainder decides, so that no n is too large.

@@ -8,21 +8,20 @@ use lib.ListN.{length}
 use Rattle.book_memory.specs.Meter.{Memory}
 use Rattle.rules.specs.File.{read_at}
 use Rattle.commands.specs.declared.entries.Command.{Command}
-use Rattle.rules.specs.declared.answer.Answer.{Answer}
-use Rattle.rules.specs.declared.answer.Answer.TheVariants.{Taken, Refused}
-use Rattle.rules.specs.declared.file.Read.{Read}
-use Rattle.rules.specs.declared.file.Read.TheVariants.{Got, End, Refused as refusedʳ}
 use Rattle.book.specs.Enter.{enter_book, Entered}
 use Rattle.book.specs.declared.Book.{Book}
 use Rattle.file_read.proofs.Steps.{got_within}
 pub use Rattle.rules.proofs.Reread.{at_end as past_end}
 use Rattle.file_load.specs.Load.{LoadedFile, ended_at, carries_on, loads_on, load_from}
+use Rattle.rules.specs.Answer.{Answer, Taken, Read, Got, End}
+use Rattle.std.specs.Prelude.{Err}
+use Rattle.commands.specs.declared.refusal.Refusal.{Refusal}
 
 -- a command that is taken is followed by what `go` gives
 carried : (go go' : Book → Memory → LoadedFile) (at : ℕ) (a : Answer) (e : Entered) → ((b : Book) (m : Memory) → go b m ≡ go' b m)
     → carries_on go at a e ≡ carries_on go' at a e
 carried go go' at Taken e h = h e.entry.book e.meter
-carried go go' at (Refused n) e h = refl
+carried go go' at (Err r) e h = refl
 
 pub enough : (n k : ℕ) (s : List ℕ) (at : ℕ) (b : Book) (m : Memory) → length s ≤ at + n → length s ≤ at + k → load_from n s at b m ≡ load_from k s at b m
 unfolding load_from
@@ -37,7 +36,7 @@ enough (suc n) (suc k) s at b m h i = go (λ next b m. enough n k s next b m) (r
         let l : (at < next) × (next ≤ length s) = got_within s at e in
         carried (load_from n s next) (load_from k s next) at (enter_book b m c).entry.answer (enter_book b m c)
         (λ b' m'. rest next b' m' (omega arith) (omega arith))
-    go rest (refusedʳ x) e = refl
+    go rest (Err x) e = refl
     go rest End e = refl
 
 -- all commands from a position on, with turns enough
@@ -52,9 +51,9 @@ from_step s at b m = enough (length s) (suc (length s)) s at b m (omega arith) (
 module _ (s : List ℕ) (P : ℕ → ℕ → Book → Memory → LoadedFile → Type 0)
     (spent : (at : ℕ) (b : Book) (m : Memory) → P 0 at b m (ended_at at Taken b m))
     (ends : (n at : ℕ) (b : Book) (m : Memory) → read_at s at ≡ End → P (suc n) at b m (ended_at at Taken b m))
-    (unread : (n at : ℕ) (b : Book) (m : Memory) (x : ℕ) → read_at s at ≡ refusedʳ x → P (suc n) at b m (ended_at at (Refused x) b m))
-    (refused : (n at : ℕ) (b : Book) (m : Memory) (c : Command) (next x : ℕ) → read_at s at ≡ Got c next → (enter_book b m c).entry.answer ≡ Refused x
-    → P (suc n) at b m (ended_at at (Refused x) (enter_book b m c).entry.book (enter_book b m c).meter))
+    (unread : (n at : ℕ) (b : Book) (m : Memory) (x : Refusal) → read_at s at ≡ Err x → P (suc n) at b m (ended_at at (Err x) b m))
+    (refused : (n at : ℕ) (b : Book) (m : Memory) (c : Command) (next : ℕ) (x : Refusal) → read_at s at ≡ Got c next → (enter_book b m c).entry.answer ≡ Err x
+    → P (suc n) at b m (ended_at at (Err x) (enter_book b m c).entry.book (enter_book b m c).meter))
     (goes : (n at : ℕ) (b : Book) (m : Memory) (c : Command) (next : ℕ) → read_at s at ≡ Got c next → (enter_book b m c).entry.answer ≡ Taken
     → (l : LoadedFile) → P n next (enter_book b m c).entry.book (enter_book b m c).meter l → P (suc n) at b m l) where
   pub by_turns : (n at : ℕ) (b : Book) (m : Memory) → P n at b m (load_from n s at b m)
@@ -68,9 +67,9 @@ module _ (s : List ℕ) (P : ℕ → ℕ → Book → Memory → LoadedFile → 
       answered : Rest → (c : Command) (next : ℕ) → read_at s at ≡ Got c next → (a : Answer) → (enter_book b m c).entry.answer ≡ a
           → P (suc n) at b m (carries_on (load_from n s next) at a (enter_book b m c))
       answered rest c next e Taken f = goes n at b m c next e f _ (rest next (enter_book b m c).entry.book (enter_book b m c).meter)
-      answered rest c next e (Refused x) f = refused n at b m c next x e f
+      answered rest c next e (Err x) f = refused n at b m c next x e f
 
       go : Rest → (r : Read) → read_at s at ≡ r → P (suc n) at b m (loads_on (λ next b m. load_from n s next b m) at b m r)
       go rest (Got c next) e = answered rest c next e (enter_book b m c).entry.answer refl
-      go rest (refusedʳ x) e = unread n at b m x e
+      go rest (Err x) e = unread n at b m x e
       go rest End e = ends n at b m e

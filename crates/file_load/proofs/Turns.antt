@@ -2,15 +2,10 @@
 use mathlib.Core.Path.{◌≡◌, refl, sym, ap, ◌∙◌}
 use mathlib.Core.Bool.{Bool, true, false}
 use mathlib.Core.List.{List}
-use Prim.Native.Nat.{ℕ, zero, suc, ◌+◌, ◌-◌, ◌≤◌, ◌<◌}
-use native.Mathlib.Omega.{arith}
+use Prim.Native.Nat.{ℕ, zero, suc, ◌≤◌, ◌<◌}
 use lib.ListN.{length}
 use Rattle.rules.specs.File.{read_at}
 use Rattle.commands.specs.declared.entries.Command.{Command}
-use Rattle.rules.specs.declared.answer.Answer.{Answer}
-use Rattle.rules.specs.declared.answer.Answer.TheVariants.{Taken, Refused}
-use Rattle.rules.specs.declared.file.Read.{Read}
-use Rattle.rules.specs.declared.file.Read.TheVariants.{Got, End, Refused as refusedʳ}
 use Rattle.book_memory.specs.Meter.{takes_reading, Memory, room_in}
 use Rattle.book.specs.Enter.{enter_book, Entered}
 use Rattle.book.specs.Readings.{open_span}
@@ -21,29 +16,27 @@ use Rattle.book.proofs.OpenSpan.{reading_enters}
 use Rattle.file_read.proofs.Steps.{got_within}
 use Rattle.file_load.specs.Load.{LoadedFile, carries_on, loads_on}
 use Rattle.file_readings.specs.Run.{Stand, stand_by, stand_at, stands, Run}
-use Rattle.file_readings.proofs.Runs.{chosen, stands_room}
-use Rattle.file_load.specs.Turn.{goes_by, turn_by, turn_at}
-use Rattle.file_load.specs.declared.file.Loaded.{Loaded}
-use Rattle.file_load.specs.declared.file.Turn.{Turn}
+use Rattle.file_readings.proofs.Runs.{chosen, stands_room, stays_inside}
+use Rattle.std.proofs.Common.{Continue, Break}
+use Rattle.file_load.specs.Turn.{Turn, goes_by, turn_by, turn_at}
 use Rattle.file_load.proofs.From.{from, from_step}
+use Rattle.rules.specs.Answer.{Answer, Taken, Read, Got, End}
+use Rattle.std.specs.Prelude.{Err}
 
--- what is left of a file: the commands from a position on while the loop goes on, and what it ended with when it does not
-abbrev pub rest : List ℕ → Bool → Loaded → Memory → LoadedFile
-rest s true l meter = from s l.at l.book meter
-rest s false l meter = record { loaded = l; meter = meter }
+-- what is left of a file after a turn: the commands from a position on, or what the loop ended with
+abbrev pub rest : List ℕ → Turn → Memory → LoadedFile
+rest s (Continue (next, b)) meter = from s next b meter
+rest s (Break l) meter = record { loaded = l; meter = meter }
 
--- one turn more while the loop goes on
-abbrev pub more : Bool → ℕ
-more true = 1
-more false = 0
+-- where a turn leads from a position within the file, with a sound book: further on in the file, or to the end, and with a sound book again
+abbrev pub Leads : List ℕ → ℕ → Turn → Type 0
+Leads s at (Continue (next, b)) = (at < next) × (next ≤ length s) × Kept b
+Leads s at (Break l) = (l.at ≤ length s) × Kept l.book
 
--- what is known of a turn t at a position, where f was left of the file: its rest is that, a position within the file stays there, it has moved if
--- it goes on, and the book stays sound
+-- what is known of a turn t at a position, where f was left of the file: its rest is that
 pub record After (s : List ℕ) (at : ℕ) (b : Book) (f : LoadedFile) (t : Turn) (after : Memory) : Type 0 where
-  pub again : f ≡ rest s t.going t.loaded after
-  pub inside : at ≤ length s → t.loaded.at ≤ length s
-  pub less : at ≤ length s → (length s - t.loaded.at) + more t.going < (length s - at) + 1
-  pub keeps : Kept b → Kept t.loaded.book
+  pub again : f ≡ rest s t after
+  pub leads : at ≤ length s → Kept b → Leads s at t
 
 module _ (s : List ℕ) (at : ℕ) (b : Book) (meter : Memory) where
   -- a turn of the loop, as the code has it
@@ -54,14 +47,14 @@ module _ (s : List ℕ) (at : ℕ) (b : Book) (meter : Memory) where
     where
       answered : (next : ℕ) (a : Answer) (e : Entered) → (at < next) × (next ≤ length s) → (Kept b → Kept e.entry.book)
           → After s at b (carries_on (λ b m. from s next b m) at a e) (goes_by at next a e.entry.book) e.meter
-      answered next Taken e h k = record { again = refl; inside = λ l. h.1; less = λ l. omega arith; keeps = k }
-      answered next (Refused n) e h k = record { again = refl; inside = λ l. l; less = λ l. omega arith; keeps = k }
+      answered next Taken e h k = record { again = refl; leads = λ l sound. (h.0, h.1, k sound) }
+      answered next (Err r) e h k = record { again = refl; leads = λ l sound. (l, k sound) }
 
       go : (r : Read) → read_at s at ≡ r
           → After s at b (loads_on (λ next b m. from s next b m) at b meter r) (turn_by at b meter r).turn (turn_by at b meter r).meter
       go (Got c next) e = answered next (enter_book b meter c).entry.answer (enter_book b meter c) (got_within s at e) (kept b meter c)
-      go (refusedʳ n) e = record { again = refl; inside = λ l. l; less = λ l. omega arith; keeps = λ k. k }
-      go End e = record { again = refl; inside = λ l. l; less = λ l. omega arith; keeps = λ k. k }
+      go (Err r) e = record { again = refl; leads = λ l sound. (l, sound) }
+      go End e = record { again = refl; leads = λ l sound. (l, sound) }
 
 -- ---- a turn without the book
 
@@ -82,7 +75,7 @@ module _ (span : ℕ) (s : List ℕ) (at : ℕ) (meter : Memory) where
 
       go : (r : Read) → read_at s at ≡ r → from s at b meter ≡ from s (stand_by span at meter r).at b (stand_by span at meter r).meter
       go (Got c next) e = answered c next (takes_reading span meter c) e refl
-      go (refusedʳ n) e = refl
+      go (Err n) e = refl
       go End e = refl
 
 -- so many turns without the book: what is left then is what was left before them
@@ -101,3 +94,26 @@ pub run_again : (s : List ℕ) (at : ℕ) (b : Book) (span : ℕ) (meter : Memor
 run_again s at b span meter next after r k o =
     let x : Stand = record { at = at; meter = meter } in
     rw r.reached at (stands_rest span s x b k.sound o r.turns)
+
+-- ---- readings without the book, and the turn behind them: what is left then is what was left before both
+pub record Led (s : List ℕ) (at : ℕ) (b : Book) (meter : Memory) (t : Turn) (after : Memory) : Type 0 where
+  pub again : from s at b meter ≡ rest s t after
+  here : ℕ
+  pub forward : at ≤ here
+  pub leads : Leads s here t
+
+pub led : (s : List ℕ) (at : ℕ) (b : Book) (meter : Memory) {span room here : ℕ} {passed after : Memory} {t : Turn} → Kept b → at ≤ length s
+    → room ≡ room_in meter
+    → span ≡ open_span b room
+    → Run span s at meter here passed
+    → t ≡ (turn_at s here b passed).turn
+    → after ≡ (turn_at s here b passed).meter
+    → Led s at b meter t after
+led s at b meter {here = here} {passed} k inside asked o run value memory =
+    let turn = turned s here b passed (value, memory) in
+    record {
+      again = run_again s at b _ meter here passed run k (o ∙ ap (open_span b) asked) ∙ turn.again;
+      here = here;
+      forward = run.forward;
+      leads = turn.leads (stays_inside run inside) k;
+    }

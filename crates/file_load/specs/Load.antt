@@ -2,13 +2,11 @@
 use Rattle.std.specs.Prelude.{List, ℕ, zero, suc, length}
 use Rattle.book_memory.specs.Meter.{Memory}
 use Rattle.rules.specs.File.{read_at}
-use Rattle.rules.specs.declared.answer.Answer.{Answer}
-use Rattle.rules.specs.declared.answer.Answer.TheVariants.{Taken, Refused}
-use Rattle.rules.specs.declared.file.Read.{Read}
-use Rattle.rules.specs.declared.file.Read.TheVariants.{Got, End, Refused as refusedʳ}
 use Rattle.book.specs.Enter.{enter_book, Entered}
 use Rattle.book.specs.declared.Book.{Book}
 use Rattle.file_load.specs.declared.file.Loaded.{Loaded}
+use Rattle.rules.specs.Answer.{Answer, Taken, Read, Got, End}
+use Rattle.std.specs.Prelude.{Err}
 
 -- how entering ended, and lent memory then
 pub record LoadedFile : Type 0 where
@@ -22,12 +20,12 @@ ended_at at a b meter = record { loaded = record { answer = a; at = at; book = b
 -- a command taken is followed by the rest of the file; a refused one ends it, at its own position
 abbrev pub carries_on : (Book → Memory → LoadedFile) → ℕ → Answer → Entered → LoadedFile
 carries_on go at Taken e = go e.entry.book e.meter
-carries_on go at (Refused n) e = ended_at at (Refused n) e.entry.book e.meter
+carries_on go at (Err r) e = ended_at at (Err r) e.entry.book e.meter
 
 -- what was read is entered; end, 1 and 2 end it
 abbrev pub loads_on : (ℕ → Book → Memory → LoadedFile) → ℕ → Book → Memory → Read → LoadedFile
 loads_on go at b meter (Got c next) = carries_on (go next) at (enter_book b meter c).entry.answer (enter_book b meter c)
-loads_on go at b meter (refusedʳ n) = ended_at at (Refused n) b meter
+loads_on go at b meter (Err r) = ended_at at (Err r) b meter
 loads_on go at b meter End = ended_at at Taken b meter
 
 -- the commands from a position on, at most so many of them

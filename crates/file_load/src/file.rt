@@ -11,7 +11,7 @@ use book_memory::room::room_of;
 use file_read::reader::read_from;
 use file_readings::take_readings;
 use rules::answer::Answer;
-use rules::file::Read;
+use std::ops::ControlFlow;
 
 // How the entering of a file's commands ended: taken at the file's end, or the first refusal, the reader's or the book's; where the reader
 // stood then, before the refused command; and the book with the commands before it.
@@ -22,47 +22,29 @@ pub struct Loaded {
     pub book: Book,
 }
 
-// One turn of the loop, and whether there is another.
-#[derive(Clone, Copy)]
-pub struct Turn {
-    pub going: bool,
-    pub loaded: Loaded,
-}
+// One turn of the loop: on to the next command, with its position and the book, or the loop's end.
+type Turn = ControlFlow<Loaded, (usize, Book)>;
 
 // The loop ends at a position.
 fn stopped(answer: Answer, at: usize, book: Book) -> Turn
     ensures { result ≡ stops_at at answer book }
 {
-    let loaded = Loaded { answer, at, book };
-    Turn {
-        going: false,
-        loaded,
-    }
+    ControlFlow::Break(Loaded { answer, at, book })
 }
 
 // After a command was entered: the next one stands at `next`, the command itself at `at`.
 fn entered(e: Entry, at: usize, next: usize) -> Turn
     ensures { result ≡ goes_by at next e.answer e.book }
 {
-    let book = e.book;
-    let answer = e.answer;
-    match answer {
-        Answer::Taken => {
-            let loaded = Loaded {
-                answer: Answer::Taken,
-                at: next,
-                book,
-            };
-            Turn {
-                going: true,
-                loaded,
-            }
-        }
-        Answer::Refused(n) => stopped(Answer::Refused(n), at, book),
+    match e.answer {
+        Ok(()) => ControlFlow::Continue((next, e.book)),
+        Err(refusal) => stopped(Err(refusal), at, e.book),
     }
 }
 
-// The command at a position, read by the reader and entered.
+// The command at a position, read by the reader and entered. A function of its own in the machine code too: drawn into the loop over readings, it
+// keeps LLVM's vectorizer of straight-line code busy for minutes.
+#[inline(never)]
 fn read_and_enter(b: Book, s: &[u8], at: usize, meter: &mut [i32], revisions: &mut [u8]) -> Turn
     requires { sound b ≡ true }
     ensures value { result ≡ (turn_at s.now at b (lent meter.old revisions.old)).turn }
@@ -70,14 +52,12 @@ fn read_and_enter(b: Book, s: &[u8], at: usize, meter: &mut [i32], revisions: &m
         (lent meter.old revisions.old)).meter }
 {
     let step = read_from(s, at);
-    let read = step.read;
-    match read {
-        Read::End => stopped(Answer::Taken, at, b),
-        Read::Refused(n) => stopped(Answer::Refused(n), at, b),
-        Read::Got(c, _) => {
-            let e = b.enter_known(c, meter, revisions);
-            entered(e, at, step.at)
-        }
+    match step.read {
+        Err(refusal) => stopped(Err(refusal), at, b),
+        Ok(found) => match found {
+            None => stopped(Ok(()), at, b),
+            Some((c, _)) => entered(b.enter_known(c, meter, revisions), at, step.at),
+        },
     }
 }
 
@@ -90,24 +70,19 @@ pub fn load(b: Book, s: &[u8], meter: &mut [i32], revisions: &mut [u8]) -> Loade
         × (sound result.book ≡ true)
         × (result.at ≤ length s.now) }
 {
-    let mut l = Loaded {
-        answer: Answer::Taken,
-        at: 0,
-        book: b,
-    };
-    let mut going = true;
-    let mut span = b.open_span(room_of(meter, revisions));
-    while going {
-        let book = l.book;
-        let at = take_readings(span, s, l.at, meter, revisions);
-        let t = read_and_enter(book, s, at, meter, revisions);
-        going = t.going;
-        let turned = t.loaded;
-        l = turned;
-        let after = l.book;
-        span = after.open_span(room_of(meter, revisions));
+    let mut book = b;
+    let mut at = 0;
+    loop {
+        let span = book.open_span(room_of(meter, revisions));
+        let here = take_readings(span, s, at, meter, revisions);
+        match read_and_enter(book, s, here, meter, revisions) {
+            ControlFlow::Continue((next, after)) => {
+                at = next;
+                book = after;
+            }
+            ControlFlow::Break(loaded) => return loaded,
+        }
     }
-    l
 }
 
 // All commands of a file into the empty book.

@@ -11,13 +11,14 @@ use Rattle.energy.specs.Lists.{is_some}
 use Rattle.commands.specs.declared.entries.Command.{Command}
 use Rattle.rules.proofs.Reread.{reread}
 use Rattle.rules.specs.File.{table, widths_of, total, operands, command_of, read_as, read_at}
-use Rattle.rules.specs.declared.file.Read.{Read}
-use Rattle.rules.specs.declared.file.Read.TheVariants.{Got, Refused, End}
+use Rattle.rules.specs.Answer.{Read, Got, End}
+use Rattle.commands.specs.declared.refusal.Refusal.TheVariants.{UnknownCommand, CutOff}
+use Rattle.std.specs.Prelude.{Err}
 
 pub data Found (s : List ℕ) (at : ℕ) : Read → Type 0 where
   ended : length s ≤ at → Found s at End
-  unknown : at < length s → widths_of (get_or s at 0) table ≡ none → Found s at (Refused 1)
-  short : {ws : List ℕ} → at < length s → widths_of (get_or s at 0) table ≡ some ws → length s - at < 1 + total ws → Found s at (Refused 2)
+  unknown : at < length s → widths_of (get_or s at 0) table ≡ none → Found s at (Err UnknownCommand)
+  short : {ws : List ℕ} → at < length s → widths_of (get_or s at 0) table ≡ some ws → length s - at < 1 + total ws → Found s at (Err CutOff)
   entire : {ws : List ℕ} {c : Command} → at < length s → widths_of (get_or s at 0) table ≡ some ws → 1 + total ws ≤ length s - at
       → command_of (get_or s at 0) (operands ws (drop (at + 1) s)) ≡ some c
       → Found s at (Got c (at + (1 + total ws)))

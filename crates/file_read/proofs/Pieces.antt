@@ -9,9 +9,10 @@ use lib.ListN.{length, get_or, drop, length-append, length-drop, get_or-append}
 use lib.Seq.{take-append-le, drop-append-le, drop-drop, get_or-drop}
 use Rattle.rules.specs.File.{table, widths_of, total, operands, command_of, read_at}
 use Rattle.commands.specs.declared.entries.Command.{Command}
-use Rattle.rules.specs.declared.file.Read.{Read}
-use Rattle.rules.specs.declared.file.Read.TheVariants.{Got, Refused, End}
 use Rattle.file_read.proofs.Finds.{Found, ended, unknown, short, entire, found, found_reads, found_at}
+use Rattle.rules.specs.Answer.{Read, Got, End}
+use Rattle.commands.specs.declared.refusal.Refusal.TheVariants.{UnknownCommand}
+use Rattle.std.specs.Prelude.{Err}
 
 -- ---- a piece, and bytes after it
 
@@ -38,14 +39,14 @@ module _ (p q : List ℕ) (at : ℕ) where
       rw (same_byte h, drop-append-le (at + 1) p q first, operands-append ws (drop (at + 1) p) q rest) g in
       entire inside there room same
 
-  kept_unknown : Found p at (Refused 1) → Found (p ++ q) at (Refused 1)
+  kept_unknown : Found p at (Err UnknownCommand) → Found (p ++ q) at (Err UnknownCommand)
   kept_unknown (unknown h e) = unknown (rw length-append (omega arith)) (rw (same_byte h) e)
 
   -- a command that a piece holds is the file's, and so is an unknown byte
   pub piece_got : {c : Command} {next : ℕ} → read_at p at ≡ Got c next → read_at (p ++ q) at ≡ Got c next
   piece_got e = found_reads (kept_got (found_at e))
 
-  pub piece_unknown : read_at p at ≡ Refused 1 → read_at (p ++ q) at ≡ Refused 1
+  pub piece_unknown : read_at p at ≡ Err UnknownCommand → read_at (p ++ q) at ≡ Err UnknownCommand
   piece_unknown e = found_reads (kept_unknown (found_at e))
 
   -- where a piece ends, it has no byte
@@ -60,7 +61,7 @@ module _ (p q : List ℕ) (at : ℕ) where
 -- a read with its position moved
 abbrev pub shift : ℕ → Read → Read
 shift k (Got c next) = Got c (k + next)
-shift k (Refused n) = Refused n
+shift k (Err r) = Err r
 shift k End = End
 
 -- what is read in a file from k on is what is read in the file k bytes later

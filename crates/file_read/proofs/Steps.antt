@@ -14,8 +14,11 @@ use Rattle.commands.specs.declared.entries.Command.{Command}
 use Rattle.commands.specs.declared.entries.Command.TheVariants.{Close as closeᶜ}
 use Rattle.rules.proofs.Operands.{write_long}
 use Rattle.file_table.proofs.Rows.{widths_most}
-use Rattle.rules.specs.declared.file.Read.TheVariants.{Got, Refused}
 use Rattle.file_read.proofs.Finds.{Found, unknown, short, entire, found_at}
+use Rattle.rules.specs.Answer.{Got}
+use Rattle.commands.specs.declared.refusal.Refusal.{Refusal}
+use Rattle.commands.specs.declared.refusal.Refusal.TheVariants.{UnknownCommand, CutOff}
+use Rattle.std.specs.Prelude.{Err}
 
 -- a command that is read ends after where it begins, and within the bytes
 got_inside : {s : List ℕ} {at next : ℕ} {c : Command} → Found s at (Got c next) → (at < next) × (next ≤ length s)
@@ -24,19 +27,19 @@ got_inside (entire h e k g) = omega arith
 pub got_within : (s : List ℕ) (at : ℕ) {c : Command} {next : ℕ} → read_at s at ≡ Got c next → (at < next) × (next ≤ length s)
 got_within s at e = got_inside (found_at e)
 
--- a refusal is 1 or 2
-refused_as : {s : List ℕ} {at n : ℕ} → Found s at (Refused n) → (n ≡ 1) ⊎ (n ≡ 2)
+-- a refusal is one of two
+refused_as : {s : List ℕ} {at : ℕ} {r : Refusal} → Found s at (Err r) → (r ≡ UnknownCommand) ⊎ (r ≡ CutOff)
 refused_as (unknown h e) = inl refl
 refused_as (short h e k) = inr refl
 
-pub refused_number : (s : List ℕ) (at : ℕ) {n : ℕ} → read_at s at ≡ Refused n → (n ≡ 1) ⊎ (n ≡ 2)
+pub refused_number : (s : List ℕ) (at : ℕ) {r : Refusal} → read_at s at ≡ Err r → (r ≡ UnknownCommand) ⊎ (r ≡ CutOff)
 refused_number s at e = refused_as (found_at e)
 
 -- 2 leaves fewer bytes than the longest command has
-refused_left : {s : List ℕ} {at : ℕ} → Found s at (Refused 2) → length s < at + 32
+refused_left : {s : List ℕ} {at : ℕ} → Found s at (Err CutOff) → length s < at + 32
 refused_left {s} {at} (short {ws} h e k) = omega (arith, widths_most (get_or s at 0) ws e)
 
-pub refused_near : (s : List ℕ) (at : ℕ) → read_at s at ≡ Refused 2 → length s < at + 32
+pub refused_near : (s : List ℕ) (at : ℕ) → read_at s at ≡ Err CutOff → length s < at + 32
 refused_near s at e = refused_left (found_at e)
 
 -- ---- a command is as long as what it is written as

@@ -1,5 +1,6 @@
-// The reader: a unit file's bytes and a position in them. Its functions take it apart and leave the work to the decoder.
+// The reader: a unit file's bytes and a position in them.
 ghost use Rattle.std.specs.Prelude.{◌≡◌};
+ghost use Rattle.rules.specs.File.{read_at};
 ghost use Rattle.file_read.specs.Reader.{position_after, step_at};
 
 use crate::decode::read_at;
@@ -11,11 +12,26 @@ pub struct Reader<'a> {
     pub at: usize,
 }
 
-// What a reader finds, and the reader after it.
-#[derive(Clone, Copy)]
-pub struct Next<'a> {
-    pub reader: Reader<'a>,
-    pub read: Read,
+impl<'a> Reader<'a> {
+    // A reader of these bytes at a position.
+    pub fn new(src: &'a [u8], at: usize) -> Reader<'a>
+        ensures { (result.src ≡ src.entry) × (result.at ≡ at) }
+    {
+        Reader { src, at }
+    }
+
+    // What stands at the reader's position. Past a command the reader moves on; at the end, and after a refusal, it stays.
+    pub fn read(&mut self) -> Read
+        ensures found { result ≡ read_at self.old.src.now self.old.at }
+        ensures same { self.new.src ≡ self.old.src }
+        ensures moved { self.new.at ≡ position_after result self.old.at }
+    {
+        let read = read_at(self.src, self.at);
+        if let Ok(Some((_, next))) = read {
+            self.at = next;
+        }
+        read
+    }
 }
 
 // What stands at a position, and the position after it.
@@ -25,60 +41,15 @@ pub struct Step {
     pub at: usize,
 }
 
-// The position after a command; at the end, and after a refusal, the position has not moved.
-fn moved(read: Read, at: usize) -> usize
-    ensures { result ≡ position_after read at }
-{
-    match read {
-        Read::Got(_, next) => next,
-        Read::Refused(_) => at,
-        Read::End => at,
-    }
-}
-
-fn step_at(src: &[u8], at: usize) -> Step
-    ensures { result ≡ step_at src.now at }
-{
-    let read = read_at(src, at);
-    let next = moved(read, at);
-    Step {
-        read: read,
-        at: next,
-    }
-}
-
-impl<'a> Reader<'a> {
-    // A reader of these bytes at a position.
-    pub fn new(src: &'a [u8], at: usize) -> Reader<'a>
-        ensures { (result.src ≡ src.entry) × (result.at ≡ at) }
-    {
-        Reader { src, at }
-    }
-
-    // What stands at the reader's position, and the reader after it.
-    pub fn read(self) -> Next<'a>
-        ensures { (result.reader.src ≡ self.entry.src)
-            × (result.reader.at ≡ (step_at self.entry.src.now self.entry.at).at)
-            × (result.read ≡ (step_at self.entry.src.now self.entry.at).read) }
-    {
-        let step = step_at(self.src, self.at);
-        Next {
-            reader: Reader {
-                src: self.src,
-                at: step.at,
-            },
-            read: step.read,
-        }
-    }
-}
-
 // A reader's step from a position of plain bytes on: its callers hold no reader.
+#[tactic(auto, unfolding(crate::specs::Reader::step_at))]
 pub fn read_from(src: &[u8], at: usize) -> Step
     ensures { result ≡ step_at src.now at }
 {
-    let next = Reader::new(src, at).read();
+    let mut reader = Reader::new(src, at);
+    let read = reader.read();
     Step {
-        read: next.read,
-        at: next.reader.at,
+        read,
+        at: reader.at,
     }
 }

@@ -19,12 +19,12 @@ use Rattle.commands.specs.declared.entries.Command.{Command}
 use Rattle.commands.specs.declared.entries.Command.TheVariants.{Reading as readingᶜ, Revision as revisionᶜ}
 use Rattle.commands.proofs.Input.{input_cond}
 use Rattle.rules.specs.File.{table, widths_of, total, operands, word_from, signed_of, command_of, read_at}
-use Rattle.rules.specs.declared.file.Read.TheVariants.{Got}
 use Rattle.book_memory.specs.Meter.{written_at, put_meter, takes_reading, Memory}
 use Rattle.book_memory.proofs.TakenReading.{takes, tests, input_fits}
 use Rattle.file_read.proofs.Finds.{entire, found_reads}
 use Rattle.file_table.proofs.Words.{word_more}
 use Rattle.file_readings.specs.Run.{ranged, Stand, stand_at}
+use Rattle.rules.specs.Answer.{Got}
 
 -- ---- the kW
 

@@ -20,14 +20,14 @@ use Rattle.commands.specs.Command.{always, on_revision}
 use Rattle.commands.specs.Input.{input_refusal}
 use Rattle.commands.proofs.ByKind.{metered_or_not}
 use Rattle.rules.specs.File.{table, widths_of, total, operands, byte_of, read_at}
-use Rattle.rules.specs.declared.file.Read.{Read}
-use Rattle.rules.specs.declared.file.Read.TheVariants.{Got, End, Refused as refusedʳ}
 use Rattle.book_memory.specs.Meter.{put_meter, written_at, takes_reading, Memory, room_in}
 use Rattle.book_memory.proofs.Lengths.{written_room}
 use Rattle.book_memory.proofs.TakenReading.{takes}
 use Rattle.file_read.proofs.Finds.{Found, ended, unknown, short, entire, found}
 use Rattle.file_read.proofs.Steps.{got_within, byte_back}
 use Rattle.file_readings.specs.Run.{Stand, stand_by, stand_at, stands, Still, Run, stands_whole}
+use Rattle.rules.specs.Answer.{Read, Got, End}
+use Rattle.std.specs.Prelude.{Err}
 
 -- what is known where a command with this byte stands whole
 pub whole : (s : List ℕ) (at byte n : ℕ) → stands_whole s at byte n ≡ true → (at < length s) × (at + n ≤ length s) × (get_or s at 0 ≡ byte)
@@ -61,7 +61,7 @@ moves span s at meter = go (read_at s at) refl
 
     go : (r : Read) → read_at s at ≡ r → Moves s at (stand_by span at meter r).at
     go (Got c next) e = answered (takes_reading span meter c) (record { at = next; meter = put_meter meter c }) (got_within s at e)
-    go (refusedʳ n) e = stays
+    go (Err n) e = stays
     go End e = stays
 
 -- of two stretches each ends within the bytes, so do both
@@ -126,7 +126,7 @@ module _ (span : ℕ) (s : List ℕ) where
           (λ r. answered (takes_reading span meter (readingᶜ r)) next (readingᶜ r) 0 r refl)
           (λ v. answered (takes_reading span meter (revisionᶜ v)) next (revisionᶜ v) v.number v.reading refl)
           (λ c r v. rw (r _ _ _, v _ _ (always false)) refl) c
-      go (refusedʳ n) = refl
+      go (Err n) = refl
       go End = refl
 
   pub stands_room : (x : Stand) (n : ℕ) → room_in (stands n span s x).meter ≡ room_in x.meter
@@ -187,7 +187,7 @@ module _ (span : ℕ) (s : List ℕ) (at : ℕ) (meter : Memory) where
 
       go : (r : Read) → read_at s at ≡ r → (stand_by span at meter r).at ≡ at → (stand_by span at meter r).meter ≡ meter
       go (Got c next) e h = answered (takes_reading span meter c) _ (got_within s at e).0 h
-      go (refusedʳ n) e h = refl
+      go (Err n) e h = refl
       go End e h = refl
 
   -- and another turn stands still too

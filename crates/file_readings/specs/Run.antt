@@ -3,9 +3,9 @@ use Rattle.std.specs.Prelude.{◌≡◌, Bool, cond, ◌&&◌, List, ℕ, zero, 
 use Rattle.std.proofs.Math.Option.{Option, none, some}
 use Rattle.commands.specs.Input.{is_reading}
 use Rattle.rules.specs.File.{read_at}
-use Rattle.rules.specs.declared.file.Read.{Read}
-use Rattle.rules.specs.declared.file.Read.TheVariants.{Got, End, Refused as refusedʳ}
 use Rattle.book_memory.specs.Meter.{put_meter, takes_reading, Memory}
+use Rattle.rules.specs.Answer.{Read, Got, End}
+use Rattle.std.specs.Prelude.{Err}
 
 -- a kW, where it is in a reading's range
 abbrev pub ranged : ℤ → Option ℤ
@@ -19,7 +19,7 @@ pub record Stand : Type 0 where
 -- a reading that is taken in the span goes into lent memory; whatever else was read is left for the book
 abbrev pub stand_by : ℕ → ℕ → Memory → Read → Stand
 stand_by span at meter (Got c next) = cond (takes_reading span meter c) (record { at = next; meter = put_meter meter c }) (record { at = at; meter = meter })
-stand_by span at meter (refusedʳ n) = record { at = at; meter = meter }
+stand_by span at meter (Err n) = record { at = at; meter = meter }
 stand_by span at meter End = record { at = at; meter = meter }
 
 -- after the reading at a position

@@ -90,7 +90,7 @@ fn take_revised(span: usize, s: &[u8], at: usize, meter: &mut [i32], revisions: 
     }
 }
 
-// Either of them, where one stands; the position itself where none does.
+// Either of them, where one stands; the position itself where none does: a run asks only whether it moved, which an Option makes no plainer.
 fn take_at(span: usize, s: &[u8], at: usize, meter: &mut [i32], revisions: &mut [u8]) -> usize
     ensures { (result ≡ (stand_at span s.now at (lent meter.old revisions.old)).at)
         × (lent meter.new revisions.new ≡ (stand_at span s.now at (lent meter.old revisions.old)).meter) }

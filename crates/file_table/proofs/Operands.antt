@@ -2,14 +2,14 @@
 use mathlib.Core.Path.{◌≡◌, refl, ◌∙◌, ap}
 use mathlib.Core.List.{List, [], ◌∷◌, ◌++◌, append_assoc}
 use Prim.Native.Nat.{ℕ, zero, suc, ◌+◌, ◌-◌, ◌^◌, ◌≤◌, ◌<◌}
-use native.Mathlib.Nat.{not-suc-le-zero, le_of_suc-le-suc, le_of_lt, add_assoc, add-sub_cancel_left}
+use native.Mathlib.Nat.{le_of_lt, add_assoc, add_comm, add-zero, zero-add}
 use native.Mathlib.Numerals.{add-one}
 use native.Mathlib.Omega.{arith}
 use lib.Dec.{lit<}
-use lib.ListN.{length, get_or, take, drop, set, replicate, length-append}
+use lib.ListN.{length, get_or, take, drop, set, replicate, length-append, length-drop}
 use lib.Seq.{length-take-le, get_or-drop, drop-drop, set_at, take-suc}
 use Rattle.rules.specs.File.{total, word_from, operands, command_of}
-use Rattle.file_table.specs.Table.{padded}
+use Rattle.file_table.specs.Operands.{padded, sized_from, Sized}
 use Rattle.file_table.proofs.Words.{Bytes, word_below}
 
 -- ---- the widths passed
@@ -22,17 +22,15 @@ total-snoc (v ∷ ws) w = omega (arith, total-snoc ws w)
 pub total_more : (ws : List ℕ) (k : ℕ) → k < length ws → total (take (k + 1) ws) ≡ total (take k ws) + get_or ws k 0
 total_more ws k h = rw (add-one k, take-suc ws k 0) (total-snoc (take k ws) (get_or ws k 0))
 
-pub total-within : (ws : List ℕ) (k n : ℕ) → k ≤ n → total (take k ws) ≤ total (take n ws)
+pub total-within : (ws : List ℕ) (k : ℕ) → total (take k ws) ≤ total ws
 unfolding total
-total-within ws zero n h = omega arith
-total-within [] (suc k) n h = omega arith
-total-within (w ∷ ws) (suc k) zero h = absurd (not-suc-le-zero h)
-total-within (w ∷ ws) (suc k) (suc n) h = omega (arith, total-within ws k n (le_of_suc-le-suc h))
+total-within ws zero = omega arith
+total-within [] (suc k) = omega arith
+total-within (w ∷ ws) (suc k) = omega (arith, total-within ws k)
 
 -- the next operand ends where all of them end, or before
-pub next_ends : (ws : List ℕ) (at place k count size : ℕ) → k < length ws → k < count → place ≡ at + total (take k ws) → at + total (take count ws) ≤ size
-    → place + get_or ws k 0 ≤ size
-next_ends ws at place k count size h j stands room = omega (arith, total_more ws k h, total-within ws (k + 1) count (omega arith))
+pub next_ends : (ws : List ℕ) (at place k size : ℕ) → k < length ws → place ≡ at + total (take k ws) → at + total ws ≤ size → place + get_or ws k 0 ≤ size
+next_ends ws at place k size h stands room = omega (arith, total_more ws k h, total-within ws (k + 1))
 
 -- ---- the operands read
 
@@ -78,36 +76,38 @@ unfolding command_of
 command_padded b xs = simp get_d_padded
 
 -- an operand is below 256 to the power of its width
-pub operand_below : (ws s : List ℕ) → Bytes s → (k : ℕ) → get_or (operands ws s) k 0 < 256 ^ get_or ws k 0
+operand_below : (ws s : List ℕ) → Bytes s → (k : ℕ) → get_or (operands ws s) k 0 < 256 ^ get_or ws k 0
 unfolding operands
 operand_below [] s h k = lit< tt
 operand_below (w ∷ ws) s h zero = word_below w s h
 operand_below (w ∷ ws) s h (suc k) = operand_below ws (drop w s) (λ j. rw get_or-drop (h (w + j))) k
 
--- ---- a loop over the operands of a file, from a position on: where the next one stands, and those read
-pub record Passed (s : List ℕ) (at : ℕ) (widths v : List ℕ) (place k : ℕ) : Type 0 where
-  pub stands : place ≡ at + total (take k widths)
-  pub reads : v ≡ padded (operands (take k widths) (drop at s))
+sized_by : (ws v : List ℕ) (k : ℕ) → ((j : ℕ) → get_or v (k + j) 0 < 256 ^ get_or ws j 0) → sized_from k ws v
+sized_by [] v k h = tt
+sized_by (w ∷ ws) v k h = (rw add-zero at (h 0), sized_by ws v (k + 1) (λ j. rw (add_assoc k 1 j, add_comm 1 j, add-one j) (h (suc j))))
 
-pub passed_none : (s : List ℕ) (at : ℕ) (widths : List ℕ) → Passed s at widths (replicate 11 0) at 0
+-- the operands that bytes say fit their widths
+pub operands_sized : (ws s : List ℕ) → Bytes s → Sized ws (padded (operands ws s))
+operands_sized ws s h = sized_by ws (padded (operands ws s)) 0 (λ j. rw (zero-add, get_d_padded) (operand_below ws s h j))
+
+-- ---- a loop over the operands that bytes say: those that are left, and the numbers read
+pub record Passed (s widths v rest : List ℕ) (k : ℕ) : Type 0 where
+  pub left : rest ≡ drop (total (take k widths)) s
+  pub reads : v ≡ padded (operands (take k widths) s)
+
+pub passed_none : (s widths : List ℕ) → Passed s widths (replicate 11 0) s 0
 unfolding total operands padded
-passed_none s at widths = record { stands = omega arith; reads = refl }
+passed_none s widths = record { left = refl; reads = refl }
 
-module _ (s : List ℕ) (at : ℕ) (widths v : List ℕ) (place k x : ℕ) (inside : k < length widths) (few : k < 11) where
-  pub passed_more : Passed s at widths v place k → x ≡ word_from 0 (take (place + get_or widths k 0 - place) (drop place s))
-      → Passed s at widths (set v k x) (place + get_or widths k 0) (k + 1)
-  passed_more p e =
-      let long = length-operands (take k widths) (drop at s) ∙ length-take-le k widths (le_of_lt inside) in
+module _ (s widths v rest : List ℕ) (k : ℕ) (inside : k < length widths) (p : Passed s widths v rest k) where
+  -- the next operand has its bytes
+  pub passed_next : total widths ≤ length s → get_or widths k 0 ≤ length rest
+  passed_next h = rw (p.left, length-drop) (omega (arith, total_more widths k inside, total-within widths (k + 1)))
+
+  pub passed_more : k < 11 → Passed s widths (set v k (word_from 0 (take (get_or widths k 0) rest))) (drop (get_or widths k 0) rest) (k + 1)
+  passed_more few =
+      let long = length-operands (take k widths) s ∙ length-take-le k widths (le_of_lt inside) in
       record {
-        stands = rw (total_more widths k, p.stands, add_assoc);
-        reads =
-            rw (
-              e,
-              add-sub_cancel_left,
-              p.reads,
-              p.stands,
-              operands_more widths (drop at s) k,
-              drop-drop,
-              padded_more (operands (take k widths) (drop at s)) k _ long,
-            );
+        left = rw (p.left, drop-drop, total_more widths k inside);
+        reads = rw (p.reads, p.left, operands_more widths s k inside, padded_more (operands (take k widths) s) k _ long few);
       }

@@ -1,78 +1,69 @@
--- Laws of rows: the rules' table is searched row by row, and what a row that is found says of widths and length.
-use mathlib.Core.Path.{◌≡◌, refl, sym, ◌∙◌, ap}
+-- Laws of rows: the code's table, searched for a command byte, says what the rules' table says.
+use mathlib.Core.Path.{◌≡◌, refl, sym, subst}
 use mathlib.Core.Bool.{Bool, true, false, ◌&&◌, cond}
-use mathlib.Core.List.{List, [], ◌∷◌}
-use mathlib.Core.Option.{Option, none, some}
-use Prim.Native.Nat.{ℕ, zero, suc, ◌+◌, ◌≤◌, ◌<◌}
-use native.Mathlib.Numerals.{add-one}
-use native.Mathlib.Omega.{arith}
-use borrow.Author.Tests.{eq-eqb, ne_eqb}
+use mathlib.Core.List.{List, [], ◌∷◌, map}
+use mathlib.Core.Option.{none, some}
+use Prim.Native.Nat.{ℕ, zero, suc, ◌+◌, ◌≤◌}
 use lib.Dec.{T, eqb, leb, leb→le, lit≤}
-use lib.ListN.{length, get_or, take, drop, drop_of_length-le}
-use lib.Seq.{drop-cons, take-append_seam}
+use lib.ListN.{length, get_or}
 use Rattle.energy.specs.Lists.{all, else}
 use Rattle.energy.proofs.Tests.{T_and}
+use Rattle.std.proofs.Common.{Option, None, Some, MatchOption, inl, inr}
+use Rattle.std.proofs.lemmas.Bool.Decides.{eqb_tells}
+use Rattle.std.specs.List.{find}
 use Rattle.rules.specs.File.{Layout, table, widths_of, total}
-use Rattle.file_table.specs.Table.{padded, table_row, layout_at, row_in, row_for, byte_widths}
+use Rattle.file_table.specs.Table.{RowOf}
 use Rattle.file_table.specs.Operands.{Narrow}
-use Rattle.file_table.proofs.Operands.{get_d_padded}
+use Rattle.file_table.specs.declared.table.Row.{Row}
 
--- ---- a search for a command byte that has come to a place
-module _ (b k : ℕ) (searched : widths_of b table ≡ widths_of b (drop k table)) where
-  -- the byte stands there
-  pub row_here : k < 8 → (layout_at k).byte ≡ b → table_row (layout_at k) ≡ row_for b
-  unfolding widths_of layout_at table table_row row_in row_for
-  row_here h e =
-      let there : widths_of b table ≡ some (layout_at k).widths =
-      searched ∙ rw (drop-cons table k (record { byte = 0; widths = [] }) h, eq-eqb (layout_at k).byte b) in
-      rw (there, e)
+-- a row of the code as a row of the rules
+abbrev pub layout : Row → Layout
+layout r = record { byte = r.byte; widths = r.widths.now }
 
-  -- or it is looked for in the rows after it
-  pub row-later : k < 8 → ((layout_at k).byte ≡ b → ⊥) → widths_of b table ≡ widths_of b (drop (k + 1) table)
-  unfolding widths_of layout_at table
-  row-later h e = searched ∙ rw (add-one k, drop-cons table k (record { byte = 0; widths = [] }) h, ne_eqb (layout_at k).byte b)
+-- the length that it says, and the one that it has
+abbrev pub said : Row → ℕ
+said r = r.length
 
-  -- and past the last row it is not there
-  pub row-missing : 8 ≤ k → row_in b none ≡ row_for b
-  unfolding widths_of table row_for
-  row-missing h = ap (row_in b) (sym (searched ∙ rw (drop_of_length-le table {i = k} h)))
+abbrev pub whole : Row → ℕ
+whole r = 1 + total r.widths.now
 
--- ---- what a row says
+-- ---- a search row by row
 
-pub row_widths : (b : ℕ) → take (row_for b).count (row_for b).widths ≡ byte_widths b
-unfolding else padded table_row row_in row_for byte_widths
-row_widths b = go (widths_of b table)
+-- a row with the byte, its widths and its length
+record Found (b : ℕ) (layouts : List Layout) (row : Row) : Type 0 where
+  pub same : row.byte ≡ b
+  pub widths : widths_of b layouts ≡ some row.widths.now
+  pub length : said row ≡ whole row
+
+abbrev Finds : ℕ → List Layout → Option Row → Type 0
+Finds b layouts o = MatchOption o (widths_of b layouts ≡ none) (λ row. Found b layouts row)
+
+searched : (b : ℕ) (rows : List Row) → map said rows ≡ map whole rows → Finds b (map layout rows) (find (λ r. eqb r.byte b) rows)
+unfolding widths_of
+searched b [] h = refl
+searched b (r ∷ rows) h = elim (eqb_tells r.byte b) [ inl e ↦ here e.0 e.1 | inr e ↦ later e.0 (searched b rows cc) ]
   where
-    go : (o : Option (List ℕ)) → take (row_in b o).count (row_in b o).widths ≡ else o []
-    go none = refl
-    go (some ws) = take-append_seam ws _
+    here : eqb r.byte b ≡ true → r.byte ≡ b → Finds b (layout r ∷ map layout rows) (cond (eqb r.byte b) (Some r) (find (λ r. eqb r.byte b) rows))
+    here t e = rw t (record { same = e; widths = rw t refl; length = cc })
 
--- a row of length 0 is that of a byte without widths
-pub row-none : (b : ℕ) → (row_for b).length ≡ 0 → widths_of b table ≡ none
-unfolding table_row row_in row_for
-row-none b e = go (widths_of b table) e
+    next : eqb r.byte b ≡ false → (o : Option Row) → Finds b (map layout rows) o → Finds b (layout r ∷ map layout rows) o
+    next f None g = rw f g
+    next f (Some row) g = record { same = g.same; widths = rw f g.widths; length = g.length }
+
+    later : eqb r.byte b ≡ false → Finds b (map layout rows) (find (λ r. eqb r.byte b) rows)
+        → Finds b (layout r ∷ map layout rows) (cond (eqb r.byte b) (Some r) (find (λ r. eqb r.byte b) rows))
+    later f g =
+        let e : cond (eqb r.byte b) (Some r) (find (λ r. eqb r.byte b) rows) ≡ find (λ r. eqb r.byte b) rows = rw f refl in
+        subst (λ o. Finds b (layout r ∷ map layout rows) o) (sym e) (next f _ g)
+
+-- the code's table says what the rules' table says, row by row
+pub row_found : (b : ℕ) (rows : List Row) (o : Option Row) → map layout rows ≡ table → map said rows ≡ map whole rows → o ≡ find (λ r. eqb r.byte b) rows
+    → MatchOption o (widths_of b table ≡ none) (λ row. RowOf b row)
+row_found b rows o t l e = go o (rw (← e, t) at (searched b rows l))
   where
-    go : (o : Option (List ℕ)) → (row_in b o).length ≡ 0 → o ≡ none
-    go none e = refl
-    go (some ws) e = absurd (omega arith)
-
--- any other is as long as its widths and the byte
-module _ (b : ℕ) (h : (row_for b).length ≡ 0 → ⊥) where
-  pub row-some : widths_of b table ≡ some (byte_widths b)
-  unfolding else row_in row_for byte_widths
-  row-some = go (widths_of b table) h
-    where
-      go : (o : Option (List ℕ)) → ((row_in b o).length ≡ 0 → ⊥) → o ≡ some (else o [])
-      go none h = absurd (h refl)
-      go (some ws) h = refl
-
-  pub row-length : (row_for b).length ≡ 1 + total (byte_widths b)
-  unfolding else table_row row_in row_for byte_widths
-  row-length = go (widths_of b table) h
-    where
-      go : (o : Option (List ℕ)) → ((row_in b o).length ≡ 0 → ⊥) → (row_in b o).length ≡ 1 + total (else o [])
-      go none h = absurd (h refl)
-      go (some ws) h = refl
+    go : (o : Option Row) → Finds b table o → MatchOption o (widths_of b table ≡ none) (λ row. RowOf b row)
+    go None g = g
+    go (Some row) g = record { same = g.same; widths = g.widths; length = g.length }
 
 -- ---- operands are few and narrow: a test of the whole table
 
@@ -97,15 +88,12 @@ narrow_at (w ∷ ws) (suc k) t = narrow_at ws k (T_and (leb w 4) (all (λ w. leb
 narrow_test : List ℕ → Bool
 narrow_test ws = leb (length ws) 11 && all (λ w. leb w 4) ws
 
-pub row_narrow : (b : ℕ) → Narrow (row_for b).count (row_for b).widths
-unfolding else all table narrow_test table_row row_in row_for
-row_narrow b = go (widths_of b table) (widths_pass narrow_test b table tt tt)
-  where
-    go : (o : Option (List ℕ)) → T (narrow_test (else o [])) → Narrow (row_in b o).count (row_in b o).widths
-    go none t = record { few = lit≤ tt; narrow = λ k. rw get_d_padded (lit≤ tt) }
-    go (some ws) t =
-        let both = T_and (leb (length ws) 11) (all (λ w. leb w 4) ws) t in
-        record { few = leb→le _ _ both.0; narrow = λ k. rw get_d_padded (narrow_at ws k both.1) }
+pub row_narrow : (b : ℕ) (ws : List ℕ) → widths_of b table ≡ some ws → Narrow ws
+unfolding else all table narrow_test
+row_narrow b ws e =
+    let passes : T (narrow_test (else (widths_of b table) [])) = widths_pass narrow_test b table tt tt in
+    let both = T_and (leb (length ws) 11) (all (λ w. leb w 4) ws) (rw e at passes) in
+    record { few = leb→le _ _ both.0; narrow = λ k. narrow_at ws k both.1 }
 
 -- no command is longer than the contract's 32 bytes
 pub widths_most : (b : ℕ) (ws : List ℕ) → widths_of b table ≡ some ws → total ws ≤ 31

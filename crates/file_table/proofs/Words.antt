@@ -1,5 +1,5 @@
 -- Laws of numbers in bytes, high byte first, over the number of bytes.
-use mathlib.Core.Path.{◌≡◌, refl, sym, ◌∙◌}
+use mathlib.Core.Path.{◌≡◌, refl, sym}
 use mathlib.Core.List.{List, [], ◌∷◌, ◌++◌}
 use Prim.Native.Nat.{ℕ, zero, suc, ◌+◌, ◌-◌, ◌*◌, ◌/◌, ◌%◌, ◌^◌, ◌≤◌, ◌<◌, zero-le}
 use native.Mathlib.Nat.{le_of_lt, sub_self, sub-zero, div-one, pow-suc, pow-succ', mul_assoc, mul-le-mul_right}
@@ -22,6 +22,10 @@ word_snoc n (x ∷ bs) b = word_snoc (n * 256 + x) bs b
 pub word_more : (s : List ℕ) (i : ℕ) → i < length s → word_from 0 (take (i + 1) s) ≡ word_from 0 (take i s) * 256 + get_or s i 0
 word_more s i h = rw (add-one i, take-suc s i 0) (word_snoc 0 (take i s) (get_or s i 0))
 
+-- the same for a loop that has come to it
+pub word_next : (s : List ℕ) (i n b : ℕ) → i < length s → n ≡ word_from 0 (take i s) → b ≡ get_or s i 0 → n * 256 + b ≡ word_from 0 (take (i + 1) s)
+word_next s i n b h e f = rw (e, f) (sym (word_more s i h))
+
 abbrev pub Bytes : List ℕ → Type 0
 Bytes s = (k : ℕ) → get_or s k 0 < 256
 
@@ -37,37 +41,36 @@ below (suc i) n (b ∷ s) h =
 pub word_below : (i : ℕ) (s : List ℕ) → Bytes s → word_from 0 (take i s) < 256 ^ i
 word_below i s h = omega (arith, below i 0 s h)
 
+-- so one in at most three bytes leaves room for a fourth
+pub word_small : (i : ℕ) (s : List ℕ) → Bytes s → i ≤ 3 → word_from 0 (take i s) < 256 ^ 3
+word_small i s h few = lt_of_lt_of_le (word_below i s h) (pow-le-pow_right (lit< tt) {i = i} {j = 3} few)
+
 -- ---- writing
 
 drop-set : (l : List ℕ) (i a : ℕ) → i < length l → drop i (set l i a) ≡ a ∷ drop (suc i) l
 drop-set l i a h = rw (set_split l i a h) (drop_at (take i l) (a ∷ drop (suc i) l) i (length-take-le i l (le_of_lt h)))
 
--- the last bytes, as many as are below the next one, are the number's lowest, and the rest is what the number has above them
-pub record Lowest (number size : ℕ) (out : List ℕ) (rest below : ℕ) : Type 0 where
-  pub inside : below ≤ size
-  pub long : length out ≡ size
-  pub written : drop (size - below) out ≡ bytes_of below number
-  pub left : rest ≡ number / 256 ^ below
+-- the bytes from a place on are the number's lowest, and the rest is what the number has above them
+pub record Lowest (number : ℕ) (out : List ℕ) (rest place : ℕ) : Type 0 where
+  pub written : drop place out ≡ bytes_of (length out - place) number
+  pub left : rest ≡ number / 256 ^ (length out - place)
 
-pub lowest_none : (number : ℕ) (out : List ℕ) → Lowest number (length out) out number 0
+pub lowest_none : (number : ℕ) (out : List ℕ) → Lowest number out number (length out)
 unfolding bytes_of
-lowest_none number out = record { inside = zero-le; long = refl; written = rw sub-zero (drop-length out); left = sym (div-one number) }
+lowest_none number out =
+    let all : length out - length out ≡ 0 = sub_self (length out) in
+    record { written = rw all (drop-length out); left = rw all (sym (div-one number)) }
 
-pub lowest_more : (number size : ℕ) (out : List ℕ) (rest below : ℕ) → below < size → Lowest number size out rest below
-    → Lowest number size (set out (size - 1 - below) (rest % 256)) (rest / 256) (below + 1)
+pub lowest_more : (number : ℕ) (out : List ℕ) (rest i : ℕ) → 0 < i → i ≤ length out → Lowest number out rest i
+    → Lowest number (set out (i - 1) (rest % 256)) (rest / 256) (i - 1)
 unfolding bytes_of
-lowest_more number size out rest below h l =
-    let place : size - (below + 1) ≡ size - 1 - below = omega arith in
-    let next : suc (size - 1 - below) ≡ size - below = omega arith in
-    let within : size - 1 - below < length out = omega (arith, l.long) in
+lowest_more number out rest i h most l =
+    let below : length out - (i - 1) ≡ suc (length out - i) = omega arith in
+    let after : suc (i - 1) ≡ i = omega arith in
     record {
-      inside = omega arith;
-      long = length-set out (size - 1 - below) (rest % 256) ∙ l.long;
-      written = rw (place, add-one below, drop-set out (size - 1 - below) (rest % 256) within, next, l.written, l.left);
-      left = rw (add-one below, pow-suc 256 below, l.left, div-div-eq-div-mul);
+      written = rw (length-set, below, drop-set out (i - 1) (rest % 256) (omega arith), after, l.written, l.left);
+      left = rw (length-set, below, pow-suc 256 (length out - i), l.left, div-div-eq-div-mul);
     }
 
-pub lowest_all : (number size : ℕ) (out : List ℕ) (rest below : ℕ) → size ≤ below → Lowest number size out rest below → out ≡ bytes_of size number
-lowest_all number size out rest below h l =
-    let all : below ≡ size = omega (arith, l.inside) in
-    rw (all, sub_self size) at l.written
+pub lowest_all : (number : ℕ) (out : List ℕ) (rest : ℕ) → Lowest number out rest 0 → out ≡ bytes_of (length out) number
+lowest_all number out rest l = rw sub-zero at l.written

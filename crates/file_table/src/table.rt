@@ -1,6 +1,9 @@
 // The table of the unit file: command bytes, whole lengths and operand widths. Decoder and encoder read them here.
-ghost use Rattle.std.specs.Prelude.{◌≡◌, ◌<◌};
-ghost use Rattle.file_table.specs.Table.{table_row, layout_at, row_for};
+ghost use Rattle.std.specs.Prelude.{◌≡◌, ◌==◌, MatchOption};
+ghost use Rattle.std.specs.List.{find};
+ghost use Rattle.std.proofs.Math.Option.{none};
+ghost use Rattle.rules.specs.File.{table, widths_of};
+ghost use Rattle.file_table.specs.Table.{RowOf};
 
 pub const CONTRACT_BYTE: u8 = 0x43;
 
@@ -39,88 +42,63 @@ pub struct Row {
     pub byte: u8,
     // of the whole command, its byte included
     pub length: u8,
-    // how many operands there are, and their widths in bytes with zeros after them
-    pub count: u8,
-    pub widths: [u8; 11],
+    // the operands' widths in bytes
+    pub widths: &'static [u8],
 }
 
 const TABLE: [Row; 8] = [
     Row {
         byte: CONTRACT_BYTE,
         length: 32,
-        count: 11,
-        widths: [1, 1, 1, 4, 4, 4, 2, 2, 4, 4, 4],
+        widths: &[1, 1, 1, 4, 4, 4, 2, 2, 4, 4, 4],
     },
     Row {
         byte: DATE_BYTE,
         length: 5,
-        count: 3,
-        widths: [YEAR_WIDTH, 1, 1, 0, 0, 0, 0, 0, 0, 0, 0],
+        widths: &[YEAR_WIDTH, 1, 1],
     },
     Row {
         byte: WINDOW_BYTE,
         length: 6,
-        count: 3,
-        widths: [2, 2, 1, 0, 0, 0, 0, 0, 0, 0, 0],
+        widths: &[2, 2, 1],
     },
     Row {
         byte: INSTRUCTION_BYTE,
         length: 5,
-        count: 2,
-        widths: [2, 2, 0, 0, 0, 0, 0, 0, 0, 0, 0],
+        widths: &[2, 2],
     },
     Row {
         byte: DEFAULT_BYTE,
         length: 5,
-        count: 3,
-        widths: [2, 1, 1, 0, 0, 0, 0, 0, 0, 0, 0],
+        widths: &[2, 1, 1],
     },
     Row {
         byte: READING_BYTE,
         length: READING_LENGTH,
-        count: 2,
-        widths: [MINUTE_WIDTH, KW_WIDTH, 0, 0, 0, 0, 0, 0, 0, 0, 0],
+        widths: &[MINUTE_WIDTH, KW_WIDTH],
     },
     Row {
         byte: REVISION_BYTE,
         length: REVISION_LENGTH,
-        count: 3,
-        widths: [MINUTE_WIDTH, NUMBER_WIDTH, KW_WIDTH, 0, 0, 0, 0, 0, 0, 0, 0],
+        widths: &[MINUTE_WIDTH, NUMBER_WIDTH, KW_WIDTH],
     },
     Row {
         byte: CLOSE_BYTE,
         length: 1,
-        count: 0,
-        widths: [0, 0, 0, 0, 0, 0, 0, 0, 0, 0, 0],
+        widths: &[],
     },
 ];
 
-// The row of a byte that the table lacks: no command has length 0.
-const MISSING: Row = Row {
-    byte: 0,
-    length: 0,
-    count: 0,
-    widths: [0, 0, 0, 0, 0, 0, 0, 0, 0, 0, 0],
-};
-
-fn row_at(place: usize) -> Row
-    requires { place < 8 }
-    ensures { result ≡ table_row (layout_at place) }
+// The row of a command byte among these.
+fn row_in(rows: &[Row], byte: u8) -> Option<Row>
+    ensures { result ≡ find (λ row. row.byte == byte) rows.now }
 {
-    TABLE[place]
+    rows.iter().copied().find(|row| row.byte == byte)
 }
 
-// The row of a command byte.
-pub fn row_of(byte: u8) -> Row
-    ensures { result ≡ row_for byte }
+// The row of a command byte, if the table has one.
+pub fn row_of(byte: u8) -> Option<Row>
+    ensures { MatchOption result (widths_of byte table ≡ none) (λ row. RowOf byte row) }
 {
-    let mut place: usize = 0;
-    while place < 8 {
-        let row = row_at(place);
-        if row.byte == byte {
-            return row;
-        }
-        place += 1;
-    }
-    MISSING
+    row_in(&TABLE, byte)
 }

@@ -1,34 +1,35 @@
 -- Laws of a whole book's file: what is known of a book that commands leave, and that the rules write it as its parts.
-use mathlib.Core.Path.{◌≡◌, refl, sym, ap, ap₂, ◌∙◌}
+use mathlib.Core.Path.{◌≡◌, refl, sym, ap, ◌∙◌}
 use mathlib.Core.Bool.{Bool, true, false, cond, not}
-use mathlib.Core.List.{List, [], ◌∷◌, ◌++◌, map}
+use mathlib.Core.List.{List, [], ◌∷◌, map}
 use mathlib.Core.Option.{none}
-use Prim.Native.Nat.{ℕ, zero, suc, ◌+◌, ◌-◌, ◌≤◌, ◌<◌}
+use Prim.Native.Nat.{ℕ, ◌-◌, ◌≤◌, ◌<◌}
 use native.Mathlib.Nat.{zero-add}
 use native.Mathlib.Omega.{arith}
 use borrow.Author.Tests.{lt-ltb, le-ltb}
-use lib.ListN.{length, length-map}
-use Rattle.energy.specs.Lists.{concat_map, run, between, put_at}
+use lib.ListN.{length}
+use Rattle.energy.specs.Lists.{concat_map, between, put_at}
 use Rattle.calendar.specs.Calendar.{is_no_date}
 use Rattle.calendar.specs.declared.Date.{Date}
 use Rattle.commands.specs.Input.{first_met, most_minute}
 use Rattle.rules.specs.File.{reading_at, written, file_of}
 use Rattle.commands.specs.declared.contract.Contract.{Contract}
-use Rattle.rules.specs.declared.answer.Answer.TheVariants.{Taken, Refused}
-use Rattle.commands.specs.declared.entries.Command.TheVariants.{Contract as contractᶜ, Date as dateᶜ, Window as windowᶜ, Instruction as instructionᶜ}
-use Rattle.commands.specs.declared.entries.Command.TheVariants.{Default as defaultᶜ}
+use Rattle.rules.specs.Answer.{Taken}
+use Rattle.commands.specs.declared.entries.Command.TheVariants.{Contract as contractᶜ, Date as dateᶜ}
 use Rattle.book_memory.specs.Meter.{Memory, room_in, metered_at}
 use Rattle.book.specs.Book.{book_span, book_cells, ledger_in}
-use Rattle.book.specs.Sound.{sound, Shaped}
+use Rattle.book.specs.Sound.{sound}
 use Rattle.book.specs.declared.Book.{Book}
 use Rattle.book.proofs.SoundTests.{sound-parts}
 use Rattle.book.proofs.Month.{span_cells, span_sound, cells_sound, cells_most}
-use Rattle.file_write.specs.Laid.{file_bytes, Laid, readings, parts, Tabled, Kept}
+use Rattle.file_write.proofs.WrittenParts.{concat_map_ext}
+use Rattle.file_write.specs.Laid.{file_bytes, Laid, readings, parts, Kept}
 use Rattle.file_write.specs.Write.{write_conditions, write_book}
 use Rattle.file_write.specs.declared.Written.{Written}
-use Rattle.file_write.specs.declared.entries.Table.{Table}
-use Rattle.file_write.specs.declared.entries.Table.TheVariants.{Windows, Instructions, Defaults}
-use Rattle.file_write.proofs.WrittenParts.{take-map}
+use Rattle.std.specs.Prelude.{Err}
+use Rattle.commands.specs.Refusals.{refusal_of}
+use Rattle.commands.specs.declared.refusal.Refusal.{Refusal}
+use Rattle.commands.specs.declared.refusal.Refusal.TheVariants.{NotReached, ShortMemory, NoRoom}
 
 -- ---- a book that commands leave
 
@@ -41,24 +42,7 @@ kept b meter e h =
     let t = (sound-parts b e).tables in
     record { windows = t.windows; instructions = t.instructions; defaults = t.defaults; month = month b e; memory = omega (arith, span_cells b) }
 
--- each of its tables, in arrays of their lengths
-pub tabled : (b : Book) {size : ℕ} → Shaped b → Kept b size → (t : Table) → Tabled b t
-tabled b s k Windows =
-    let long : length (map windowᶜ b.windows) ≡ 128 = length-map b.windows windowᶜ ∙ s.windows in
-    record { least = omega arith; most = omega arith; few = omega arith }
-tabled b s k Instructions =
-    let long : length (map instructionᶜ b.instructions) ≡ 64 = length-map b.instructions instructionᶜ ∙ s.instructions in
-    record { least = omega arith; most = omega arith; few = omega arith }
-tabled b s k Defaults =
-    let long : length (map defaultᶜ b.defaults) ≡ 128 = length-map b.defaults defaultᶜ ∙ s.defaults in
-    record { least = omega arith; most = omega arith; few = omega arith }
-
 -- ---- its parts
-
-concat_map_ext : {B : Type 0} (f g : ℕ → List B) (n a : ℕ) → ((m : ℕ) → m < a + n → f m ≡ g m) → concat_map f (run a n) ≡ concat_map g (run a n)
-unfolding concat_map run
-concat_map_ext f g zero a same = refl
-concat_map_ext f g (suc n) a same = ap₂ ◌++◌ (same a (omega arith)) (concat_map_ext f g n (suc a) (λ m h. same m (omega arith)))
 
 -- a contract that may be missing
 contract_part : (agreed : Bool) (k : Contract) → map contractᶜ (cond agreed (k ∷ []) []) ≡ cond agreed (contractᶜ k ∷ []) []
@@ -83,9 +67,6 @@ file_is b meter e =
     ap file_bytes (unfold ledger_in in rw (
       contract_part b.agreed b.contract,
       date_part (is_no_date b.date) b.date,
-      ← take-map windowᶜ b.nwindows b.windows,
-      ← take-map instructionᶜ b.ninstructions b.instructions,
-      ← take-map defaultᶜ b.ndefaults b.defaults,
       span_sound b meter e,
       readings_part b meter,
     ))
@@ -97,21 +78,21 @@ abbrev Gives : Book → Memory → List ℕ → Written → List ℕ → Type 0
 Gives b meter memory r after = (r ≡ (write_book b meter memory).written) × (after ≡ (write_book b meter memory).memory)
 
 -- a refusal
-abbrev no : ℕ → Written
-no n = record { answer = Refused n; size = 0 }
+abbrev no : Refusal → Written
+no r = record { answer = Err r; size = 0 }
 
-pub refused_11 : (b : Book) (meter : Memory) (memory : List ℕ) → sound b ≡ false → Gives b meter memory (no 11) memory
-unfolding write_book write_conditions first_met
+pub refused_11 : (b : Book) (meter : Memory) (memory : List ℕ) → sound b ≡ false → Gives b meter memory (no NotReached) memory
+unfolding write_book write_conditions first_met refusal_of
 refused_11 b meter memory e = rw e (refl, refl)
 
 module _ (b : Book) (meter : Memory) (memory : List ℕ) (e : sound b ≡ true) where
-  pub refused_15 : room_in meter < book_cells b → Gives b meter memory (no 15) memory
-  unfolding write_book write_conditions first_met
+  pub refused_15 : room_in meter < book_cells b → Gives b meter memory (no ShortMemory) memory
+  unfolding write_book write_conditions first_met refusal_of
   refused_15 h = rw (e, cells_sound b meter e, lt-ltb (room_in meter) (book_cells b) h) (refl, refl)
 
   module _ (h : book_cells b ≤ room_in meter) where
-    pub refused_26 : length memory < length (file_bytes (parts b meter)) → Gives b meter memory (no 26) memory
-    unfolding write_book write_conditions first_met
+    pub refused_26 : length memory < length (file_bytes (parts b meter)) → Gives b meter memory (no NoRoom) memory
+    unfolding write_book write_conditions first_met refusal_of
     refused_26 short =
         rw (
           e,

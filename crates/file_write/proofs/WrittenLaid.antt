@@ -1,6 +1,7 @@
 -- Laws of commands laid out one after another in lent bytes.
-use mathlib.Core.Path.{◌≡◌, sym, ap, ◌∙◌, subst, subst⁻¹}
+use mathlib.Core.Path.{◌≡◌, refl, sym, ap, ◌∙◌}
 use mathlib.Core.List.{List, [], ◌∷◌, ◌++◌, append-nil}
+use Rattle.std.proofs.Common.{Result, Ok, IsOk}
 use Prim.Native.Nat.{ℕ, zero, suc, ◌+◌, ◌-◌, ◌≤◌, ◌<◌}
 use native.Mathlib.Nat.{le_refl}
 use native.Mathlib.Omega.{arith}
@@ -11,8 +12,7 @@ use Rattle.rules.specs.File.{write}
 use Rattle.commands.specs.declared.entries.Command.{Command}
 use Rattle.rules.proofs.Taken.{concat_map_append}
 use Rattle.file_encode.specs.Write.{write_at}
-use Rattle.file_encode.specs.declared.Written.{Written as Wr}
-use Rattle.file_encode.specs.declared.Written.TheVariants.{Next, Refused}
+use Rattle.commands.specs.declared.refusal.Refusal.{Refusal}
 use Rattle.file_encode.proofs.Puts.{write_room}
 use Rattle.file_write.specs.Laid.{file_bytes, Room, Laid}
 
@@ -30,30 +30,19 @@ pub laid_none : (m : List ℕ) (at : ℕ) → Laid [] m at m at
 unfolding concat_map
 laid_none m at = bytes-none m at
 
--- the same commands
-module _ {cs ds : List Command} (e : cs ≡ ds) where
-  pub laid_same : {m after : List ℕ} {at next : ℕ} → Laid cs m at after next → Laid ds m at after next
-  laid_same {m} {after} {at} {next} l = subst (λ cs. Laid cs m at after next) e l
-
-  pub room_same : {m : List ℕ} {at : ℕ} → Room ds m at → Room cs m at
-  room_same {m} {at} r = subst⁻¹ (λ cs. Room cs m at) e r
-
 -- one command, as the unit file's writer puts it where there is room for it
 module _ (c : Command) (m : List ℕ) (at : ℕ) (r : Room (c ∷ []) m at) where
-  one : write_at c m at ≡ record { answer = Next (at + length (write c)); bytes = put_at (write c) m at }
+  one : write_at c m at ≡ record { answer = Ok (at + length (write c)); bytes = put_at (write c) m at }
   one = write_room c m at (rw (bytes_one c) at r.fits)
 
-  pub laid_one : {w : Wr} {next : ℕ} {after : List ℕ} → w ≡ (write_at c m at).answer → w ≡ Next next → after ≡ (write_at c m at).bytes
-      → Laid (c ∷ []) m at after next
-  laid_one {next = next} answer is bytes =
-      let there : Next next ≡ Next (at + length (write c)) = sym is ∙ answer ∙ ap (λ x. x.answer) one in
-      record { ends = rw (bytes_one c) (cc); holds = bytes ∙ rw (one, bytes_one c) }
+  pub has_room : (w : Result ℕ Refusal) → w ≡ (write_at c m at).answer → IsOk w
+  has_room w e = rw (e, one) refl
 
-  pub not_refused : {w : Wr} {n : ℕ} → w ≡ (write_at c m at).answer → w ≡ Refused n → ⊥
-  not_refused {n = n} answer is =
-      let there : Refused n ≡ Next (at + length (write c)) = sym is ∙ answer ∙ ap (λ x. x.answer) one in
-      let clash : ◌≡◌ {A = ℕ} 0 1 = cc in
-      omega arith
+  pub laid_one : {w : Result ℕ Refusal} {next : ℕ} {after : List ℕ} → w ≡ (write_at c m at).answer → w ≡ Ok next → after ≡ (write_at c m at).bytes
+      → Laid (c ∷ []) m at after next
+  laid_one {w} {next} {after} e is bytes =
+      let there : Ok (at + length (write c)) ≡ Ok next = sym (ap (λ x. x.answer) one) ∙ sym e ∙ is in
+      record { ends = rw (bytes_one c) (cc); holds = bytes ∙ rw (one, bytes_one c) }
 
 -- memory keeps its length
 pub laid_long : {cs : List Command} {m after : List ℕ} {at next : ℕ} → Room cs m at → Laid cs m at after next → length after ≡ length m

@@ -1,15 +1,16 @@
 -- Laws of the parts of a book's file: entries and readings one after the other, and how long they are.
-use mathlib.Core.Path.{◌≡◌, refl, sym, ap, ◌∙◌}
+use mathlib.Core.Path.{◌≡◌, refl, sym, ap, ap₂, ◌∙◌}
 use mathlib.Core.Bool.{Bool, true, false, cond, not}
 use mathlib.Core.List.{List, [], ◌∷◌, ◌++◌, map, append-nil}
+use mathlib.Core.Logic.{◌⊎◌}
 use mathlib.Core.Option.{none, some}
-use Prim.Native.Nat.{ℕ, zero, suc, ◌+◌, ◌*◌, ◌≤◌, ◌<◌}
-use native.Mathlib.Nat.{le_refl, suc-mul, zero-mul, one-mul}
+use Prim.Native.Nat.{ℕ, zero, suc, ◌+◌, ◌-◌, ◌*◌, ◌≤◌, ◌<◌}
+use native.Mathlib.Nat.{le_refl}
 use native.Mathlib.Numerals.{add-one}
 use native.Mathlib.Omega.{arith}
 use lib.IntN.{ℤ}
-use lib.ListN.{length, get_or, take, length-append, length-map, get_or-map}
-use lib.Seq.{take-suc, length-take-le}
+use lib.ListN.{length, get_or, take, drop, length-append, length-map, length-take, length-drop}
+use lib.Seq.{drop-cons, length-take-le, get_or-take}
 use Rattle.energy.specs.Lists.{concat_map, run, between}
 use Rattle.energy.proofs.Sums.{between-snoc}
 use Rattle.calendar.specs.Calendar.{is_no_date}
@@ -23,13 +24,10 @@ use Rattle.commands.specs.declared.entries.Command.TheVariants.{Default as defau
 use Rattle.commands.specs.declared.entries.Command.TheVariants.{Close as closeᶜ}
 use Rattle.rules.proofs.Operands.{write_long}
 use Rattle.rules.proofs.Taken.{concat_map_append}
-use Rattle.book_memory.specs.Meter.{Memory, cell_reading, kw_at, revision_at, metered_at}
+use Rattle.book_memory.specs.Meter.{Memory, lent, missing, room_in, cell_reading, kw_at, revision_at, metered_at}
 use Rattle.book.specs.declared.Book.{Book}
-use Rattle.rules.proofs.Lists.{get_d_within}
-use Rattle.file_write.specs.Laid.{file_bytes, places_in, used_in, entries, readings, parts, Tabled}
-use Rattle.file_write.specs.declared.entries.Table.{Table}
-use Rattle.file_write.specs.declared.entries.Table.TheVariants.{Windows, Instructions, Defaults}
-use Rattle.file_write.proofs.WrittenLaid.{bytes_one, length_both, Turns}
+use Rattle.file_write.specs.Laid.{file_bytes, Room, Laid, readings, parts, Kept}
+use Rattle.file_write.proofs.WrittenLaid.{bytes_one, length_both, laid_none, Turns, room_turn, laid_turn}
 
 -- ---- how long a command is
 
@@ -51,64 +49,42 @@ bytes_short (c ∷ cs) = omega (arith, length-append (write c) (file_bytes cs), 
 
 -- ---- a table
 
-pub take-map : {A : Type 0} (f : A → Command) (n : ℕ) (xs : List A) → take n (map f xs) ≡ map f (take n xs)
-take-map f zero xs = refl
-take-map f (suc n) [] = refl
-take-map f (suc n) (x ∷ xs) = ap (λ cs. f x ∷ cs) (take-map f n xs)
+module _ {A : Type 0} (f : A → Command) where
+  -- one entry after the other
+  entry_more : (i : ℕ) (es : List A) → map f (take (suc i) es) ≡ map f (take i es) ++ map f (take 1 (drop i es))
+  entry_more zero [] = refl
+  entry_more zero (e ∷ es) = refl
+  entry_more (suc i) [] = refl
+  entry_more (suc i) (e ∷ es) = ap (λ cs. f e ∷ cs) (entry_more i es)
 
--- an entry of a table, and that entry as a command
-module _ {A : Type 0} (f : A → Command) (xs : List A) (i : ℕ) (h : i < length (map f xs)) where
-  pub place_below : {n : ℕ} → length xs ≡ n → i < n
-  place_below e = omega (arith, length-map xs f)
+  pub entries_turns : (es : List A) (n : ℕ) → Turns (λ i. map f (take i es)) (λ i. map f (take 1 (drop i es))) n
+  entries_turns es n = record { more = λ i h. rw (add-one i) (entry_more i es) }
 
-  pub place_is : (d : A) → f (get_or xs i d) ≡ get_or (map f xs) i closeᶜ
-  place_is d = sym (get_or-map f xs i d) ∙ get_d_within (map f xs) i (f d) closeᶜ h
+  pub entry_here : (es : List A) (i : ℕ) (e : A) → i < length es → e ≡ get_or es i e → map f (take 1 (drop i es)) ≡ f e ∷ []
+  entry_here es i e h is = rw (drop-cons es i e h, ← is)
 
--- entries of one length
-module _ {A : Type 0} (f : A → Command) (k : ℕ) (alike : (x : A) → length (write (f x)) ≡ k) where
-  length-alike : (xs : List A) → length (file_bytes (map f xs)) ≡ length xs * k
-  unfolding concat_map
-  length-alike [] = sym (zero-mul k)
-  length-alike (x ∷ xs) = omega (arith, length-append (write (f x)) (file_bytes (map f xs)), alike x, length-alike xs, suc-mul (length xs) k)
+  -- in bytes
+  pub entry_longer : (es : List A) (i : ℕ) (e : A) → i < length es → e ≡ get_or es i e
+      → length (file_bytes (map f (take (i + 1) es))) ≡ length (file_bytes (map f (take i es))) + length (write (f e))
+  entry_longer es i e h is =
+      let one = entry_here es i e h is in
+      ap (λ cs. length (file_bytes cs)) ((entries_turns es (length es)).more i h) ∙ length_both (map f (take i es)) (map f (take 1 (drop i es)))
+      ∙ rw (one, bytes_one)
 
-  length-table : (xs : List A) (n : ℕ) → 0 < length (map f xs) → n ≤ length (map f xs)
-      → n * length (write (get_or (map f xs) 0 closeᶜ)) ≡ length (file_bytes (take n (map f xs)))
-  length-table [] n least few = absurd (omega arith)
-  length-table (x ∷ xs) n least few =
-      let long : length (take n (x ∷ xs)) ≡ n = length-take-le n (x ∷ xs) (omega (arith, length-map xs f)) in
-      sym (ap (λ cs. length (file_bytes cs)) (take-map f n (x ∷ xs)) ∙ length-alike (take n (x ∷ xs)) ∙ rw (long, alike x))
-
-pub entries-length : (b : Book) (t : Table) → Tabled b t → used_in b t * length (write (get_or (places_in b t) 0 closeᶜ)) ≡ length (file_bytes (entries b t))
-unfolding table widths_of total
-entries-length b Windows h = length-table windowᶜ 6 (λ w. write_long (windowᶜ w)) b.windows b.nwindows h.least h.few
-entries-length b Instructions h = length-table instructionᶜ 5 (λ i. write_long (instructionᶜ i)) b.instructions b.ninstructions h.least h.few
-entries-length b Defaults h = length-table defaultᶜ 5 (λ d. write_long (defaultᶜ d)) b.defaults b.ndefaults h.least h.few
-
-pub entries_short : (b : Book) (t : Table) → Tabled b t → length (file_bytes (entries b t)) ≤ 4096
-entries_short b t h = omega (arith, bytes_short (entries b t), length-take-le (used_in b t) (places_in b t) h.few, h.few, h.most)
-
-pub entries_turns : (places : List Command) (n : ℕ) → n ≤ length places → Turns (λ i. take i places) (λ i. get_or places i closeᶜ ∷ []) n
-entries_turns places n few = record { more = λ i h. rw (add-one i, take-suc places i closeᶜ (omega arith)) }
+  pub entries_short : (es : List A) (i : ℕ) → i ≤ 128 → length (file_bytes (map f (take i es))) ≤ 4096
+  entries_short es i h = omega (arith, bytes_short (map f (take i es)), length-map (take i es) f, length-take i es)
 
 -- ---- the readings
 
+pub concat_map_ext : {B : Type 0} (f g : ℕ → List B) (n a : ℕ) → ((m : ℕ) → m < a + n → f m ≡ g m) → concat_map f (run a n) ≡ concat_map g (run a n)
+unfolding concat_map run
+concat_map_ext f g zero a same = refl
+concat_map_ext f g (suc n) a same = ap₂ ◌++◌ (same a (omega arith)) (concat_map_ext f g n (suc a) (λ m h. same m (omega arith)))
+
 -- a command that may be left out
-pub once_most : (holds : Bool) → cond holds 1 0 ≤ 1
-once_most true = le_refl 1
-once_most false = omega arith
-
-once_count : (holds : Bool) (c : Command) → length (cond holds (c ∷ []) []) ≡ cond holds 1 0
-once_count true c = refl
-once_count false c = refl
-
 once_short : (holds : Bool) (c : Command) → length (file_bytes (cond holds (c ∷ []) [])) ≤ 32
-once_short holds c = omega (arith, bytes_short (cond holds (c ∷ []) []), once_count holds c, once_most holds)
-
-pub once_length : {n long : ℕ} (holds : Bool) (c : Command) → n ≡ cond holds 1 0 → long ≡ n * length (write c)
-    → long ≡ length (file_bytes (cond holds (c ∷ []) []))
-unfolding concat_map
-once_length true c e f = f ∙ rw (e, one-mul) (sym (ap length (bytes_one c)))
-once_length false c e f = f ∙ rw (e, zero-mul)
+once_short true c = bytes_short (c ∷ [])
+once_short false c = omega (arith, bytes_short [])
 
 -- a cell's kW and its byte as a command, and whether the cell holds it
 abbrev reading : ℤ → ℕ → ℕ → Command
@@ -155,7 +131,8 @@ module _ (b : Book) (meter : Memory) where
   pub parts-length :
       length (file_bytes (cond b.agreed (contractᶜ b.contract ∷ []) []))
       + length (file_bytes (cond (not (is_no_date b.date)) (dateᶜ b.date ∷ []) []))
-      + length (file_bytes (entries b Windows)) + length (file_bytes (entries b Instructions)) + length (file_bytes (entries b Defaults))
+      + length (file_bytes (map windowᶜ (take b.nwindows b.windows))) + length (file_bytes (map instructionᶜ (take b.ninstructions b.instructions)))
+      + length (file_bytes (map defaultᶜ (take b.ndefaults b.defaults)))
       + length (file_bytes (readings meter (book_span b)))
       + length (file_bytes (cond b.closed (closeᶜ ∷ []) []))
       ≡ length (file_bytes (parts b meter))
@@ -163,17 +140,18 @@ module _ (b : Book) (meter : Memory) where
   parts-length = sym (simp length_both)
 
   -- and a small number
-  pub parts_short : ((t : Table) → Tabled b t) → book_span b ≤ most_minute → length (file_bytes (parts b meter)) ≤ 2000000
-  parts_short tables month =
+  pub parts_short : {size : ℕ} → Kept b size → length (file_bytes (parts b meter)) ≤ 2000000
+  parts_short kept =
       omega (
         arith,
         parts-length,
         once_short b.agreed (contractᶜ b.contract),
         once_short (not (is_no_date b.date)) (dateᶜ b.date),
-        entries_short b Windows (tables Windows),
-        entries_short b Instructions (tables Instructions),
-        entries_short b Defaults (tables Defaults),
+        entries_short windowᶜ b.windows b.nwindows kept.windows,
+        entries_short instructionᶜ b.instructions b.ninstructions (omega (arith, kept.instructions)),
+        entries_short defaultᶜ b.defaults b.ndefaults kept.defaults,
         readings_short meter (book_span b),
+        kept.month,
         once_short b.closed closeᶜ,
       )
 
@@ -183,7 +161,7 @@ module _ (b : Book) (meter : Memory) where
   part k =
       get_or
       (cond b.agreed (contractᶜ b.contract ∷ []) [] ∷ cond (not (is_no_date b.date)) (dateᶜ b.date ∷ []) []
-      ∷ entries b Windows ∷ entries b Instructions ∷ entries b Defaults
+      ∷ map windowᶜ (take b.nwindows b.windows) ∷ map instructionᶜ (take b.ninstructions b.instructions) ∷ map defaultᶜ (take b.ndefaults b.defaults)
       ∷ readings meter (book_span b)
       ∷ cond b.closed (closeᶜ ∷ []) []
       ∷ [])
@@ -193,5 +171,98 @@ module _ (b : Book) (meter : Memory) where
   before zero = []
   before (suc k) = before k ++ part k
 
-  pub part_turns : Turns before part 7
+  part_turns : Turns before part 7
   part_turns = record { more = λ k h. rw (add-one k) }
+
+  -- part k is laid where those before it end, and there is room for it
+  pub record Stand (m out : List ℕ) (place k : ℕ) : Type 0 where
+    pub all : Room (before 7) m 0
+    pub laid : Laid (before k) m 0 out place
+
+  pub stand_none : {m : List ℕ} → Room (parts b meter) m 0 → Stand m m 0 0
+  unfolding parts
+  stand_none r = record { all = r; laid = laid_none _ _ }
+
+  module _ {m out : List ℕ} {place k : ℕ} (s : Stand m out place k) (h : k < 7) where
+    pub part_room : Room (part k) out place
+    part_room = room_turn part_turns s.all h s.laid
+
+    pub part_laid : {after : List ℕ} {next : ℕ} → Laid (part k) out place after next → Stand m after next (k + 1)
+    part_laid l = record { all = s.all; laid = laid_turn part_turns s.all h s.laid l }
+
+  pub stand_all : {m out : List ℕ} {place : ℕ} → Stand m out place 7 → Laid (parts b meter) m 0 out place
+  unfolding parts
+  stand_all s = s.laid
+
+-- ---- the minutes of the span alone
+
+-- the span is within lent memory
+pub within : (b : Book) (size span : ℕ) → Kept b size → span ≡ book_span b → span ≤ size
+within b size span kept e = omega (arith, kept.memory)
+
+module _ (meter : Memory) (span : ℕ) (h : span ≤ room_in meter) where
+  abbrev pub cut : Memory
+  cut = lent (take span meter.cells) (take span meter.revisions)
+
+  pub cut_long : (span ≡ length cut.cells) × (span ≡ length cut.revisions)
+  unfolding room_in
+  cut_long = (sym (length-take-le span meter.cells (omega arith)), sym (length-take-le span meter.revisions (omega arith)))
+
+  cut_room : room_in cut ≡ span
+  unfolding room_in
+  cut_room = omega (arith, cut_long)
+
+  -- the readings of all of them are those of the span
+  pub cut_readings : readings cut (room_in cut) ≡ readings meter span
+  unfolding readings between
+  cut_readings =
+      rw cut_room
+      (concat_map_ext (turn cut) (turn meter) (span - 0) 0
+      (λ m less. ap₂ (λ kw n. reading_at (cell_reading kw n) m) (get_or-take span meter.cells m missing (omega arith))
+      (get_or-take span meter.revisions m 0 (omega arith))))
+
+  pub cut_most : span ≤ most_minute → room_in cut ≤ most_minute
+  cut_most most = rw cut_room most
+
+-- ---- a loop over the cells and bytes of minutes: those from a minute on are left
+
+drop_here : {A : Type 0} (xs : List A) (m : ℕ) (d : A) {x : A} {ys : List A} → drop m xs ≡ x ∷ ys → (m < length xs) × (get_or xs m d ≡ x) × (drop (suc m) xs ≡ ys)
+drop_here [] zero d e = cc
+drop_here [] (suc m) d e = cc
+drop_here (x ∷ xs) zero d e = (omega arith, cc, cc)
+drop_here (x ∷ xs) (suc m) d e = let more = drop_here xs m d e in (omega arith, more.1, more.2)
+
+pub record Rest (meter : Memory) (left : List ℤ) (others : List ℕ) (m : ℕ) : Type 0 where
+  pub cells : left ≡ drop m meter.cells
+  pub bytes : others ≡ drop m meter.revisions
+
+module _ (meter : Memory) {left : List ℤ} {others : List ℕ} {m : ℕ} (r : Rest meter left others m) where
+  module _ {cell : ℤ} {byte : ℕ} {left' : List ℤ} {others' : List ℕ} (e : left ≡ cell ∷ left') (f : others ≡ byte ∷ others') where
+    first : (m < length meter.cells) × (kw_at meter m ≡ cell) × (drop (suc m) meter.cells ≡ left')
+    first = drop_here meter.cells m missing (sym r.cells ∙ e)
+
+    second : (m < length meter.revisions) × (revision_at meter m ≡ byte) × (drop (suc m) meter.revisions ≡ others')
+    second = drop_here meter.revisions m 0 (sym r.bytes ∙ f)
+
+    pub rest_more : Rest meter left' others' (m + 1)
+    rest_more = record { cells = rw add-one (sym first.2); bytes = rw add-one (sym second.2) }
+
+    pub minute_inside : m < room_in meter
+    unfolding room_in
+    minute_inside = omega (arith, first.0, second.0)
+
+    pub turn_here : turn meter m ≡ reading_at (cell_reading cell byte) m
+    turn_here = rw (first.1, second.1)
+
+  pub rest_none : (length left ≡ 0) ⊎ (length others ≡ 0) → room_in meter ≤ m
+  unfolding room_in
+  rest_none h =
+      let cells = ap length r.cells in
+      let bytes = ap length r.bytes in
+      omega (arith, h, length-drop m meter.cells, length-drop m meter.revisions)
+
+  -- and its bytes are counted
+  pub longer_here : {cell : ℤ} {byte n k : ℕ} {left' : List ℤ} {others' : List ℕ} → left ≡ cell ∷ left' → others ≡ byte ∷ others'
+      → n ≡ length (file_bytes (readings meter m)) → k ≡ length (file_bytes (reading_at (cell_reading cell byte) m))
+      → n + k ≡ length (file_bytes (readings meter (m + 1)))
+  longer_here e f g h = rw (g, h, ← turn_here e f) (sym (readings_longer meter m))

@@ -1,6 +1,6 @@
 -- Inner, and proved equal to the rules: commands laid out one after another in lent bytes: what the parts of the writer promise each other. Nothing
 -- here is a rule of its own.
-use Rattle.std.specs.Prelude.{cond, not, List, [], ◌∷◌, ◌++◌, map, ℕ, ◌+◌, ◌≤◌, ◌<◌, length, take}
+use Rattle.std.specs.Prelude.{cond, not, List, [], ◌∷◌, ◌++◌, map, ℕ, ◌+◌, ◌≤◌, length, take}
 use Rattle.commands.specs.Input.{most_minute}
 use Rattle.energy.specs.Lists.{concat_map, between, Laid as LaidBytes}
 use Rattle.calendar.specs.Calendar.{is_no_date}
@@ -11,8 +11,6 @@ use Rattle.commands.specs.declared.entries.Command.TheVariants.{Default as defau
 use Rattle.book_memory.specs.Meter.{Memory, metered_at}
 use Rattle.book.specs.Book.{book_span}
 use Rattle.book.specs.declared.Book.{Book}
-use Rattle.file_write.specs.declared.entries.Table.{Table}
-use Rattle.file_write.specs.declared.entries.Table.TheVariants.{Windows, Instructions, Defaults}
 
 -- the bytes of commands, one after the other
 abbrev pub file_bytes : List Command → List ℕ
@@ -28,22 +26,6 @@ Laid cs memory at after next = LaidBytes (file_bytes cs) memory at after next
 
 -- ---- a book's entries as commands
 
--- the places of a table, used or not
-abbrev pub places_in : Book → Table → List Command
-places_in b Windows = map windowᶜ b.windows
-places_in b Instructions = map instructionᶜ b.instructions
-places_in b Defaults = map defaultᶜ b.defaults
-
--- how many are used
-abbrev pub used_in : Book → Table → ℕ
-used_in b Windows = b.nwindows
-used_in b Instructions = b.ninstructions
-used_in b Defaults = b.ndefaults
-
--- the entries of a table, in order of entry
-abbrev pub entries : Book → Table → List Command
-entries b t = take (used_in b t) (places_in b t)
-
 -- the readings of the first minutes, by rising minute
 unfoldable pub readings : Memory → ℕ → List Command
 readings meter span = concat_map (λ m. reading_at (metered_at meter m) m) (between 0 span)
@@ -52,17 +34,11 @@ readings meter span = concat_map (λ m. reading_at (metered_at meter m) m) (betw
 unfoldable pub parts : Book → Memory → List Command
 parts b meter =
     cond b.agreed (contractᶜ b.contract ∷ []) [] ++ cond (not (is_no_date b.date)) (dateᶜ b.date ∷ []) []
-    ++ entries b Windows ++ entries b Instructions ++ entries b Defaults
+    ++ map windowᶜ (take b.nwindows b.windows) ++ map instructionᶜ (take b.ninstructions b.instructions) ++ map defaultᶜ (take b.ndefaults b.defaults)
     ++ readings meter (book_span b)
     ++ cond b.closed (closeᶜ ∷ []) []
 
 -- ---- what the writer's parts ask
-
--- a table has places, at most 128, and no more entries than these
-pub record Tabled (b : Book) (t : Table) : Type 0 where
-  pub least : 0 < length (places_in b t)
-  pub most : length (places_in b t) ≤ 128
-  pub few : used_in b t ≤ length (places_in b t)
 
 -- a book's counts are within its tables, and its span within a month and within lent memory with so much room
 pub record Kept (b : Book) (size : ℕ) : Type 0 where

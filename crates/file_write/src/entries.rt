@@ -1,50 +1,42 @@
 // What a book is written as: the entries of its tables and the readings in lent memory, as commands.
-ghost use Rattle.std.specs.Prelude.{◌≡◌, ◌<◌, length, get_or};
+ghost use Rattle.std.specs.Prelude.{◌≡◌};
 ghost use Rattle.commands.specs.Command.{revised_as};
-ghost use Rattle.file_write.specs.Laid.{places_in, used_in};
+ghost use Rattle.commands.specs.declared.entries.Command.{Command};
+ghost use Rattle.commands.specs.declared.entries.Command.TheVariants.{Window as windowᶜ, Instruction as instructionᶜ, Default as defaultᶜ};
 
-use book::Book;
 use commands::contract::Contract;
-use commands::entries::{Command, Reading, Revision};
+use commands::entries::{Command, Default, Instruction, Reading, Revision, Window};
 use energy::units::{Kw, Minutes};
 
-// A table of a book.
-#[derive(Clone, Copy)]
-pub(crate) enum Table {
-    Windows,
-    Instructions,
-    Defaults,
+// An entry of a book's table, which is written as a command.
+pub(crate) trait Entry: Copy {
+    ghost as_command: { Self → Command };
+
+    fn command(self) -> Command
+        ensures { result ≡ as_command self };
 }
 
-// How many entries of a table are in use.
-pub(crate) fn used(b: Book, table: Table) -> usize
-    ensures { result ≡ used_in b table }
-{
-    match table {
-        Table::Windows => b.nwindows,
-        Table::Instructions => b.ninstructions,
-        Table::Defaults => b.ndefaults,
+impl Entry for Window {
+    ghost as_command = { windowᶜ };
+
+    fn command(self) -> Command {
+        Command::Window(self)
     }
 }
 
-// An entry of a table as a command.
-pub(crate) fn entry(b: Book, table: Table, i: usize) -> Command
-    requires { i < length (places_in b table) }
-    ensures { result ≡ get_or (places_in b table) i Command.Close }
-{
-    match table {
-        Table::Windows => {
-            let w = b.windows[i];
-            Command::Window(w)
-        }
-        Table::Instructions => {
-            let x = b.instructions[i];
-            Command::Instruction(x)
-        }
-        Table::Defaults => {
-            let d = b.defaults[i];
-            Command::Default(d)
-        }
+impl Entry for Instruction {
+    ghost as_command = { instructionᶜ };
+
+    fn command(self) -> Command {
+        Command::Instruction(self)
+    }
+}
+
+impl Entry for Default {
+    ghost as_command = { defaultᶜ };
+
+    fn command(self) -> Command {
+        Command::Default(self)
     }
 }
 
@@ -53,15 +45,15 @@ pub(crate) fn reading_of(minute: Minutes, cell: i32, byte: u8) -> Command
     ensures { result ≡ revised_as byte (record { minute = minute; kw = record { 0 = cell } }) }
 {
     let reading = Reading {
-        minute: minute,
-        kw: Kw(cell as i64),
+        minute,
+        kw: Kw(i64::from(cell)),
     };
     if byte == Contract::PLAIN {
         return Command::Reading(reading);
     }
     let revision = Revision {
         number: byte,
-        reading: reading,
+        reading,
     };
     Command::Revision(revision)
 }

@@ -5,7 +5,7 @@ mod entries;
 mod layout;
 mod length;
 
-ghost use Rattle.std.specs.Prelude.{◌≡◌};
+ghost use Rattle.std.specs.Prelude.{◌≡◌, Err};
 ghost use Rattle.book_memory.specs.Meter.{lent};
 ghost use Rattle.file_write.specs.Write.{write_book};
 
@@ -13,6 +13,7 @@ use crate::layout::put_book;
 use crate::length::file_length;
 use book::Book;
 use book_memory::room::room_of;
+use commands::refusal::Refusal;
 use rules::answer::Answer;
 
 // Taken with the file's length, or refused with length 0.
@@ -28,29 +29,28 @@ pub fn write_book(b: Book, meter: &[i32], revisions: &[u8], out: &mut [u8]) -> W
     ensures { (result ≡ (write_book b (lent meter.now revisions.now) out.old).written)
         × (out.new ≡ (write_book b (lent meter.now revisions.now) out.old).memory) }
 {
-    let sound = b.sound();
-    if !sound {
-        return refused(11);
+    if !b.sound() {
+        return refused(Refusal::NotReached);
     }
     let room = room_of(meter, revisions);
     if room < b.cells() {
-        return refused(15);
+        return refused(Refusal::ShortMemory);
     }
-    if out.len() < file_length(b, meter, revisions) {
-        return refused(26);
+    if out.len() < file_length(&b, meter, revisions) {
+        return refused(Refusal::NoRoom);
     }
-    let size = put_book(b, meter, revisions, out);
+    let size = put_book(&b, meter, revisions, out);
     Written {
-        answer: Answer::Taken,
-        size: size,
+        answer: Ok(()),
+        size,
     }
 }
 
-fn refused(number: u8) -> Written
-    ensures { result ≡ record { answer = Answer.Refused number; size = 0 } }
+fn refused(refusal: Refusal) -> Written
+    ensures { result ≡ record { answer = Err refusal; size = 0 } }
 {
     Written {
-        answer: Answer::Refused(number),
+        answer: Err(refusal),
         size: 0,
     }
 }

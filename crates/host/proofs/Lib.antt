@@ -1,4 +1,3 @@
 -- What the proofs of several functions use, and the example.
-mod FileCalls
-mod TableCalls
+mod FewWindows
 pub mod Example

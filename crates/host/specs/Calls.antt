@@ -1,8 +1,6 @@
 -- The calls for hosts: what each answers, and what all lent memory holds after it, by one equation over the rules, refusals included.
 use Rattle.std.specs.Prelude.{cond, List, [], ℕ, ℤ}
 use Rattle.book_memory.specs.Meter.{Memory, lent}
-use Rattle.rules.specs.declared.answer.Answer.{Answer}
-use Rattle.rules.specs.declared.answer.Answer.TheVariants.{Taken, Refused}
 use Rattle.book.specs.Book.{empty_book}
 use Rattle.file_load.specs.Load.{LoadedFile, load}
 use Rattle.working_days.specs.Days.{day_book}
@@ -12,6 +10,9 @@ use Rattle.host_settle.specs.SettleInto.{SettledBook, settled_book, settle_into}
 use Rattle.host_tables.specs.Tables.{Tables, book_of, entire}
 use Rattle.file_write.specs.Write.{WrittenBytes, write_book}
 use Rattle.watch_month.specs.MonthOf.{MonthLaid, month_book}
+use Rattle.rules.specs.Answer.{Answer, Taken}
+use Rattle.std.specs.Prelude.{Err}
+use Rattle.commands.specs.Refusals.{number_of as number_of_refusal}
 
 -- ---- a file entered
 
@@ -54,7 +55,7 @@ abbrev pub settles_by : Answer → LoadedFile → List ℤ → List ℤ → Sett
 settles_by Taken l lines sums =
     let s : SettledBook = settle_into l.loaded.book l.meter lines sums in
     settled_file (packed s.number l.loaded.at) l.meter s.lines s.sums
-settles_by (Refused n) l lines sums = settled_file (packed n l.loaded.at) l.meter lines sums
+settles_by (Err r) l lines sums = settled_file (packed (number_of_refusal r) l.loaded.at) l.meter lines sums
 
 -- a whole file, entered and settled
 unfoldable pub settle_file : List ℕ → Memory → List ℤ → List ℤ → SettledFile
@@ -99,7 +100,7 @@ abbrev pub writes_by : Answer → LoadedFile → List ℕ → RewrittenFile
 writes_by Taken l memory =
     let w : WrittenBytes = write_book l.loaded.book l.meter memory in
     rewritten_file (packed (number_of w.written.answer) w.written.size) l.meter w.memory
-writes_by (Refused n) l memory = rewritten_file (packed n l.loaded.at) l.meter memory
+writes_by (Err r) l memory = rewritten_file (packed (number_of_refusal r) l.loaded.at) l.meter memory
 
 -- a whole file, entered and written
 unfoldable pub write_file : List ℕ → Memory → List ℕ → RewrittenFile
@@ -110,7 +111,7 @@ write_file file meter memory = let l : LoadedFile = load file empty_book meter i
 -- the kind of a day of the month of a file that was entered whole; a file with a refusal is answered that
 abbrev pub day_by : Answer → LoadedFile → ℕ → List ℕ → EnteredFile
 day_by Taken l day holidays = entered_file (day_answer (day_book l.loaded.book l.meter day holidays)) l.meter
-day_by (Refused n) l day holidays = entered_file (packed n l.loaded.at) l.meter
+day_by (Err r) l day holidays = entered_file (packed (number_of_refusal r) l.loaded.at) l.meter
 
 -- a whole file, entered, and a day of its month
 unfoldable pub day_file : List ℕ → Memory → ℕ → List ℕ → EnteredFile
@@ -156,7 +157,7 @@ abbrev pub watches_by : Answer → LoadedFile → List ℕ → WatchedFile
 watches_by Taken l month =
     let m : MonthLaid = month_book l.loaded.book month in
     watched_file (packed (number_of m.answer) l.loaded.at) l.meter m.month
-watches_by (Refused n) l month = watched_file (packed n l.loaded.at) l.meter month
+watches_by (Err r) l month = watched_file (packed (number_of_refusal r) l.loaded.at) l.meter month
 
 -- a whole file, entered, and its month worked out
 unfoldable pub watch_file : List ℕ → Memory → List ℕ → WatchedFile

@@ -1,2 +1,3 @@
 pub mod Calls
+pub mod Entered
 pub mod Example

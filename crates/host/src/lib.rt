@@ -4,39 +4,56 @@
 // after the call are what the definition of the call gives for what was lent.
 #![tactic(auto)]
 
-ghost use Rattle.std.specs.Prelude.{◌≡◌};
+ghost use Rattle.std.specs.Prelude.{◌≡◌, MatchResult};
+ghost use Rattle.book.specs.Book.{empty_book};
 ghost use Rattle.book_memory.specs.Meter.{lent};
+ghost use Rattle.file_load.specs.Load.{load};
+ghost use Rattle.file_write.specs.Write.{write_book};
 ghost use Rattle.host.specs.Calls.{enter_file, settle_file, settle_tables, write_file, write_tables};
 ghost use Rattle.host.specs.Calls.{entered_file, rewritten_file, settled_file, written_file};
 ghost use Rattle.host.specs.Calls.{day_file, day_tables, watch_file, watch_tables, watched_book, watched_file};
+ghost use Rattle.host.specs.Entered.{EnteredWhole, StoppedAt, written_book};
 ghost use Rattle.host_settle.specs.SettleInto.{settled_book};
 ghost use Rattle.host_tables.specs.Tables.{tables};
 ghost use Rattle.host_watch.specs.StepNumbers.{step_numbers, stepped_numbers};
 
+use book::Book;
 use file_load::file::load_file;
 use file_write::write_book;
 use host_day::answer_day;
 use host_settle::answers::{number_of, pack};
 use host_settle::settle_book;
-use host_tables::{book_of, entire_tables};
+use host_tables::Tables;
 use host_watch::step_numbers;
-use rules::answer::Answer;
 use watch_month::month_of;
+
+// Enters a whole unit file: its book and its length, or what is answered of a file with a refused command.
+fn entered(file: &[u8], meter: &mut [i32], revisions: &mut [u8]) -> Result<(Book, usize), u64>
+    ensures outcome { let l = load file.now empty_book (lent meter.old revisions.old) in
+        MatchResult result (λ p. EnteredWhole l p.0 p.1) (StoppedAt l) }
+    ensures memory { lent meter.new revisions.new ≡ (load file.now empty_book (lent meter.old revisions.old)).meter }
+{
+    let l = load_file(file, meter, revisions);
+    match l.answer {
+        Ok(()) => Ok((l.book, l.at)),
+        Err(refusal) => Err(pack(refusal.number(), l.at)),
+    }
+}
 
 // Enters a whole unit file. The answer is the refusal's number, or 0, and 256 times the offset of the refused command, or the file's length.
 #[unsafe(no_mangle)]
+#[tactic(auto, unfolding(crate::specs::Calls::enter_file))]
 pub extern "C" fn stor_enter_file(file: &[u8], meter: &mut [i32], revisions: &mut [u8]) -> u64
     ensures { entered_file result (lent meter.new revisions.new)
         ≡ enter_file file.now (lent meter.old revisions.old) }
 {
     let l = load_file(file, meter, revisions);
-    let answer = l.answer;
-    let number = number_of(answer);
-    pack(number, l.at)
+    pack(number_of(l.answer), l.at)
 }
 
 // Enters a whole unit file and settles its book. The answer is as above; a settlement's refusal has the file's length.
 #[unsafe(no_mangle)]
+#[tactic(auto, unfolding(crate::specs::Calls::settle_file))]
 pub extern "C" fn stor_settle_file(
     file: &[u8],
     meter: &mut [i32],
@@ -47,21 +64,15 @@ pub extern "C" fn stor_settle_file(
     ensures { settled_file result (lent meter.new revisions.new) lines.new sums.new
         ≡ settle_file file.now (lent meter.old revisions.old) lines.old sums.old }
 {
-    let l = load_file(file, meter, revisions);
-    let answer = l.answer;
-    let book = l.book;
-    let at = l.at;
-    match answer {
-        Answer::Taken => {
-            let number = settle_book(book, meter, revisions, lines, sums);
-            pack(number, at)
-        }
-        Answer::Refused(n) => pack(n, at),
+    match entered(file, meter, revisions) {
+        Ok((book, at)) => pack(settle_book(book, meter, revisions, lines, sums), at),
+        Err(unsettled) => unsettled,
     }
 }
 
 // Settles the book that tables say. The answer is the refusal's number, or 0.
 #[unsafe(no_mangle)]
+#[tactic(auto, unfolding(crate::specs::Calls::settle_tables))]
 pub extern "C" fn stor_settle_tables(
     contract: &[u32],
     windows: &[u32],
@@ -77,16 +88,29 @@ pub extern "C" fn stor_settle_tables(
         (tables contract.now windows.now instructions.now defaults.now)
         (lent meter.now revisions.now) lines.old sums.old }
 {
-    let entire = entire_tables(contract, windows, instructions, defaults);
-    if !entire {
-        return 11;
+    let tables = Tables {
+        contract,
+        windows,
+        instructions,
+        defaults,
+    };
+    match tables.book() {
+        Some(book) => settle_book(book, meter, revisions, lines, sums),
+        None => 11,
     }
-    let b = book_of(contract, windows, instructions, defaults);
-    settle_book(b, meter, revisions, lines, sums)
+}
+
+// Writes a book as a unit file. The answer is the refusal's number, or 0, and 256 times the file's length, 0 on a refusal.
+fn write(b: Book, meter: &[i32], revisions: &[u8], file: &mut [u8]) -> u64
+    ensures { written_file result file.new ≡ written_book (write_book b (lent meter.now revisions.now) file.old) }
+{
+    let w = write_book(b, meter, revisions, file);
+    pack(number_of(w.answer), w.size)
 }
 
 // Writes the book that tables say as a unit file. The answer is the refusal's number, or 0, and 256 times the file's length, 0 on a refusal.
 #[unsafe(no_mangle)]
+#[tactic(auto, unfolding(crate::specs::Calls::write_tables))]
 pub extern "C" fn stor_write_tables(
     contract: &[u32],
     windows: &[u32],
@@ -101,20 +125,22 @@ pub extern "C" fn stor_write_tables(
         (tables contract.now windows.now instructions.now defaults.now)
         (lent meter.now revisions.now) file.old }
 {
-    let entire = entire_tables(contract, windows, instructions, defaults);
-    if !entire {
+    let tables = Tables {
+        contract,
+        windows,
+        instructions,
+        defaults,
+    };
+    let Some(book) = tables.book() else {
         return pack(11, 0);
-    }
-    let b = book_of(contract, windows, instructions, defaults);
-    let w = write_book(b, meter, revisions, file);
-    let answer = w.answer;
-    let number = number_of(answer);
-    pack(number, w.size)
+    };
+    write(book, meter, revisions, file)
 }
 
 // Enters a whole unit file and writes its book, open, empty or closed, as a unit file into other memory. The answer is the refusal's number, or 0, and
 // 256 times the offset of the refused command, or the written file's length; 0 where it has no room.
 #[unsafe(no_mangle)]
+#[tactic(auto, unfolding(crate::specs::Calls::write_file))]
 pub extern "C" fn stor_write_file(
     file: &[u8],
     meter: &mut [i32],
@@ -124,25 +150,16 @@ pub extern "C" fn stor_write_file(
     ensures { rewritten_file result (lent meter.new revisions.new) written.new
         ≡ write_file file.now (lent meter.old revisions.old) written.old }
 {
-    let l = load_file(file, meter, revisions);
-    let entered = l.answer;
-    let book = l.book;
-    let stopped = l.at;
-    match entered {
-        Answer::Taken => {
-            let w = write_book(book, meter, revisions, written);
-            let ended = w.answer;
-            let number = number_of(ended);
-            let size = w.size;
-            pack(number, size)
-        }
-        Answer::Refused(n) => pack(n, stopped),
+    match entered(file, meter, revisions) {
+        Ok((book, _)) => write(book, meter, revisions, written),
+        Err(unwritten) => unwritten,
     }
 }
 
 // Enters a whole unit file and answers what kind of day a day of its book's month is, where these days are holidays. The answer is the refusal's number,
 // or 0, and 256 times the offset of the refused command, or the kind of the day.
 #[unsafe(no_mangle)]
+#[tactic(auto, unfolding(crate::specs::Calls::day_file))]
 pub extern "C" fn stor_day_file(
     file: &[u8],
     meter: &mut [i32],
@@ -153,18 +170,15 @@ pub extern "C" fn stor_day_file(
     ensures { entered_file result (lent meter.new revisions.new)
         ≡ day_file file.now (lent meter.old revisions.old) day holidays.now }
 {
-    let l = load_file(file, meter, revisions);
-    let loaded = l.answer;
-    let book = l.book;
-    let offset = l.at;
-    match loaded {
-        Answer::Taken => answer_day(book, day, holidays),
-        Answer::Refused(n) => pack(n, offset),
+    match entered(file, meter, revisions) {
+        Ok((book, _)) => answer_day(book, day, holidays),
+        Err(unasked) => unasked,
     }
 }
 
 // The same of the book that tables say.
 #[unsafe(no_mangle)]
+#[tactic(auto, unfolding(crate::specs::Calls::day_tables))]
 pub extern "C" fn stor_day_tables(
     contract: &[u32],
     windows: &[u32],
@@ -177,17 +191,22 @@ pub extern "C" fn stor_day_tables(
         (tables contract.now windows.now instructions.now defaults.now)
         day holidays.now }
 {
-    let entire = entire_tables(contract, windows, instructions, defaults);
-    if entire {
-        let b = book_of(contract, windows, instructions, defaults);
-        return answer_day(b, day, holidays);
+    let tables = Tables {
+        contract,
+        windows,
+        instructions,
+        defaults,
+    };
+    match tables.book() {
+        Some(book) => answer_day(book, day, holidays),
+        None => pack(11, 0),
     }
-    pack(11, 0)
 }
 
 // Enters a whole unit file and works out the month of its book, open or closed, as numbers that steps read. The answer is the refusal's number, or 0,
 // and 256 times the offset of the refused command, or the file's length, also where the month has no room.
 #[unsafe(no_mangle)]
+#[tactic(auto, unfolding(crate::specs::Calls::watch_file))]
 pub extern "C" fn stor_watch_file(
     file: &[u8],
     meter: &mut [i32],
@@ -197,22 +216,15 @@ pub extern "C" fn stor_watch_file(
     ensures { watched_file result (lent meter.new revisions.new) month.new
         ≡ watch_file file.now (lent meter.old revisions.old) month.old }
 {
-    let l = load_file(file, meter, revisions);
-    let loading = l.answer;
-    let book = l.book;
-    let reached = l.at;
-    match loading {
-        Answer::Taken => {
-            let laid = month_of(book, month);
-            let number = number_of(laid);
-            pack(number, reached)
-        }
-        Answer::Refused(n) => pack(n, reached),
+    match entered(file, meter, revisions) {
+        Ok((book, at)) => pack(number_of(month_of(book, month)), at),
+        Err(unwatched) => unwatched,
     }
 }
 
 // Works out the month of the book that tables say. The answer is the refusal's number, or 0.
 #[unsafe(no_mangle)]
+#[tactic(auto, unfolding(crate::specs::Calls::watch_tables))]
 pub extern "C" fn stor_watch_tables(
     contract: &[u32],
     windows: &[u32],
@@ -225,13 +237,16 @@ pub extern "C" fn stor_watch_tables(
         (tables contract.now windows.now instructions.now defaults.now)
         month.old }
 {
-    let entire = entire_tables(contract, windows, instructions, defaults);
-    if entire {
-        let b = book_of(contract, windows, instructions, defaults);
-        let laid = month_of(b, month);
-        return number_of(laid);
-    }
-    11
+    let tables = Tables {
+        contract,
+        windows,
+        instructions,
+        defaults,
+    };
+    let Some(book) = tables.book() else {
+        return 11;
+    };
+    number_of(month_of(book, month))
 }
 
 // One step of the running totals, by a month's numbers and the reading of its minute. The answer is 0, or from 101 on why the totals are as they were.

@@ -5,18 +5,19 @@ ghost use Rattle.std.specs.Prelude.{◌≡◌};
 ghost use Rattle.host_day.specs.DayAnswer.{day_answer, AnswersDay};
 
 use book::Book;
+use commands::refusal::Refusal;
 use host_settle::answers::pack;
 use working_days::{Day, day_of};
 
 // What the call answers for what is known of a day.
-fn answer_of(day: Day) -> u64
+fn answer_of(day: Result<Option<Day>, Refusal>) -> u64
     ensures { result ≡ day_answer day }
 {
     match day {
-        Day::Missing => pack(0, 0),
-        Day::Working => pack(0, 1),
-        Day::NonWorking => pack(0, 2),
-        Day::Refused(number) => pack(number, 0),
+        Ok(None) => pack(0, 0),
+        Ok(Some(Day::Working)) => pack(0, 1),
+        Ok(Some(Day::NonWorking)) => pack(0, 2),
+        Err(refusal) => pack(refusal.number(), 0),
     }
 }
 
@@ -24,6 +25,5 @@ fn answer_of(day: Day) -> u64
 pub fn answer_day(b: Book, day: u32, holidays: &[u32]) -> u64
     ensures { AnswersDay b day holidays.now result }
 {
-    let kind = day_of(b, day, holidays);
-    answer_of(kind)
+    answer_of(day_of(b, day, holidays))
 }

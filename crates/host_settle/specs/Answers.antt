@@ -1,12 +1,13 @@
 -- Inner, and for hosts: what a call answers, as one number.
 use Rattle.std.specs.Prelude.{ℕ, ◌+◌, ◌*◌, min}
-use Rattle.rules.specs.declared.answer.Answer.{Answer}
-use Rattle.rules.specs.declared.answer.Answer.TheVariants.{Taken, Refused}
+use Rattle.rules.specs.Answer.{Answer, Taken}
+use Rattle.std.specs.Prelude.{Err}
+use Rattle.commands.specs.Refusals.{number_of as number_of_refusal}
 
 -- the number of an answer: 0 for taken
 abbrev pub number_of : Answer → ℕ
 number_of Taken = 0
-number_of (Refused n) = n
+number_of (Err r) = number_of_refusal r
 
 -- a number, and 256 times an offset. An offset of 2^56 or more, which no memory reaches, stands as 2^56 − 1
 unfoldable pub packed : ℕ → ℕ → ℕ

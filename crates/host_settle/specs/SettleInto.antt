@@ -1,13 +1,14 @@
 -- Inner, and for hosts: a book settled into numbers: the number of its answer, and line and sum memory after it, by one equation over the rules.
 use Rattle.std.specs.Prelude.{cond, List, ◌++◌, ℕ, ltb, ℤ, length, drop}
 use Rattle.book_memory.specs.Meter.{Memory}
-use Rattle.rules.specs.declared.answer.Answer.{Answer}
-use Rattle.rules.specs.declared.answer.Answer.TheVariants.{Taken, Refused}
 use Rattle.rules.specs.declared.statement.Statement.{Statement}
 use Rattle.book.specs.declared.Book.{Book}
 use Rattle.settle_numbers.specs.Numbers.{SettledAsNumbers, number_book}
 use Rattle.host_sums.specs.Sums.{sum_count, sums_of}
 use Rattle.host_settle.specs.Answers.{number_of}
+use Rattle.rules.specs.Answer.{Answer, Taken}
+use Rattle.std.specs.Prelude.{Err}
+use Rattle.commands.specs.Refusals.{number_of as number_of_refusal}
 
 -- the number of the answer, and line and sum memory after it
 pub record SettledBook : Type 0 where
@@ -22,12 +23,12 @@ settled_book number lines sums = record { number = number; lines = lines; sums =
 -- a statement for so many windows goes into the first numbers; a refusal alters none
 abbrev pub sums_by : Answer → Statement → ℕ → List ℤ → List ℤ
 sums_by Taken s windows sums = sums_of s windows ++ drop sum_count sums
-sums_by (Refused n) s windows sums = sums
+sums_by (Err r) s windows sums = sums
 
 -- the number where sum memory is shorter than a statement's sums: that of settling into the lines, else 26
 abbrev pub short_number : Answer → ℕ
 short_number Taken = 26
-short_number (Refused n) = n
+short_number (Err r) = number_of_refusal r
 
 -- settling a book into numbers. Whether there is room for the sums is asked last
 unfoldable pub settle_into : Book → Memory → List ℤ → List ℤ → SettledBook

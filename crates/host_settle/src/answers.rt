@@ -12,17 +12,15 @@ pub fn number_of(a: Answer) -> u8
     ensures { result ≡ number_of a }
 {
     match a {
-        Answer::Taken => 0,
-        Answer::Refused(n) => n,
+        Ok(()) => 0,
+        Err(refusal) => refusal.number(),
     }
 }
 
 // A number with an offset.
+#[tactic(auto, unfolding(crate::specs::Answers::packed))]
 pub fn pack(number: u8, offset: usize) -> u64
     ensures { result ≡ packed number offset }
 {
-    if offset < OFFSET_MOST {
-        return number as u64 + 256 * offset as u64;
-    }
-    number as u64 + 256 * OFFSET_MOST as u64
+    u64::from(number) + 256 * offset.min(OFFSET_MOST) as u64
 }

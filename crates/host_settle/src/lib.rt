@@ -3,28 +3,17 @@
 
 pub mod answers;
 
-ghost use Rattle.std.specs.Prelude.{◌≡◌, cond, ◌≤◌, ◌<◌, ◌^◌, ltb};
+ghost use Rattle.std.specs.Prelude.{◌≡◌, ◌<◌, ◌^◌};
 ghost use Rattle.book_memory.specs.Meter.{lent};
 ghost use Rattle.host_settle.specs.SettleInto.{settle_into, settled_book};
-ghost use Rattle.host_sums.specs.Sums.{sum_count};
 
 use book::Book;
+use commands::refusal::Refusal;
 use host_sums::{SUMS, put_sums};
-use rules::answer::Answer;
 use settle_numbers::settle_numbers;
 
-// How much line memory may be written: none where the sums have no room, so that this refusal, the last to be asked, alters no line.
-fn line_room(lines: usize, sums: usize) -> usize
-    ensures value { result ≡ cond (ltb sums sum_count) 0 lines }
-    ensures upper_bound { result ≤ lines }
-{
-    if sums < SUMS {
-        return 0;
-    }
-    lines
-}
-
 // The number under which settling a book is refused, or 0. Line and sum memory are written only where it is 0.
+#[tactic(auto, using(crate::proofs::Settled::nothing_written, crate::proofs::Settled::same_number), unfolding(crate::specs::SettleInto::settle_into))]
 pub fn settle_book(
     b: Book,
     meter: &[i32],
@@ -36,18 +25,16 @@ pub fn settle_book(
     ensures { settled_book result lines.new sums.new
         ≡ settle_into b (lent meter.now revisions.now) lines.old sums.old }
 {
-    let room = line_room(lines.len(), sums.len());
+    // no line where the sums have no room, so that this refusal, the last to be asked, alters none
+    let fits = sums.len() >= SUMS;
+    let room = if fits { lines.len() } else { 0 };
     let s = settle_numbers(b, meter, revisions, &mut lines[..room]);
-    let answer = s.answer;
-    let statement = s.statement;
-    match answer {
-        Answer::Taken => {
-            if sums.len() < SUMS {
-                return 26;
-            }
-            put_sums(sums, statement, b.nwindows);
+    match s.answer {
+        Ok(()) if fits => {
+            put_sums(sums, &s.statement, b.nwindows);
             0
         }
-        Answer::Refused(n) => n,
+        Ok(()) => Refusal::NoRoom.number(),
+        Err(refusal) => refusal.number(),
     }
 }

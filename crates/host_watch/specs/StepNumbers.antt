@@ -1,12 +1,12 @@
 -- Inner, and for hosts: a step over plain numbers. The totals are the first seven numbers of memory that the host lends and keeps.
-use Rattle.std.specs.Prelude.{Bool, cond, ◌&&◌, List, [], ◌∷◌, ◌++◌, ℕ, eqb, leb, ℤ, pos, negsuc, nat_abs, length, drop}
+use Rattle.std.specs.Prelude.{Bool, cond, ◌&&◌, List, [], ◌∷◌, ◌++◌, ℕ, leb, ℤ, pos, negsuc, nat_abs, length, drop, Result, Ok, Err}
 use Rattle.energy.specs.Energy.{cell}
 use Rattle.commands.specs.Input.{from_to_ℤ}
 use Rattle.commands.specs.declared.entries.Reading.{Reading}
-use Rattle.watch_step.specs.Step.{step_of, step_number}
+use Rattle.watch_step.specs.Step.{step_of, refused_number}
+use Rattle.watch_step.specs.declared.step.NotStepped.{NotStepped}
+use Rattle.watch_step.specs.declared.step.NotStepped.TheVariants.{Unfit}
 use Rattle.watch_step.specs.declared.totals.Totals.{Totals}
-use Rattle.watch_step.specs.declared.step.StepAnswer.TheVariants.{Unfit}
-use Rattle.watch_step.specs.declared.step.Stepped.{Stepped}
 
 -- how many numbers totals are
 abbrev pub total_count : ℕ
@@ -58,11 +58,11 @@ abbrev pub stepped_numbers : ℕ → List ℤ → SteppedNumbers
 stepped_numbers n xs = record { number = n; memory = xs }
 
 -- a step as numbers: where it is taken, which is 0, its totals stand in place of those before; else the memory is as it was
-abbrev pub written_back : Stepped → List ℤ → SteppedNumbers
-written_back t xs =
-    stepped_numbers (step_number t.answer) (cond (eqb (step_number t.answer) 0) (numbers_of t.totals ++ drop total_count xs) xs)
+abbrev pub written_back : Result Totals NotStepped → List ℤ → SteppedNumbers
+written_back (Ok after) xs = stepped_numbers 0 (numbers_of after ++ drop total_count xs)
+written_back (Err e) xs = stepped_numbers (refused_number e) xs
 
 -- one step over numbers: that of the totals in the memory; memory that holds none is unfit, and as it was
 unfoldable pub step_numbers : List ℕ → List ℤ → ℕ → Reading → List ℤ → SteppedNumbers
 step_numbers month xs n r base =
-    cond (are_totals xs) (written_back (step_of month (totals_in xs) n r base) xs) (stepped_numbers (step_number Unfit) xs)
+    cond (are_totals xs) (written_back (step_of month (totals_in xs) n r base) xs) (stepped_numbers (refused_number Unfit) xs)

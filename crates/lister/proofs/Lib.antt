@@ -1,3 +1,2 @@
-pub mod CopyToFront
 pub mod Refill
 pub mod Examples

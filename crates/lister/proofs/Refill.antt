@@ -1,7 +1,7 @@
 -- Pieces of the lister's input. A step over the bytes that were kept and those read behind them is entering all bytes together, by the theorem on pieces
 -- of a file; so the loop's invariant is that entering stands as all bytes so far say, and a full buffer moves the offset on, up to the most that is taken.
 use mathlib.Core.Path.{◌≡◌, refl, sym, ap, ◌∙◌}
-use mathlib.Core.Bool.{Bool, true, false, cond, ◌&&◌, false≢true}
+use mathlib.Core.Bool.{Bool, true, false, ◌&&◌, false≢true}
 use mathlib.Core.List.{List, [], ◌++◌}
 use Prim.Native.Nat.{ℕ, ◌+◌, ◌-◌, ◌≤◌, ◌<◌}
 use native.Mathlib.Omega.{arith}
@@ -12,7 +12,6 @@ use lib.Seq.{length-take-le, take-take, drop-append-le, drop-drop}
 use Rattle.energy.specs.Lists.{Laid}
 use Rattle.book_memory.specs.Meter.{Memory, room_in}
 use Rattle.rules.specs.FileLength.{most_taken}
-use Rattle.rules.specs.declared.answer.Answer.TheVariants.{Taken}
 use Rattle.book.specs.Book.{empty_book}
 use Rattle.book.specs.declared.Book.{Book}
 use Rattle.file_load.specs.Load.{LoadedFile, load, load_from}
@@ -23,6 +22,7 @@ use Rattle.lister.specs.Printed.{printed}
 use Rattle.lister.specs.Input.{Standing, standing, step, listing_of, Steps·theorem, EntersPiece, ListedInput}
 use Rattle.lister.specs.declared.piece.Ended.{Ended}
 use Rattle.lister.specs.declared.piece.Piece.{Piece}
+use Rattle.rules.specs.Answer.{Taken}
 
 -- ---- steps over a file
 
@@ -127,16 +127,16 @@ module _ {before : Memory} {e : Ended} {meter : Memory} {buffer : List ℕ} {hav
   moved = omega (arith, ap (λ x. x.ended.offset) t.stands)
 
   -- the loop ends here
-  pub listed : p.going ≡ false → length left ≡ length buffer → {rows out : List ℕ} {n : ℕ}
-      → Laid (cond p.going [] (printed p.ended after)) rows 0 out n → ListedInput before left rows out n
+  pub listed : (unfinished p.ended.answer && eqb have (length buffer)) ≡ false → length left ≡ length buffer → {rows out : List ℕ} {n : ℕ}
+      → Laid (printed p.ended after) rows 0 out n → ListedInput before left rows out n
   unfolding listing_of Steps·theorem
   listed g same {rows} {out} {n} l =
       let size : length h.all - p.ended.offset ≡ p.kept =
       omega (arith, ap length all_known.rest, length-drop p.ended.offset h.all, length-take-le p.kept left t.fits) in
-      let full = left_short (unfinished p.ended.answer) have (length buffer) h.room (sym t.going ∙ g) in
+      let full = left_short (unfinished p.ended.answer) have (length buffer) h.room g in
       record {
         file = h.all;
-        prints = rw stands (rw g at l);
+        prints = rw stands l;
         decided = λ u more. (steps h.all more before).ends u;
         from = e.offset;
         unread = rw stands moved;
@@ -145,9 +145,9 @@ module _ {before : Memory} {e : Ended} {meter : Memory} {buffer : List ℕ} {hav
       }
 
   -- or it goes on with what is kept
-  module _ (g : p.going ≡ true) where
+  module _ (g : (unfinished p.ended.answer && eqb have (length buffer)) ≡ true) where
     full : T (unfinished p.ended.answer) × (have ≡ length buffer)
-    full = goes_full (unfinished p.ended.answer) have (length buffer) (sym t.going ∙ g)
+    full = goes_full (unfinished p.ended.answer) have (length buffer) g
 
     pub again : SoFar before p.ended after (take p.kept left)
     again = record { file = h.all; stands = stands; goes_on = full.0 }

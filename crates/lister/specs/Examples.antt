@@ -1,11 +1,11 @@
 -- Proved of the rules: "The lister": what is printed for a refusal, by example.
 use Rattle.std.specs.Prelude.{◌≡◌, []}
 use Rattle.book_memory.specs.Meter.{Memory, lent}
-use Rattle.rules.specs.declared.answer.Answer.TheVariants.{Taken, Refused}
 use Rattle.book.specs.Book.{empty_book}
 use Rattle.book.specs.declared.Book.{Book}
 use Rattle.lister_rows.specs.Text.{text}
 use Rattle.lister.specs.Printed.{printed}
+use Rattle.rules.specs.Answer.{Taken, Refused}
 
 pub record PrintedExamples : Type 0 where
   -- a command that is refused, with the offset of its first byte

@@ -1,5 +1,5 @@
 -- "The lister": what entering standard input comes to, whose bytes come into one buffer, one read after the other.
-use Rattle.std.specs.Prelude.{◌≡◌, true, false, cond, ◌&&◌, List, [], ◌++◌, ℕ, ◌+◌, ◌-◌, ◌≤◌, ◌<◌, T, eqb, length, take, drop}
+use Rattle.std.specs.Prelude.{◌≡◌, true, false, ◌&&◌, List, ◌++◌, ℕ, ◌+◌, ◌-◌, ◌≤◌, ◌<◌, T, eqb, length, take, drop}
 use Rattle.energy.specs.Lists.{Laid}
 use Rattle.book_memory.specs.Meter.{Memory}
 use Rattle.book.specs.Book.{empty_book}
@@ -9,6 +9,8 @@ use Rattle.demands.specs.Pieces.{unfinished}
 use Rattle.lister.specs.Printed.{printed}
 use Rattle.lister.specs.declared.piece.Ended.{Ended}
 use Rattle.lister.specs.declared.piece.Piece.{Piece}
+use Rattle.lister.specs.declared.turn.Turn.{Turn}
+use Rattle.lister.specs.declared.turn.Turn.TheVariants.{Next, Listed}
 
 -- how entering stands: how it ended, lent memory then, and the bytes that were not entered
 pub record Standing : Type 0 where
@@ -58,15 +60,22 @@ Steps·theorem = (file new : List ℕ) (before : Memory) → Steps file new befo
 pub record EntersPiece (e : Ended) (before : Memory) (buffer : List ℕ) (have : ℕ) (p : Piece) (after : Memory) (left : List ℕ) : Type 0 where
   -- it stands as the step says, and what is kept is in front of the buffer
   pub stands : record { ended = p.ended; meter = after; kept = take p.kept left } ≡ step e before (take have buffer)
-  -- there is another piece to read where more bytes can change how this one ended, and these fill the buffer
-  pub going : p.going ≡ (unfinished p.ended.answer && eqb have (length buffer))
   -- what the next turn asks: a sound book, and that the kept bytes fit
   pub keeps : sound p.ended.book ≡ true
   pub fits : p.kept ≤ length left
 
--- the rows after a piece: of how entering ended where it is the last one, and none before
-abbrev pub rows_after : Piece → Memory → List ℕ
-rows_after p after = cond p.going [] (printed p.ended after)
+-- a turn enters a piece. There is another one to read where more bytes can change how this one ended, and these fill the buffer: then no rows are put.
+-- Else it is the last one, and the rows of how entering ended are put
+abbrev pub ListsPiece : Ended → Memory → List ℕ → ℕ → Memory → List ℕ → List ℕ → List ℕ → Turn → Type 0
+ListsPiece e before buffer have after left rows out (Next p) =
+    EntersPiece e before buffer have p after left
+    × ((unfinished p.ended.answer && eqb have (length buffer)) ≡ true)
+    × (out ≡ rows)
+ListsPiece e before buffer have after left rows out (Listed n) =
+    (p : Piece)
+    × EntersPiece e before buffer have p after left
+    × ((unfinished p.ended.answer && eqb have (length buffer)) ≡ false)
+    × Laid (printed p.ended after) rows 0 out n
 
 -- bytes that came read by read: the listing of all of them is put, so many bytes long; and the buffer after the last turn
 pub record ListedInput (before : Memory) (buffer rows out : List ℕ) (n : ℕ) : Type 0 where

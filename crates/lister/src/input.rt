@@ -4,23 +4,21 @@ ghost use Rattle.book_memory.specs.Meter.{lent};
 ghost use Rattle.lister.specs.Input.{ListedInput};
 
 use crate::piece::Ended;
-use crate::turn::list_piece;
+use crate::turn::{Turn, list_piece};
 use book::Book;
 use lister_page::BYTES;
-use rules::answer::Answer;
 use std::io::Read;
 
-// Reads until the buffer is full, the input ends or a read fails; how many bytes it put in front.
+// Reads until the buffer is full, the input ends or a read fails; how many bytes it put in front. Not by `read_exact`, which does not tell how many those are.
 fn read_full(input: &mut impl Read, buffer: &mut [u8]) -> usize
     ensures { result ≤ length buffer.new }
 {
     let mut done = 0;
     while done < buffer.len() {
-        let n = input.read(&mut buffer[done..]).unwrap_or(0);
-        if n == 0 {
-            break;
+        match input.read(&mut buffer[done..]) {
+            Ok(0) | Err(_) => break,
+            Ok(n) => done += n,
         }
-        done += n;
     }
     done
 }
@@ -46,20 +44,19 @@ pub fn list_input(
     ensures { ListedInput (lent meter.old revisions.old) buffer.new rows.old rows.new result }
 {
     let mut e = Ended {
-        answer: Answer::Taken,
+        answer: Ok(()),
         offset: 0,
         book: Book::empty(),
     };
-    let mut kept: usize = 0;
+    let mut kept = 0;
     loop {
         let have = fill(input, buffer, kept);
-        let t = list_piece(e, have, buffer, meter, revisions, rows);
-        let piece = t.piece;
-        if !piece.going {
-            return t.rows;
+        match list_piece(e, have, buffer, meter, revisions, rows) {
+            Turn::Next(piece) => {
+                e = piece.ended;
+                kept = piece.kept;
+            }
+            Turn::Listed(n) => return n,
         }
-        kept = piece.kept;
-        let ended = piece.ended;
-        e = ended;
     }
 }

@@ -1,11 +1,12 @@
 // One piece of a file: the bytes in hand are entered up to a command that they cut off, whose bytes are kept for the next piece.
-ghost use Rattle.std.specs.Prelude.{◌≡◌, true, ◌+◌, ◌-◌, ◌^◌, ◌≤◌, ◌<◌, length, take, drop};
+ghost use Rattle.std.specs.Prelude.{◌≡◌, true, ◌&&◌, ◌+◌, ◌^◌, ◌≤◌, ◌<◌, eqb, length};
 ghost use Rattle.book_memory.specs.Meter.{lent};
 ghost use Rattle.book.specs.Sound.{sound};
 ghost use Rattle.demands.specs.Pieces.{unfinished as unfinished_of};
 ghost use Rattle.lister.specs.Input.{EntersPiece};
 
 use book::Book;
+use commands::refusal::Refusal;
 use file_load::file::load;
 use rules::answer::Answer;
 
@@ -17,26 +18,11 @@ pub struct Ended {
     pub book: Book,
 }
 
-// How entering stands after a piece, how many bytes are kept in front of the buffer, and whether there is another piece to read.
+// How entering stands after a piece, and how many bytes are kept in front of the buffer.
 #[derive(Clone, Copy)]
 pub struct Piece {
     pub ended: Ended,
     pub kept: usize,
-    pub going: bool,
-}
-
-// Moves the bytes from `from` to `to` - 1 to the front, and tells how many they are.
-fn keep(buffer: &mut [u8], from: usize, to: usize) -> usize
-    requires { (from ≤ to) × (to ≤ length buffer.old) }
-    ensures { (take result buffer.new ≡ drop from (take to buffer.old)) × (result ≡ to - from) }
-{
-    let n = to - from;
-    let mut i = 0;
-    while i < n {
-        buffer[i] = buffer[from + i];
-        i += 1;
-    }
-    n
 }
 
 // Whether more bytes can change how a piece ended: it ended behind a command or inside one.
@@ -44,13 +30,21 @@ fn unfinished(answer: Answer) -> bool
     ensures { result ≡ unfinished_of answer }
 {
     match answer {
-        Answer::Taken => true,
-        Answer::Refused(n) => n == 2,
+        Ok(()) => true,
+        Err(refusal) => refusal == Refusal::CutOff,
     }
 }
 
-// Enters the first `have` bytes of the buffer, where entering stood so before them. There is another piece to read where it can change how
-// this one ended and these bytes fill the buffer: a read that comes short is the last.
+// Whether there is another piece to read after the first `have` bytes of a buffer: where more bytes can change how they ended, and they fill the buffer. A
+// read that comes short is the last.
+pub fn goes_on(answer: Answer, have: usize, buffer: &[u8]) -> bool
+    ensures { result ≡ (unfinished_of answer && eqb have (length buffer.now)) }
+{
+    unfinished(answer) & (have == buffer.len())
+}
+
+// Enters the first `have` bytes of the buffer, where entering stood so before them. Buffer and lent memory are parameters and no struct of arrays, so that the
+// promise holds for every size.
 pub fn enter_piece(
     e: Ended,
     have: usize,
@@ -62,18 +56,13 @@ pub fn enter_piece(
     ensures { EntersPiece e (lent meter.old revisions.old) buffer.old have result
         (lent meter.new revisions.new) buffer.new }
 {
-    let start = e.offset;
-    let book = e.book;
-    let l = load(book, &buffer[..have], meter, revisions);
-    let at = l.at;
-    let answer = l.answer;
-    let after = l.book;
-    let going = unfinished(answer) & (have == buffer.len());
-    let kept = keep(buffer, at, have);
+    let l = load(e.book, &buffer[..have], meter, revisions);
+    buffer.copy_within(l.at..have, 0);
     let ended = Ended {
-        answer,
-        offset: start + at,
-        book: after,
+        answer: l.answer,
+        offset: e.offset + l.at,
+        book: l.book,
     };
-    Piece { ended, kept, going }
+    let kept = have - l.at;
+    Piece { ended, kept }
 }

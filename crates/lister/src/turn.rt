@@ -2,18 +2,17 @@
 ghost use Rattle.std.specs.Prelude.{◌≡◌, true, ◌+◌, ◌^◌, ◌≤◌, ◌<◌, length};
 ghost use Rattle.book_memory.specs.Meter.{lent};
 ghost use Rattle.book.specs.Sound.{sound};
-ghost use Rattle.energy.specs.Lists.{Laid};
-ghost use Rattle.lister.specs.Input.{EntersPiece, rows_after};
+ghost use Rattle.lister.specs.Input.{ListsPiece};
 
 use crate::output::put_answer;
-use crate::piece::{Ended, Piece, enter_piece};
+use crate::piece::{Ended, Piece, enter_piece, goes_on};
 use lister_page::BYTES;
 
-// The piece as it was entered, and how many bytes of rows were put: none before the last piece.
+// The piece as it was entered where another is to be read, and after the last one how many bytes of rows were put.
 #[derive(Clone, Copy)]
-pub struct Turn {
-    pub piece: Piece,
-    pub rows: usize,
+pub enum Turn {
+    Next(Piece),
+    Listed(usize),
 }
 
 // Enters the bytes in hand and, where no more are to be read, puts the rows of what all bytes came to.
@@ -26,15 +25,13 @@ pub fn list_piece(
     rows: &mut [u8; BYTES],
 ) -> Turn
     requires { (sound e.book ≡ true) × (have ≤ length buffer.old) × (e.offset + have < 2 ^ 64) }
-    ensures enters_piece { EntersPiece e (lent meter.old revisions.old) buffer.old have result.piece
-        (lent meter.new revisions.new) buffer.new }
-    ensures laid { Laid (rows_after result.piece (lent meter.new revisions.new)) rows.old 0 rows.new result.rows }
+    ensures { ListsPiece e (lent meter.old revisions.old) buffer.old have
+        (lent meter.new revisions.new) buffer.new rows.old rows.new result }
 {
     let piece = enter_piece(e, have, buffer, meter, revisions);
-    if piece.going {
-        return Turn { piece, rows: 0 };
-    }
     let ended = piece.ended;
-    let n = put_answer(ended, meter, revisions, rows);
-    Turn { piece, rows: n }
+    if goes_on(ended.answer, have, buffer) {
+        return Turn::Next(piece);
+    }
+    Turn::Listed(put_answer(ended, meter, revisions, rows))
 }

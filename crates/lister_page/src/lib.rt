@@ -1,71 +1,47 @@
 // A whole answer as bytes in one buffer, row after row: a listing, or the row of a refusal.
 #![tactic(auto)]
 
-ghost use Rattle.std.specs.Prelude.{◌≡◌, ◌+◌, ◌*◌, ◌≤◌, min, length, take};
-ghost use Rattle.energy.specs.Lists.{Laid, concat_map};
-ghost use Rattle.lister_rows.specs.Row.{Counted};
-ghost use Rattle.lister_rows.specs.Rows.{line_row, listing, refusal_row, window_rows};
+ghost use Rattle.std.specs.Prelude.{◌≡◌, ℕ, ◌+◌, ◌*◌, ◌≤◌, List, length, take};
+ghost use Rattle.energy.specs.Lists.{Laid};
+ghost use Rattle.lister_page.specs.Page.{rows_of};
+ghost use Rattle.lister_rows.specs.Rows.{listing, refusal_row};
 
 use lister_rows::row::Row;
 use lister_rows::rows::{line_row, refusal_row, totals_row, window_row};
-use rules::statement::{Available, LISTED_MOST, Line, Statement};
+use rules::statement::{LISTED_MOST, Line, Statement};
 
 // 719 L rows, 128 A rows and the T row, each of at most 128 bytes.
 pub const BYTES: usize = 108544;
 
-// A count, held to what there is.
-fn at_most(n: usize, most: usize) -> usize
-    ensures { result ≡ min n most }
+// A row where there is room for any; the position after it.
+fn put_row(row: Row, out: &mut [u8], at: usize) -> usize
+    requires { at + 128 ≤ length out.old }
+    ensures laid { Laid row out.old at out.new result }
+    ensures near { result ≤ at + 128 }
 {
-    if n < most { n } else { most }
+    let bytes = row.bytes();
+    let end = at + bytes.len();
+    out[at..end].copy_from_slice(bytes);
+    end
 }
 
-// A row where there is room for it; the position after it.
-fn put_row(r: Row, out: &mut [u8], at: usize) -> usize
-    requires { Counted r × (at + r.len ≤ length out.old) }
-    ensures { Laid (take r.len r.bytes) out.old at out.new result }
-{
-    let bytes = r.bytes;
-    let len = r.len;
-    let mut i = 0;
-    while i < len {
-        out[at + i] = bytes[i];
-        i += 1;
-    }
-    at + len
-}
-
-// The L rows of the first n lines.
-fn put_lines(lines: [Line; LISTED_MOST], n: usize, out: &mut [u8], at: usize) -> usize
-    requires { (n ≤ 719) × (at + 128 * n ≤ length out.old) }
-    ensures { Laid (concat_map line_row (take n lines)) out.old at out.new result × (result ≤ at + 128 * n) }
+// The rows of things, which are numbered from 1.
+fn put_rows<T: Copy, F: Fn(u32, T) -> Row>(things: &[T], row: F, out: &mut [u8], at: usize) -> usize
+    requires few { length things.now ≤ 719 }
+    requires room { at + 128 * length things.now ≤ length out.old }
+    requires callable { F.IsAlwaysCallable row }
+    ensures laid { (f : ℕ → T → List ℕ) → ((n : ℕ) (x : T) (r : List ℕ) → F.post row n x r → r ≡ f n x)
+        → Laid (rows_of f 1 things.now) out.old at out.new result }
+    ensures near { result ≤ at + 128 * length things.now }
 {
     let mut place = at;
-    let mut i = 0;
-    while i < n {
-        let l = lines[i];
-        place = put_row(line_row(l), out, place);
-        i += 1;
+    for (i, x) in things.iter().enumerate() {
+        place = put_row(row(i as u32 + 1, *x), out, place);
     }
     place
 }
 
-// The A rows of the first n windows.
-fn put_windows(windows: [Available; 128], n: usize, out: &mut [u8], at: usize) -> usize
-    requires { (n ≤ 128) × (at + 128 * n ≤ length out.old) }
-    ensures { Laid (window_rows 1 (take n windows)) out.old at out.new result × (result ≤ at + 128 * n) }
-{
-    let mut place = at;
-    let mut i = 0;
-    while i < n {
-        let a = windows[i];
-        place = put_row(window_row((i + 1) as u32, a), out, place);
-        i += 1;
-    }
-    place
-}
-
-// The listing of a statement with its lines, where so many windows were entered; its length.
+// The listing of a statement with its lines, where so many windows were entered; its length. An array and a count, since for any slice there would be no room.
 pub fn put_listing(
     s: Statement,
     lines: [Line; LISTED_MOST],
@@ -74,9 +50,10 @@ pub fn put_listing(
 ) -> usize
     ensures { Laid (listing s (take s.lines lines) windows) out.old 0 out.new result }
 {
-    let available = s.windows;
-    let after_lines = put_lines(lines, at_most(s.lines, LISTED_MOST), out, 0);
-    let after_windows = put_windows(available, at_most(windows, 128), out, after_lines);
+    let lines = &lines[..s.lines.min(LISTED_MOST)];
+    let windows = &s.windows[..windows.min(128)];
+    let after_lines = put_rows(lines, |_, l| line_row(l), out, 0);
+    let after_windows = put_rows(windows, window_row, out, after_lines);
     put_row(totals_row(s), out, after_windows)
 }
 

@@ -1,20 +1,30 @@
-// A row by value: its bytes, and how many there are. Appending hands back the longer row.
-ghost use Rattle.std.specs.Prelude.{[], ◌≡◌};
-ghost use Rattle.lister_rows.specs.Row.{appended_to, put_byte, row_of};
-ghost use Rattle.lister_rows.specs.Rows.{digits, signed_digits};
+// A row by value: appending hands back the longer row.
+ghost use Rattle.std.specs.Prelude.{[], ◌∷◌, ◌≡◌, ◌≤◌, length};
+ghost use Rattle.lister_rows.specs.Row.{appended_to};
 
-use energy::magnitude::magnitude;
+use std::marker::Model;
 
-// The longest row has 112 bytes: an L row with counts of ten digits and amounts of 20 bytes. Bytes past the length are zeros.
-#[derive(Clone, Copy)]
+// The longest row has 112 bytes: an L row with counts of ten digits and amounts of 20 bytes.
+#[derive(Drop)]
 pub struct Row {
-    pub bytes: [u8; 128],
-    pub len: usize,
+    bytes: [u8; 128],
+    len: usize,
+}
+
+// In contracts a row is the bytes that count.
+impl Model for Row {
+    ghost use Rattle.std.specs.Prelude.{ℕ, ◌≤◌, List, take};
+
+    ghost Value = { List ℕ };
+
+    ghost view = { λ r. take r.len r.bytes };
+
+    ghost invariant = { λ r. r.len ≤ 128 };
 }
 
 impl Row {
     pub fn empty() -> Row
-        ensures { result ≡ row_of [] }
+        ensures { result ≡ [] }
     {
         Row {
             bytes: [0; 128],
@@ -22,37 +32,28 @@ impl Row {
         }
     }
 
-    // One byte more. A full row stays as it is, so that appending asks nothing of its caller.
-    pub fn put(mut self, b: u8) -> Row
-        ensures { result ≡ put_byte self b }
+    pub fn bytes(&self) -> &[u8]
+        ensures value { result.now ≡ self.now }
+        ensures fits { length result.now ≤ 128 }
+    {
+        &self.bytes[..self.len]
+    }
+
+    // These bytes more. What a full row has no room for is left out, so that appending asks nothing of its caller.
+    #[tactic(auto, using(crate::proofs::Appending::text_put))]
+    pub fn text(mut self, more: &[u8]) -> Row
+        ensures { result ≡ appended_to self more.now }
     {
         let at = self.len;
-        if 128 <= at {
-            return self;
-        }
-        self.bytes[at] = b;
-        self.len = at + 1;
+        let n = (128 - at).min(more.len());
+        self.bytes[at..at + n].copy_from_slice(&more[..n]);
+        self.len = at + n;
         self
     }
 
-    // The digits of a number: those before the last one, then that one.
-    pub fn number(self, n: u64) -> Row
-        ensures { result ≡ appended_to self (digits n) }
+    pub fn put(self, b: u8) -> Row
+        ensures { result ≡ appended_to self (b ∷ []) }
     {
-        if n < 10 {
-            return self.put(b'0' + n as u8);
-        }
-        self.number(n / 10).put(b'0' + (n % 10) as u8)
-    }
-
-    // A number with a sign.
-    pub fn signed(self, n: i64) -> Row
-        ensures { result ≡ appended_to self (signed_digits n) }
-    {
-        let size = magnitude(n);
-        if n < 0 {
-            return self.put(b'-').number(size);
-        }
-        self.number(size)
+        self.text(&[b])
     }
 }

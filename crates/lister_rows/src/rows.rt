@@ -1,11 +1,11 @@
 // The four kinds of row: a line, a window, the totals, a refusal.
 ghost use Rattle.std.specs.Prelude.{◌≡◌};
-ghost use Rattle.lister_rows.specs.Row.{Counted, row_of};
 ghost use Rattle.lister_rows.specs.Rows.{line_row, rate_letter, refusal_row, stage_letter, totals_row, window_row};
 
 use crate::row::Row;
 use rules::statement::{Available, Line, Rate, Stage, Statement};
 
+// `From<Stage> for u8` is not for this crate to write: neither type is its own.
 fn stage_letter(s: Stage) -> u8
     ensures { result ≡ stage_letter s }
 {
@@ -27,61 +27,55 @@ fn rate_letter(t: Rate) -> u8
 
 // The L row of a line.
 pub fn line_row(l: Line) -> Row
-    ensures value { result ≡ row_of (line_row l) }
-    ensures counted { Counted result }
+    ensures { result ≡ line_row l }
 {
-    let s = l.stage;
-    let stage = stage_letter(s);
-    let t = l.rate;
-    let rate = rate_letter(t);
+    let stage = stage_letter(l.stage);
+    let rate = rate_letter(l.rate);
     Row::empty()
         .put(b'L')
-        .count(l.instruction as u64)
-        .count(l.period as u64)
+        .number(l.instruction)
+        .number(l.period)
         .letter(stage)
         .letter(rate)
-        .amount(l.expected.0)
-        .amount(l.delivered.0)
-        .amount(l.capped.0)
-        .amount(l.pence.0)
+        .number(l.expected.0)
+        .number(l.delivered.0)
+        .number(l.capped.0)
+        .number(l.pence.0)
         .put(b'\n')
 }
 
 // The A row of window n, counted from 1.
 pub fn window_row(n: u32, a: Available) -> Row
-    ensures value { result ≡ row_of (window_row n a) }
-    ensures counted { Counted result }
+    ensures { result ≡ window_row n a }
 {
     Row::empty()
         .put(b'A')
-        .count(n as u64)
-        .count(a.periods as u64)
-        .amount(a.pence.0)
+        .number(n)
+        .number(a.periods)
+        .number(a.pence.0)
         .put(b'\n')
 }
 
 // The T row of a statement.
 pub fn totals_row(s: Statement) -> Row
-    ensures value { result ≡ row_of (totals_row s) }
-    ensures counted { Counted result }
+    ensures { result ≡ totals_row s }
 {
     Row::empty()
         .put(b'T')
-        .amount(s.capped.0)
-        .amount(s.utilisation.0)
-        .amount(s.availability.0)
-        .amount(s.total.0)
+        .number(s.capped.0)
+        .number(s.utilisation.0)
+        .number(s.availability.0)
+        .number(s.total.0)
         .put(b'\n')
 }
 
 // The R row of a refusal, with the offset of the command or, when settling, the file's length.
 pub fn refusal_row(number: u8, offset: usize) -> Row
-    ensures value { result ≡ row_of (refusal_row number offset) }
-    ensures counted { Counted result }
+    ensures { result ≡ refusal_row number offset }
 {
     Row::empty()
         .put(b'R')
-        .count(number as u64)
-        .count(offset as u64)
+        .number(number)
+        .number(offset)
         .put(b'\n')
 }

@@ -1,12 +1,12 @@
 -- No amount of a statement is below 0: a line's capped energy by its definition, its pence since rounding keeps to the side of 0, and so do sums.
-use mathlib.Core.Path.{◌≡◌, sym, subst}
+use mathlib.Core.Path.{sym, subst}
 use mathlib.Core.Logic.{⊎_elim}
 use mathlib.Core.List.Memᴰ
 use mathlib.Core.List.{Memᴰ}
 use Prim.Native.Nat.{ℕ, zero, suc, ◌-◌}
 use native.Mathlib.Nat.{mul-le-mul_left}
 use lib.Dec.{lit<}
-use lib.IntN.{ℤ, pos, ◌+ℤ◌, ◌*ℤ◌}
+use lib.IntN.{ℤ, pos}
 use lib.ListN.{length, replicate}
 use lib.Signed.{◌≤ℤ◌}
 use Rattle.energy.specs.Lists.{sum}

@@ -24,12 +24,13 @@ use Rattle.commands.specs.declared.entries.Command.{Command}
 use Rattle.commands.specs.declared.entries.Command.TheVariants.{Contract as contractᶜ, Date as dateᶜ, Window as windowᶜ, Instruction as instructionᶜ}
 use Rattle.commands.specs.declared.entries.Command.TheVariants.{Default as defaultᶜ, Reading as readingᶜ, Revision as revisionᶜ}
 use Rattle.commands.specs.declared.entries.Command.TheVariants.{Close as closeᶜ}
-use Rattle.rules.specs.declared.file.Read.{Read}
-use Rattle.rules.specs.declared.file.Read.TheVariants.{Got, End, Refused}
+use Rattle.std.specs.Prelude.{Err}
+use Rattle.rules.specs.Answer.{Read, Got, End}
 use Rattle.rules.proofs.Operands.{operands_back, length-operands, write_long}
 use Rattle.commands.proofs.Chain.{apart}
 use Rattle.commands.proofs.Input.{input_none}
 use Rattle.commands.proofs.Terms.{ranges, bounds}
+use Rattle.commands.specs.declared.refusal.Refusal.TheVariants.{CutOff}
 
 -- ---- a command from its operands
 
@@ -183,14 +184,14 @@ read_all (suc fuel) before (c ∷ cs) t h =
 -- the position after what is read, or one on
 abbrev after : ℕ → Read → ℕ
 after at (Got c next) = next
-after at (Refused n) = suc at
+after at (Err r) = suc at
 after at End = suc at
 
 forward : (s : List ℕ) (at : ℕ) → at < after at (read_at s at)
 unfolding read_at
 forward s at = go (leb (length s) at) (widths_of (get_or s at 0) table)
   where
-    some_read : (ws : List ℕ) (o : Option Command) (b : Bool) → at < after at (cond b (Refused 2) (read_as o (at + (1 + total ws))))
+    some_read : (ws : List ℕ) (o : Option Command) (b : Bool) → at < after at (cond b (Err CutOff) (read_as o (at + (1 + total ws))))
     some_read ws o true = omega arith
     some_read ws none false = omega arith
     some_read ws (some c) false = omega arith
@@ -210,7 +211,7 @@ same_fuel (suc f) (suc h) s at p q = go (read_at s at) (forward s at) (λ next a
     go : (r : Read) → at < after at r → ((next : ℕ) → length s ≤ next + f → length s ≤ next + h → commands_from f s next ≡ commands_from h s next)
         → read_on (λ next. commands_from f s next) r ≡ read_on (λ next. commands_from h s next) r
     go (Got c next) lt rec = ap (λ l. c ∷ l) (rec next (omega arith) (omega arith))
-    go (Refused n) lt rec = refl
+    go (Err r) lt rec = refl
     go End lt rec = refl
 
 -- ---- the table's bytes

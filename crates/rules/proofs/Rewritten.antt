@@ -24,7 +24,6 @@ use Rattle.rules.specs.Rewritten.{Revised, Rewritten·theorem}
 use Rattle.commands.specs.declared.contract.Contract.{Contract}
 use Rattle.commands.specs.declared.entries.Command.{Command}
 use Rattle.commands.specs.declared.entries.Command.TheVariants.{Close as closeᶜ}
-use Rattle.commands.proofs.Terms.{Terms}
 use Rattle.rules.proofs.Taken.{later-none, grown, allowed, input_clear}
 use Rattle.rules.proofs.Reached.{PartsOf, parts_of, terms_of_lem}
 use Rattle.rules.proofs.Span.{span_cells, cells_most, span_same, cells_same, own_cells}

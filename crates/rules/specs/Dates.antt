@@ -5,7 +5,7 @@ use Rattle.std.proofs.Math.Option.{Option, none, some}
 use Rattle.energy.specs.Lists.{between, sum_ℕ}
 use Rattle.calendar.specs.Calendar.{no_date, periods_on}
 use Rattle.calendar.specs.declared.Date.{Date}
-use Rattle.rules.specs.Ledger.{Ledger, ledger_of, contract_of, date_of, span_in, cells_in}
+use Rattle.rules.specs.Ledger.{ledger_of, contract_of, date_of, span_in, cells_in}
 use Rattle.rules.specs.Refusal.{refusal, taken}
 use Rattle.rules.specs.Statement.{lines, statement_of, nothing, settle_refusal}
 use Rattle.rules.specs.File.{file_of}

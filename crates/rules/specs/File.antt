@@ -17,8 +17,9 @@ use Rattle.commands.specs.declared.entries.Command.{Command}
 use Rattle.commands.specs.declared.entries.Command.TheVariants.{Contract as contractᶜ, Date as dateᶜ, Window as windowᶜ, Instruction as instructionᶜ}
 use Rattle.commands.specs.declared.entries.Command.TheVariants.{Default as defaultᶜ, Reading as readingᶜ, Revision as revisionᶜ}
 use Rattle.commands.specs.declared.entries.Command.TheVariants.{Close as closeᶜ}
-use Rattle.rules.specs.declared.file.Read.{Read}
-use Rattle.rules.specs.declared.file.Read.TheVariants.{Got, Refused, End}
+use Rattle.std.specs.Prelude.{Err}
+use Rattle.rules.specs.Answer.{Read, Got, End}
+use Rattle.commands.specs.declared.refusal.Refusal.TheVariants.{UnknownCommand, CutOff}
 
 -- a command byte and the widths of its operands
 pub record Layout : Type 0 where
@@ -139,15 +140,15 @@ command_of b v =
 
 -- a command with the position after it; 1 where there is none
 abbrev pub read_as : Option Command → ℕ → Read
-read_as none next = Refused 1
+read_as none next = Err UnknownCommand
 read_as (some c) next = Got c next
 
 -- what stands at a position before the end, by the operand widths of its command byte: 1 where it has none, 2 where bytes are missing
 abbrev pub read_body : Option (List ℕ) → List ℕ → ℕ → Read
-read_body none s at = Refused 1
+read_body none s at = Err UnknownCommand
 read_body (some ws) s at =
     let r : Layout = row (get_or s at 0) ws in
-    cond (ltb (length s - at) (whole r)) (Refused 2)
+    cond (ltb (length s - at) (whole r)) (Err CutOff)
     (read_as (command_of r.byte (operands r.widths (drop (at + 1) s))) (at + whole r))
 
 -- what a reader finds at a position: a command and the position after it, 1, 2, or the end
@@ -227,7 +228,7 @@ write_conditions unsound size room g =
 -- a command read, and those read after it; none at an end, 1 or 2
 abbrev pub read_on : (ℕ → List Command) → Read → List Command
 read_on go (Got c next) = c ∷ go next
-read_on go (Refused n) = []
+read_on go (Err r) = []
 read_on go End = []
 
 -- each read where the last one stopped, at most so many of them

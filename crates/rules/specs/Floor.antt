@@ -5,7 +5,6 @@ use mathlib.Core.List.{List, [], ◌∷◌, ◌++◌, map, Memᴰ}
 use Rattle.rules.specs.Ledger.{Ledger}
 use Rattle.rules.specs.Statement.{lines, statement_of, exact_energy, exact_amount}
 use Rattle.rules.specs.Examples.{minus, agree, guide, kind, service, reducer, flexible, instructed, readings_from, opening, ledger, two_days, example_line}
-use Rattle.commands.specs.declared.entries.Command.{Command}
 use Rattle.rules.specs.declared.statement.Stage.TheVariants.{Up, Down}
 use Rattle.rules.specs.declared.statement.Rate.TheVariants.{Utilisation, Optional}
 use Rattle.rules.specs.declared.statement.Line.{Line}

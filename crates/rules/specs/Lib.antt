@@ -1,3 +1,4 @@
+pub mod Answer
 pub mod Ledger
 pub mod Refusal
 pub mod Reached

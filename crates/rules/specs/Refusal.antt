@@ -9,8 +9,7 @@ use Rattle.rules.specs.Ledger.{Ledger, Metered, ledger_of, contract_of, is_contr
 use Rattle.commands.specs.declared.contract.Contract.{Contract}
 use Rattle.commands.specs.declared.entries.Instruction.{Instruction}
 use Rattle.commands.specs.declared.entries.Command.{Command}
-use Rattle.rules.specs.declared.answer.Answer.{Answer}
-use Rattle.rules.specs.declared.answer.Answer.TheVariants.{Taken, Refused}
+use Rattle.rules.specs.Answer.{Answer, Taken, Refused}
 
 -- ---- from the state
 

@@ -6,7 +6,7 @@ use Rattle.commands.specs.Command.{on_contract, on_metered, always}
 use Rattle.commands.specs.Input.{from_to_ℤ, input_refusal}
 use Rattle.rules.specs.File.{table, widths_of, total, command_of, read_at, operands_of, widths_for, write, commands_from, commands_in}
 use Rattle.commands.specs.declared.entries.Command.{Command}
-use Rattle.rules.specs.declared.file.Read.TheVariants.{Got}
+use Rattle.rules.specs.Answer.{Got}
 
 -- each operand fits its width
 unfoldable pub fit : List ℕ → List ℕ → Bool

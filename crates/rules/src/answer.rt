@@ -1,8 +1,5 @@
 // What a call answers.
+use commands::refusal::Refusal;
 
-// Taken, or refused under a number.
-#[derive(Clone, Copy)]
-pub enum Answer {
-    Taken,
-    Refused(u8),
-}
+// Taken, or refused.
+pub type Answer = Result<(), Refusal>;

@@ -1,10 +1,6 @@
 // What a reader finds in a unit file.
 use commands::entries::Command;
+use commands::refusal::Refusal;
 
-// At a position: a command and the position after it, a refusal (1 or 2), or the end.
-#[derive(Clone, Copy)]
-pub enum Read {
-    Got(Command, usize),
-    Refused(u8),
-    End,
-}
+// At a position: a command and the position after it, nothing at the end, or the refusal of an unknown command or of one cut off.
+pub type Read = Result<Option<(Command, usize)>, Refusal>;

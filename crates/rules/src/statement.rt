@@ -8,21 +8,21 @@ pub const LINES_MOST: usize = 1681;
 pub const LISTED_MOST: usize = 719;
 
 // The stage of an active minute: ramp up, steady, ramp down.
-#[derive(Clone, Copy)]
+#[derive(Clone, Copy, Debug, PartialEq, Eq)]
 pub enum Stage {
     Up,
     Steady,
     Down,
 }
 
-#[derive(Clone, Copy)]
+#[derive(Clone, Copy, Debug, PartialEq, Eq)]
 pub enum Rate {
     Utilisation,
     Optional,
 }
 
 // One segment of an instruction. Instructions and periods count from 1.
-#[derive(Clone, Copy)]
+#[derive(Clone, Copy, Debug, PartialEq, Eq)]
 pub struct Line {
     pub instruction: u32,
     pub period: u32,
@@ -35,14 +35,14 @@ pub struct Line {
 }
 
 // The paid periods of a window.
-#[derive(Clone, Copy)]
+#[derive(Clone, Copy, Debug, PartialEq, Eq)]
 pub struct Available {
     pub periods: u32,
     pub pence: Pence,
 }
 
 // The number of lines, the totals, and an entry for each place in the table of windows.
-#[derive(Clone, Copy)]
+#[derive(Clone, Copy, Debug, PartialEq, Eq)]
 pub struct Statement {
     pub lines: usize,
     pub capped: Kwh,

@@ -14,10 +14,10 @@ use Rattle.rules.specs.Examples.{periods, many_instructed, opening, appendix2, s
 use Rattle.rules.specs.Dates.{dated, lasting, march, october, january}
 use Rattle.commands.specs.declared.entries.Command.{Command}
 use Rattle.commands.specs.declared.entries.Command.TheVariants.{Contract as contractᶜ, Close as closeᶜ}
-use Rattle.rules.specs.declared.answer.Answer.{Answer}
-use Rattle.rules.specs.declared.answer.Answer.TheVariants.{Taken, Refused}
-use Rattle.rules.specs.declared.file.Read.{Read}
-use Rattle.rules.specs.declared.file.Read.TheVariants.{Got, End, Refused as Stopped}
+use Rattle.std.specs.Prelude.{Err}
+use Rattle.commands.specs.Refusals.{number_of}
+use Rattle.rules.specs.Answer.{Answer, Taken, Refused, Read, Got, End}
+use Rattle.commands.specs.declared.refusal.Refusal.TheVariants.{UnknownCommand, CutOff}
 
 -- ---- what is asked, and the answer
 
@@ -542,7 +542,7 @@ first_cases =
 -- 11 comes after 5 and 28 and before 12: the answer in a book that no list of commands leaves
 abbrev pub or_eleven : Answer → Answer
 or_eleven Taken = Refused 11
-or_eleven (Refused n) = Refused (cond (eqb n 28) 28 (min n 11))
+or_eleven (Err r) = Refused (cond (eqb (number_of r) 28) 28 (min (number_of r) 11))
 
 -- ---- settling
 
@@ -616,20 +616,20 @@ findings =
     ∷ sample_bytes at 64 gets End
     ∷ sample_bytes at 65 gets End
     ∷ date_bytes at 0 gets Got (dated 2024 10 1) 5
-    ∷ take 4 date_bytes at 0 gets Stopped 2
-    ∷ take 1 date_bytes at 0 gets Stopped 2
+    ∷ take 4 date_bytes at 0 gets Err CutOff
+    ∷ take 1 date_bytes at 0 gets Err CutOff
     ∷ (0x54 ∷ 0xFF ∷ 0xFF ∷ 0xFF ∷ 0xFF ∷ []) at 0 gets Got (dated 65535 255 255) 5
     ∷ [] at 0 gets End
-    ∷ take 31 sample_bytes at 0 gets Stopped 2
+    ∷ take 31 sample_bytes at 0 gets Err CutOff
     ∷ take 32 sample_bytes at 0 gets Got (agree guide) 32
     ∷ take 32 sample_bytes at 32 gets End
-    ∷ take 33 sample_bytes at 32 gets Stopped 2
-    ∷ take 37 sample_bytes at 32 gets Stopped 2
-    ∷ take 42 sample_bytes at 38 gets Stopped 2
-    ∷ take 47 sample_bytes at 43 gets Stopped 2
-    ∷ take 54 sample_bytes at 48 gets Stopped 2
-    ∷ take 62 sample_bytes at 55 gets Stopped 2
-    ∷ sample_bytes at 1 gets Stopped 1
+    ∷ take 33 sample_bytes at 32 gets Err CutOff
+    ∷ take 37 sample_bytes at 32 gets Err CutOff
+    ∷ take 42 sample_bytes at 38 gets Err CutOff
+    ∷ take 47 sample_bytes at 43 gets Err CutOff
+    ∷ take 54 sample_bytes at 48 gets Err CutOff
+    ∷ take 62 sample_bytes at 55 gets Err CutOff
+    ∷ sample_bytes at 1 gets Err UnknownCommand
     ∷ (0x4D ∷ 0xAE ∷ 0x9D ∷ 0x7F ∷ 0xFF ∷ 0xFF ∷ 0xFF ∷ []) at 0 gets Got (metered 44701 (pos 2147483647)) 7
     ∷ (0x4D ∷ 0x00 ∷ 0x00 ∷ 0x80 ∷ 0x00 ∷ 0x00 ∷ 0x00 ∷ []) at 0 gets Got (metered 0 (minus 2147483648)) 7
     ∷ (0x52 ∷ 0xAE ∷ 0x9D ∷ 0xFF ∷ 0x7F ∷ 0xFF ∷ 0xFF ∷ 0xFF ∷ []) at 0 gets Got (revised 44701 255 (pos 2147483647)) 8
@@ -639,7 +639,7 @@ findings =
 -- a reader stops with 1
 abbrev pub is_unknown : Read → Bool
 is_unknown (Got c next) = false
-is_unknown (Stopped n) = eqb n 1
+is_unknown (Err r) = eqb (number_of r) 1
 is_unknown End = false
 
 -- ---- the promise

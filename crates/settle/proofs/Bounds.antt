@@ -9,6 +9,7 @@ use Rattle.energy.specs.Energy.{cell, delivers, kwh, capped, expected_in, delive
 use Rattle.energy.specs.Number.{Within}
 use Rattle.energy.proofs.Rounding.{capped-within, payment-within}
 use Rattle.energy.proofs.Sums.{delivers-within, sum-within}
+use Rattle.commands.specs.declared.entries.Instruction.{Instruction}
 use Rattle.rules.specs.declared.statement.Line.{Line}
 use Rattle.rules.specs.declared.statement.Rate.{Rate}
 use Rattle.rules.specs.declared.statement.Rate.TheVariants.{Utilisation, Optional}
@@ -31,10 +32,10 @@ pub record Bounded (l : Line) : Type 0 where
   pub capped : Within 500000 l.capped.0
   pub pence : Within 500000000 l.pence.0
 
-pub bounded : {t : Terms} {times live : List ℕ} {meter : List ℤ} {c : Cursor} → Plan t times live meter → Ready t times live meter c
+pub bounded : {t : Terms} {calls : List Instruction} {live : List ℕ} {meter : List ℤ} {c : Cursor} → Plan t calls live meter → Ready t calls live meter c
     → Bounded (line_by t c.active live meter c.at c.minute.0 (cut_by c))
 unfolding line_by delivered_in
-bounded {t} {times} {live} {meter} {c} p r =
+bounded {t} {calls} {live} {meter} {c} p r =
     let n = next p r in
     let steady : Bool = steady_at c.active.expiry.0 c.active.cease.0 c.minute.0 in
     let E : ℤ = pos (expected_in (nat_abs t.kw.0) steady (cut_by c - c.minute.0)) in

@@ -28,9 +28,9 @@ use Rattle.settle_lines.proofs.Step.{Next, next}
 use Rattle.settle.proofs.LedgerTables.{TimesOf, TermsOf, instruction_at}
 
 -- the plan of a ledger: each of its numbers is the rules'
-pub record Tied (g : Ledger) (t : Terms) (times live : List ℕ) (meter : List ℤ) : Type 0 where
-  pub plan : Plan t times live meter
-  pub terms : TermsOf g t times
+pub record Tied (g : Ledger) (t : Terms) (calls : List Instruction) (live : List ℕ) (meter : List ℤ) : Type 0 where
+  pub plan : Plan t calls live meter
+  pub terms : TermsOf g t calls
   pub kw : t.kw ≡ (contract_of g).contracted
   pub kind : t.kind ≡ (contract_of g).kind
   pub utilisation : t.utilisation ≡ (contract_of g).utilisation
@@ -38,21 +38,21 @@ pub record Tied (g : Ledger) (t : Terms) (times live : List ℕ) (meter : List �
   pub periods : (m : ℕ) → live_at live m ≡ in_live g m
   pub reading : (m : ℕ) → m < span_in g → Within 500000 (cell meter m) → reads g m ≡ cell meter m
 
-module _ {g : Ledger} {t : Terms} {times live : List ℕ} {meter : List ℤ} {c : Cursor} (T : Tied g t times live meter)
-    (r : Ready t times live meter c) where
+module _ {g : Ledger} {t : Terms} {calls : List Instruction} {live : List ℕ} {meter : List ℤ} {c : Cursor} (T : Tied g t calls live meter)
+    (r : Ready t calls live meter c) where
   abbrev k : Contract
   k = contract_of g
 
   abbrev i : Instruction
   i = instruction_at g c.at
 
-  abbrev n : Next t times live meter c
+  abbrev n : Next t calls live meter c
   n = next T.plan r
 
-  abbrev q : Planned t times live meter c.at
+  abbrev q : Planned t calls live meter c.at
   q = T.plan.each c.at r.more
 
-  abbrev here : TimesOf g t times c.at
+  abbrev here : TimesOf g t calls c.at
   here = T.terms.each c.at r.more
 
   expiry_is : c.active.expiry.0 ≡ expiry k i
@@ -114,7 +114,7 @@ module _ {g : Ledger} {t : Terms} {times live : List ℕ} {meter : List ℤ} {c 
   unfolding base_load base_minutes active_of
   base_is =
       ap (λ (z : Active). z.base) r.active
-      ∙ sum_ext (cell meter) (reads g) (issue_of times c.at - 3) (issue_of times c.at + 1)
+      ∙ sum_ext (cell meter) (reads g) (issue_of calls c.at - 3) (issue_of calls c.at + 1)
       (λ m a b. sym (T.reading m (omega (arith, q, here.spanned)) (q.base m a b)))
       ∙ ap (λ z. sum (reads g) (between (z - 3) (z + 1))) here.issue
 

@@ -1,4 +1,4 @@
--- What it means that the terms, the table of times and the table of windows of a settlement are a ledger's: records which the laws of lines, of the
+-- What it means that the terms, the instructions and the table of windows of a settlement are a ledger's: records which the laws of lines, of the
 -- survey, of live windows and of availability share.
 use mathlib.Core.Path.{◌≡◌}
 use mathlib.Core.List.{List}
@@ -22,20 +22,20 @@ abbrev pub window_at : Ledger → ℕ → Window
 window_at g i = get_or g.windows i no_window
 
 -- the times of instruction j are the ledger's
-pub record TimesOf (g : Ledger) (t : Terms) (times : List ℕ) (j : ℕ) : Type 0 where
-  pub issue : issue_of times j ≡ (instruction_at g j).issue.0
-  pub expiry : issue_of times j + t.response.0 ≡ expiry (contract_of g) (instruction_at g j)
-  pub start : issue_of times j + t.response.0 - t.upminutes.0 ≡ ramp_start (contract_of g) (instruction_at g j)
-  pub cease : cease_of times j ≡ (instruction_at g j).cease.0
-  pub end : cease_of times j + t.downminutes.0 ≡ end_of (contract_of g) (instruction_at g j)
-  pub spanned : cease_of times j + t.downminutes.0 ≤ span_in g
+pub record TimesOf (g : Ledger) (t : Terms) (calls : List Instruction) (j : ℕ) : Type 0 where
+  pub issue : issue_of calls j ≡ (instruction_at g j).issue.0
+  pub expiry : issue_of calls j + t.response.0 ≡ expiry (contract_of g) (instruction_at g j)
+  pub start : issue_of calls j + t.response.0 - t.upminutes.0 ≡ ramp_start (contract_of g) (instruction_at g j)
+  pub cease : cease_of calls j ≡ (instruction_at g j).cease.0
+  pub end : cease_of calls j + t.downminutes.0 ≡ end_of (contract_of g) (instruction_at g j)
+  pub spanned : cease_of calls j + t.downminutes.0 ≤ span_in g
   pub timed : Timed (contract_of g) (instruction_at g j)
 
--- the terms and the table of times are the ledger's
-pub record TermsOf (g : Ledger) (t : Terms) (times : List ℕ) : Type 0 where
+-- the terms and the instructions are the ledger's
+pub record TermsOf (g : Ledger) (t : Terms) (calls : List Instruction) : Type 0 where
   pub response : t.response.0 ≡ (contract_of g).response.0
-  pub count : t.instructions ≡ length g.instructions
-  pub each : (j : ℕ) → j < t.instructions → TimesOf g t times j
+  pub count : length calls ≡ length g.instructions
+  pub each : (j : ℕ) → j < length calls → TimesOf g t calls j
 
 -- the first n windows of a table are the ledger's, each of whole periods, one after the other
 pub record WindowsOf (g : Ledger) (ws : List Window) (n : ℕ) : Type 0 where

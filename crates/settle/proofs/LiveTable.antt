@@ -8,7 +8,7 @@ use native.Mathlib.Decide.{ℕ_discrete, dec_le}
 use native.Mathlib.Nat.{le_refl}
 use native.Mathlib.Omega.{arith}
 use lib.Dec.{eqb, leb, ltb, eqb-suc-zero}
-use lib.ListN.{get_or}
+use lib.ListN.{get_or, length}
 use borrow.Author.Tests.{le-ltb, le-leb, lt-leb, leb-true}
 use Rattle.energy.specs.Lists.{any}
 use Rattle.energy.proofs.Tests.{eq-true, eq-false, on_and}
@@ -74,27 +74,27 @@ covers_is {w = w} m s =
     ap₂ ◌&&◌ (leb_same (w.start.0 / 30) (m / 30) w.start.0 m (λ d. omega arith) (λ d. omega arith))
     (leb_same (suc (m / 30)) (w.end.0 / 30) (suc m) w.end.0 (λ d. omega arith) (λ d. omega arith))
 
-module _ {g : Ledger} {t : Terms} {times : List ℕ} {recovery : ℕ} {ws : List Window} {n : ℕ}
-    (T : TermsOf g t times) (R : recovery ≡ (contract_of g).recovery.0) (W : WindowsOf g ws n) where
+module _ {g : Ledger} {t : Terms} {calls : List Instruction} {recovery : ℕ} {ws : List Window} {n : ℕ}
+    (T : TermsOf g t calls) (R : recovery ≡ (contract_of g).recovery.0) (W : WindowsOf g ws n) where
   abbrev k : Contract
   k = contract_of g
 
-  live_is : (w : Window) → is_live times t recovery w ≡ live g w
+  live_is : (w : Window) → is_live calls t recovery w ≡ live g w
   unfolding is_live live excludes
   live_is w =
       let ended : Instruction → Bool = λ i. ltb (end_of k i) w.start.0 in
       let near : Instruction → Bool = λ i. ltb w.start.0 (end_of k i + k.recovery.0 + k.response.0) in
-      let f : ℕ → Bool = excluded_to times t recovery w.start.0 in
-      let e : f t.instructions ≡ any (λ i. ended i && near i) g.instructions =
+      let f : ℕ → Bool = excluded_to calls t recovery w.start.0 in
+      let e : f (length calls) ≡ any (λ i. ended i && near i) g.instructions =
       ap f T.count ∙ any-all (λ i. ended i && near i) no_instruction g.instructions f refl
       (λ j h. ap (λ z. f j || z) (rw ((T.each j (omega (arith, T.count))).end, R, T.response) refl)) in
       rw (e, R, any_and (leb 1 k.recovery.0) ended near g.instructions) refl
 
   -- a table by the book's windows is one by the rules'
-  pub lives : {table : List ℕ} → LiveTable (is_live times t recovery) ws n table → LiveTable (live g) g.windows n table
+  pub lives : {table : List ℕ} → LiveTable (is_live calls t recovery) ws n table → LiveTable (live g) g.windows n table
   lives L = record { period = λ p. L.period p ∙ go p n (le_refl n) }
     where
-      go : (p m : ℕ) → m ≤ n → number_to (is_live times t recovery) ws m p ≡ number_to (live g) g.windows m p
+      go : (p m : ℕ) → m ≤ n → number_to (is_live calls t recovery) ws m p ≡ number_to (live g) g.windows m p
       go p zero h = refl
       go p (suc m) h = rw (W.window m h, live_is (window_at g m), go p m (omega arith)) refl
 

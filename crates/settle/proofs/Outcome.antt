@@ -1,15 +1,13 @@
 -- What a sound, closed and complete book lays out settles it: the lines' sums, the windows' entries and the statement.
 use mathlib.Core.Path.{◌≡◌, refl, sym, ◌∙◌, ap, ap₂}
 use mathlib.Core.Bool.{true}
-use mathlib.Core.List.{List, ◌++◌, map}
+use mathlib.Core.List.{List}
 use mathlib.Core.Option.{none}
-use Prim.Native.Nat.{ℕ, ◌+◌, ◌-◌, ◌≤◌}
-use native.Mathlib.Decide.{dec_lt}
+use Prim.Native.Nat.{ℕ, ◌≤◌}
 use native.Mathlib.Omega.{arith}
 use lib.Dec.{lit<}
 use lib.IntN.{ℤ, pos, nat_abs}
-use lib.ListN.{length, get_or, length-map, length-append, get_or-append, get_or-map}
-use lib.Seq.{ext_get_or, get_or-append-add}
+use lib.ListN.{length}
 use Rattle.book_memory.specs.Meter.{Memory}
 use Rattle.energy.specs.Energy.{period_parts, pence_of_parts}
 use Rattle.energy.specs.declared.units.Kwh.{Kwh}
@@ -20,22 +18,20 @@ use Rattle.rules.specs.Ledger.{Ledger}
 use Rattle.rules.specs.Segment.{live, complete, segments}
 use Rattle.rules.specs.Statement.{period_exact, period_pence, statement_of}
 use Rattle.commands.specs.declared.contract.Contract.{Contract}
-use Rattle.commands.specs.declared.entries.Instruction.{Instruction}
 use Rattle.rules.specs.declared.statement.Statement.{Statement}
 use Rattle.rules.specs.declared.statement.Line.{Line}
-use Rattle.rules.specs.declared.answer.Answer.TheVariants.{Taken}
-use Rattle.book.specs.Book.{no_instruction, ledger_in}
+use Rattle.book.specs.Book.{ledger_in}
 use Rattle.book.specs.declared.Book.{Book}
 use Rattle.settle.specs.declared.Settlement.{Settlement}
 use Rattle.settle_availability.specs.declared.paid.Entries.{Entries}
 use Rattle.settle.specs.declared.prepare.Prepared.{Prepared}
 use Rattle.settle_terms.specs.declared.Terms.{Terms}
-use Rattle.settle_terms.specs.Terms.{Timed, period_places, terms_of}
+use Rattle.settle_terms.specs.Terms.{period_places, terms_of}
 use Rattle.settle_live.specs.Live.{is_live, number_to, LiveTable}
 use Rattle.settle_availability.specs.Paid.{counted_to, penalty_by, entries_by, each_by, availability_by}
-use Rattle.settle_lines.specs.Cursor.{cursor_at, stepped_line, stored}
+use Rattle.settle_lines.specs.Cursor.{cursor_at, stored}
 use Rattle.settle.specs.Settle.{Settled, settle_book}
-use Rattle.settle.specs.Prepared.{unsummed, summed, times_of, live_of, without_sums, prepared_by, prepared_of, LaidOut, last_cursor, settled_with, Prepares}
+use Rattle.settle.specs.Prepared.{unsummed, summed, calls_of, live_of, without_sums, prepared_by, prepared_of, LaidOut, last_cursor, prepared_line, settled_with, Prepares}
 use Rattle.settle.proofs.CursorLine.{Tied}
 use Rattle.settle.proofs.Sequence.{ready_at, sum_fits, capped_at, pence_at, stored_lines}
 use Rattle.settle.proofs.Availability.{penalty_is, entries_are, pence_is}
@@ -43,14 +39,15 @@ use Rattle.settle.proofs.BookPlan.{Grounds, contract_is, windows, priced, tied}
 use Rattle.settle_lines.proofs.First.{first_are}
 use Rattle.rules.proofs.LineBound.{lines-segments}
 use Rattle.settle.proofs.Refusal.{refusal_for}
+use Rattle.rules.specs.Answer.{Taken}
 
 -- the pence of a paid period are not below 0
 each_is : (n : ℕ) → pos (nat_abs (pence_of_parts n)) ≡ pence_of_parts n
 each_is n = let e = half_up n 200000 (lit< tt) in ap (λ z. pos (nat_abs z)) (sym e) ∙ e
 
 -- the availability, and with it the statement without the lines' sums
-module _ {b : Book} {times : List ℕ} {readings : Memory} (G : Grounds b times readings) {live : List ℕ} (size : length live ≡ period_places)
-    (L : LiveTable (is_live times (terms_of b.contract b.ninstructions) b.contract.recovery.0) b.windows b.nwindows live) where
+module _ {b : Book} {readings : Memory} (G : Grounds b readings) {live : List ℕ} (size : length live ≡ period_places)
+    (L : LiveTable (is_live (calls_of b) (terms_of b.contract) b.contract.recovery.0) b.windows b.nwindows live) where
   abbrev k : Contract
   k = b.contract
 
@@ -72,27 +69,9 @@ module _ {b : Book} {times : List ℕ} {readings : Memory} (G : Grounds b times 
       let a : ◌≡◌ {A = Pence} entries.pence (statement_of g).availability = ap (λ z. record { 0 = z }) (pence_is (priced G size L) _ pence_each) in
       cc (e, lines-segments g, a, entries_are (priced G size L) _ pence_each)
 
--- the table of times as a list: the instructions' issues, and then their ceases
-times_are : (is : List Instruction) (times : List ℕ) → length is ≡ 64 → Timed is 64 times → times ≡ times_of is
-times_are is times size T =
-    let issues : List ℕ = map (λ (i : Instruction). i.issue.0) is in
-    let ceases : List ℕ = map (λ (i : Instruction). i.cease.0) is in
-    let l : length issues ≡ 64 = length-map is (λ (i : Instruction). i.issue.0) ∙ size in
-    ext_get_or 0 times (issues ++ ceases) (T.size ∙ simp (length-append, length-map) (omega (arith, size)))
-    (λ i h. elim (dec_lt i 64) [
-      | yes x ↦
-          T.issue i x ∙ sym (get_or-append issues ceases 0 i (omega arith) ∙ get_or-map (λ (i : Instruction). i.issue.0) is i no_instruction)
-      | no x ↦
-          let e : i ≡ 64 + (i - 64) = omega (arith, x) in
-          let q : i ≡ length issues + (i - 64) = omega (arith, x) in
-          ap (λ z. get_or times z 0) e ∙ T.cease (i - 64) (omega (arith, x, T.size))
-          ∙ sym (ap (λ z. get_or (issues ++ ceases) z 0) q ∙ get_or-append-add issues ceases (i - 64) 0
-          ∙ get_or-map (λ (i : Instruction). i.cease.0) is (i - 64) no_instruction)
-    ])
-
 -- what a sound, closed and complete book lays out settles it
-module _ {b : Book} {times : List ℕ} {readings : Memory} (G : Grounds b times readings) {room n : ℕ} {p : Prepared}
-    (O : LaidOut b (terms_of b.contract b.ninstructions) times n p)
+module _ {b : Book} {readings : Memory} (G : Grounds b readings) {room n : ℕ} {p : Prepared}
+    (O : LaidOut b (terms_of b.contract) n p)
     (done : complete (ledger_in b readings) ≡ true) (N : n ≡ length (segments (ledger_in b readings))) (open' : refusal_for b readings room ≡ none)
     (few : n ≤ room) where
   abbrev meter : List ℤ
@@ -102,22 +81,22 @@ module _ {b : Book} {times : List ℕ} {readings : Memory} (G : Grounds b times 
   ledger = ledger_in b readings
 
   abbrev t : Terms
-  t = terms_of b.contract b.ninstructions
+  t = terms_of b.contract
 
-  T : Tied ledger t times p.live meter
+  T : Tied ledger t (calls_of b) p.live meter
   T = tied G O.size O.live done
 
-  last_is : last_cursor p meter ≡ cursor_at t times p.live meter (length (segments ledger))
-  last_is = rw (O.terms, O.times, O.lines, N) refl
+  last_is : last_cursor b p meter ≡ cursor_at t (calls_of b) p.live meter (length (segments ledger))
+  last_is = rw (O.terms, O.instructions, O.lines, N) refl
 
   settlement_is : p.settlement ≡ record { answer = Taken; statement = without_sums ledger }
   unfolding terms_of
   settlement_is = O.settlement ∙ ap (λ (s : Statement). record { answer = Taken; statement = s }) (unsummed_is G O.size O.live n N)
 
-  sums_settle : summed p.settlement (last_cursor p meter) ≡ record { answer = Taken; statement = statement_of ledger }
+  sums_settle : summed p.settlement (last_cursor b p meter) ≡ record { answer = Taken; statement = statement_of ledger }
   unfolding statement_of
   sums_settle =
-      let c = cursor_at t times p.live meter (length (segments ledger)) in
+      let c = cursor_at t (calls_of b) p.live meter (length (segments ledger)) in
       let x : ◌≡◌ {A = Kwh} c.capped (statement_of ledger).capped = ap (λ z. record { 0 = z }) (capped_at T) in
       let y : ◌≡◌ {A = Pence} c.pence (statement_of ledger).utilisation = ap (λ z. record { 0 = z }) (pence_at T) in
       rw (settlement_is, last_is) (cc (x, y))
@@ -125,11 +104,10 @@ module _ {b : Book} {times : List ℕ} {readings : Memory} (G : Grounds b times 
   prepared_is : p ≡ prepared_by none b ledger
   prepared_is =
       let count : p.lines ≡ length (segments ledger) = O.lines ∙ N in
-      let table : p.times ≡ times_of b.instructions = O.times ∙ times_are b.instructions times G.shape.instructions G.timed in
       let periods : p.live ≡ live_of ledger =
       first_are (number_to (live ledger) ledger.windows (length ledger.windows)) 0 p.live period_places O.size
       (λ q h. (priced G O.size O.live).numbers.period q ∙ ap (λ m. number_to (live ledger) ledger.windows m q) (windows G).count) in
-      λ i. record { settlement = settlement_is i; lines = count i; terms = O.terms i; times = table i; live = periods i }
+      λ i. record { settlement = settlement_is i; lines = count i; terms = O.terms i; instructions = O.instructions i; live = periods i }
 
   pub prepares : Prepares b readings room p
   unfolding settle_book settled_with prepared_of
@@ -137,23 +115,24 @@ module _ {b : Book} {times : List ℕ} {readings : Memory} (G : Grounds b times 
       record {
         is = prepared_is ∙ ap (λ z. prepared_by z b ledger) (sym open');
         size = O.size;
-        plan = rw (O.terms, O.times) T.plan;
+        called = omega (arith, O.instructions, G.sound.counts.1, G.shape.instructions);
+        plan = rw (O.terms, O.instructions) T.plan;
         few = rw O.lines few;
         count = ap (λ (s : Settlement). s.statement.lines) O.settlement ∙ sym O.lines;
-        ready = λ k h. rw (O.terms, O.times) (ready_at T k (omega (arith, O.lines, N)));
+        ready = λ k h. rw (O.terms, O.instructions) (ready_at T k (omega (arith, O.lines, N)));
         sums = (rw last_is (sum_fits T (length (segments ledger)) (omega arith)), O.small);
         settles = λ memory l.
             rw (l, open')
             (ap₂ (λ (s : Settlement) (m : List Line). record { settlement = s; memory = m }) sums_settle
-            (rw (O.terms, O.times, O.lines, N) (stored_lines T memory (omega (arith, N)))));
+            (rw (O.terms, O.instructions, O.lines, N) (stored_lines T memory (omega (arith, N)))));
       }
 
 -- what `settle` promises, from what is prepared
 module _ (b : Book) (readings : Memory) (memory : List Line) (p : Prepared) (P : Prepares b readings (length memory) p) where
-  pub settled_answer : summed p.settlement (last_cursor p readings.cells) ≡ (settle_book b readings memory).settlement
+  pub settled_answer : summed p.settlement (last_cursor b p readings.cells) ≡ (settle_book b readings memory).settlement
   unfolding settled_with
   settled_answer = ap (λ (s : Settled). s.settlement) (P.settles memory refl)
 
-  pub settled_memory : stored (stepped_line p.terms p.times p.live readings.cells) p.lines memory ≡ (settle_book b readings memory).memory
+  pub settled_memory : stored (prepared_line b p readings.cells) p.lines memory ≡ (settle_book b readings memory).memory
   unfolding settled_with
   settled_memory = ap (λ (s : Settled). s.memory) (P.settles memory refl)

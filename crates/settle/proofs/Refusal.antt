@@ -13,7 +13,6 @@ use Rattle.rules.specs.Ledger.{Ledger, cells_in}
 use Rattle.commands.specs.Input.{first_met}
 use Rattle.rules.specs.Segment.{complete, segments}
 use Rattle.rules.specs.Statement.{settle_conditions, settle_refusal}
-use Rattle.rules.specs.declared.answer.Answer.TheVariants.{Refused}
 use Rattle.book.specs.Book.{book_cells, ledger_in}
 use Rattle.book.specs.Sound.{sound}
 use Rattle.book.specs.declared.Book.{Book}
@@ -23,6 +22,7 @@ use Rattle.settle_terms.specs.Terms.{period_places}
 use Rattle.settle.specs.Settle.{no_statement, settle_book}
 use Rattle.settle.specs.Prepared.{summed, refusal_of, prepared_by, prepared_of, last_cursor, settled_with, Prepares}
 use Rattle.book.proofs.Month.{cells_sound}
+use Rattle.rules.specs.Answer.{Refused}
 
 -- ---- the refusals in their order
 module _ (b : Book) (meter : Memory) (room : ℕ) where
@@ -68,11 +68,12 @@ module _ (b : Book) (meter : Memory) (room : ℕ) where
 pub refused : {b : Book} {meter : Memory} {room n : ℕ} → refusal_for b meter room ≡ some n → Prepares b meter room (refusal_of n)
 unfolding refusal_of settle_book settled_with prepared_of enter_of
 refused {b} {meter} {room} {n} e =
-    let c : last_cursor (refusal_of n) meter.cells ≡ start_of = rw (le-ltb 0 0 (omega arith)) refl in
+    let c : last_cursor b (refusal_of n) meter.cells ≡ start_of = rw (le-ltb 0 0 (omega arith)) refl in
     record {
       is = ap (λ z. prepared_by z b (ledger_in b meter)) (sym e);
       size = length-replicate {A = ℕ} period_places 0;
-      plan = omega (arith, length-replicate {A = ℕ} 128 0, length-replicate {A = ℕ} period_places 0);
+      called = omega arith;
+      plan = omega (arith, length-replicate {A = ℕ} period_places 0);
       few = omega arith;
       count = refl;
       ready = λ k h. absurd (omega arith);

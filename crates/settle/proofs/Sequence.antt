@@ -44,7 +44,7 @@ pick : (P : Cursor → Type 0) (b : Bool) {x y : Cursor} → (b ≡ true → P x
 pick P true f g = f refl
 pick P false f g = g refl
 
-module _ {g : Ledger} {t : Terms} {times live : List ℕ} {meter : List ℤ} (T : Tied g t times live meter) where
+module _ {g : Ledger} {t : Terms} {calls : List Instruction} {live : List ℕ} {meter : List ℤ} (T : Tied g t calls live meter) where
   abbrev k : Contract
   k = contract_of g
 
@@ -54,7 +54,7 @@ module _ {g : Ledger} {t : Terms} {times live : List ℕ} {meter : List ℤ} (T 
 
   -- a segment is next, and these are left
   record Open (c : Cursor) (ss : List Segment) : Type 0 where
-    ready : Ready t times live meter c
+    ready : Ready t calls live meter c
     fuel : ℕ
     enough : end_of k (instruction_at g c.at) ≤ c.minute.0 + fuel
     rest : ss ≡ cuts_from k (c.at + 1) (instruction_at g c.at) fuel c.minute.0 ++ after c.at
@@ -64,13 +64,13 @@ module _ {g : Ledger} {t : Terms} {times live : List ℕ} {meter : List ℤ} (T 
   Here c ss = Open c ss ⊎ ((ss ≡ []) × Within 100000000000000 c.pence.0)
 
   enter_here : (c : Cursor) → Within (500000 * c.minute.0) c.capped.0 → Within (500000000 * c.minute.0) c.pence.0 → c.minute.0 ≤ 30 * period_places
-      → (c.at < t.instructions → c.minute.0 ≤ issue_of times c.at)
-      → Here (enter_of t times live meter c) (segments_from k (suc c.at) (drop c.at g.instructions))
+      → (c.at < length calls → c.minute.0 ≤ issue_of calls c.at)
+      → Here (enter_of t calls live meter c) (segments_from k (suc c.at) (drop c.at g.instructions))
   unfolding enter_of segments_from active_of
   enter_here c u v m o =
-      pick (λ z. Here z (segments_from k (suc c.at) (drop c.at g.instructions))) (ltb c.at t.instructions)
+      pick (λ z. Here z (segments_from k (suc c.at) (drop c.at g.instructions))) (ltb c.at (length calls))
       (λ e.
-      let h : c.at < t.instructions = ltb-true c.at t.instructions e in
+      let h : c.at < length calls = ltb-true c.at (length calls) e in
       let p = T.plan in let q = p.each c.at h in let s = T.terms.each c.at h in let w = o h in
       let i : Instruction = instruction_at g c.at in
       let l : c.at < length g.instructions = omega (arith, T.terms.count) in
@@ -82,38 +82,38 @@ module _ {g : Ledger} {t : Terms} {times live : List ℕ} {meter : List ℤ} (T 
         rest = rw (drop-cons g.instructions c.at no_instruction l, add-one c.at, s.start, segments_cuts k (suc c.at) i s.timed) refl;
       }))
       (λ e.
-      let h : length g.instructions ≤ c.at = omega (arith, ltb-false c.at t.instructions e, T.terms.count) in
+      let h : length g.instructions ≤ c.at = omega (arith, ltb-false c.at (length calls) e, T.terms.count) in
       inr (rw (drop_of_length-le g.instructions h) refl, omega arith))
 
-  entered_sums : (c : Cursor) → ((enter_of t times live meter c).capped.0 ≡ c.capped.0) × ((enter_of t times live meter c).pence.0 ≡ c.pence.0)
+  entered_sums : (c : Cursor) → ((enter_of t calls live meter c).capped.0 ≡ c.capped.0) × ((enter_of t calls live meter c).pence.0 ≡ c.pence.0)
   unfolding enter_of
   entered_sums c =
-      pick (λ z. (z.capped.0 ≡ c.capped.0) × (z.pence.0 ≡ c.pence.0)) (ltb c.at t.instructions) (λ e. (refl, refl)) (λ e. (refl, refl))
+      pick (λ z. (z.capped.0 ≡ c.capped.0) × (z.pence.0 ≡ c.pence.0)) (ltb c.at (length calls)) (λ e. (refl, refl)) (λ e. (refl, refl))
 
   -- one step
   record Step (c : Cursor) (ss : List Segment) : Type 0 where
     rest : List Segment
     cons : ss ≡ segment_at k (c.at + 1) (instruction_at g c.at) c.minute.0 ∷ rest
-    line : (step_of t times live meter c).line ≡ line_of g (segment_at k (c.at + 1) (instruction_at g c.at) c.minute.0)
-    here : Here (step_of t times live meter c).next rest
-    capped : (step_of t times live meter c).next.capped.0 ≡ c.capped.0 +ℤ (step_of t times live meter c).line.capped.0
-    pence : (step_of t times live meter c).next.pence.0 ≡ c.pence.0 +ℤ (step_of t times live meter c).line.pence.0
+    line : (step_of t calls live meter c).line ≡ line_of g (segment_at k (c.at + 1) (instruction_at g c.at) c.minute.0)
+    here : Here (step_of t calls live meter c).next rest
+    capped : (step_of t calls live meter c).next.capped.0 ≡ c.capped.0 +ℤ (step_of t calls live meter c).line.capped.0
+    pence : (step_of t calls live meter c).next.pence.0 ≡ c.pence.0 +ℤ (step_of t calls live meter c).line.pence.0
 
-  module _ {c : Cursor} (r : Ready t times live meter c) where
+  module _ {c : Cursor} (r : Ready t calls live meter c) where
     abbrev i : Instruction
     i = instruction_at g c.at
 
     abbrev l : Line
     l = line_by t c.active live meter c.at c.minute.0 (cut_by c)
 
-    abbrev n : Next t times live meter c
+    abbrev n : Next t calls live meter c
     n = next T.plan r
 
     end : c.active.end.0 ≡ end_of k i
     end = end_is T r
 
     going : (u : ℕ) → end_of k i ≤ c.minute.0 + suc u
-        → Here (step_of t times live meter c).next (cuts_from k (c.at + 1) i u (cut k i c.minute.0) ++ after c.at)
+        → Here (step_of t calls live meter c).next (cuts_from k (c.at + 1) i u (cut k i c.minute.0) ++ after c.at)
     unfolding step_of
     going u e =
         let b = bounded T.plan r in
@@ -136,8 +136,8 @@ module _ {g : Ledger} {t : Terms} {times live : List ℕ} {meter : List ℤ} (T 
         (enter_here (moved c (c.at + 1) (cut_by c) l) x y (omega (arith, n.inside, (T.plan.each c.at r.more).periods, T.plan.fits))
         (λ z. omega (arith, T.plan.order c.at z, n.inside))))
 
-    sums : ((step_of t times live meter c).next.capped.0 ≡ c.capped.0 +ℤ l.capped.0)
-        × ((step_of t times live meter c).next.pence.0 ≡ c.pence.0 +ℤ l.pence.0)
+    sums : ((step_of t calls live meter c).next.capped.0 ≡ c.capped.0 +ℤ l.capped.0)
+        × ((step_of t calls live meter c).next.pence.0 ≡ c.pence.0 +ℤ l.pence.0)
     unfolding step_of
     sums =
         pick (λ z. (z.capped.0 ≡ c.capped.0 +ℤ l.capped.0) × (z.pence.0 ≡ c.pence.0 +ℤ l.pence.0)) (ltb (cut_by c) c.active.end.0)
@@ -165,10 +165,10 @@ module _ {g : Ledger} {t : Terms} {times live : List ℕ} {meter : List ℤ} (T 
   nowhere = record { number = 0; instruction = no_instruction; head = 0; minutes = [] }
 
   abbrev cur : ℕ → Cursor
-  cur = cursor_at t times live meter
+  cur = cursor_at t calls live meter
 
   abbrev stepped : ℕ → Line
-  stepped = stepped_line t times live meter
+  stepped = stepped_line t calls live meter
 
   open_at : (n : ℕ) → n < length ss → Here (cur n) (drop n ss) → Open (cur n) (drop n ss)
   open_at n h (inl o) = o
@@ -188,7 +188,7 @@ module _ {g : Ledger} {t : Terms} {times live : List ℕ} {meter : List ℤ} (T 
   step_at_lem : (n : ℕ) → n < length ss → Step (cur n) (drop n ss)
   step_at_lem n h = step_from n h (here_at n (omega arith))
 
-  pub ready_at : (n : ℕ) → n < length ss → Ready t times live meter (cur n)
+  pub ready_at : (n : ℕ) → n < length ss → Ready t calls live meter (cur n)
   ready_at n h = (open_at n h (here_at n (omega arith))).ready
 
   -- the sum of the lines fits

@@ -22,10 +22,10 @@ use Rattle.settle_survey.specs.Survey.{Surveyable, has, survey_of, survey_to}
 use Rattle.rules.proofs.Folds.{concat_map_snoc}
 use Rattle.settle.proofs.LedgerTables.{TermsOf, instruction_at}
 
--- the table of instructions is a ledger's, and so are the cells
-pub record Surveyed (g : Ledger) (t : Terms) (times : List ℕ) (meter : List ℤ) : Type 0 where
-  pub laid : Surveyable t times meter
-  pub terms : TermsOf g t times
+-- the instructions are a ledger's, and so are the cells
+pub record Surveyed (g : Ledger) (t : Terms) (calls : List Instruction) (meter : List ℤ) : Type 0 where
+  pub laid : Surveyable t calls meter
+  pub terms : TermsOf g t calls
   pub reading : (m : ℕ) → m < span_in g → is_some (g.reading m) ≡ has meter m
 
 from_snoc : (k : Contract) (n : ℕ) (xs : List Instruction) (x : Instruction) → length (segments_from k n (xs ++ (x ∷ [])))
@@ -38,7 +38,7 @@ from_snoc k n (y ∷ xs) x =
     let e : n + suc (length xs) ≡ suc n + length xs = omega arith in
     simp length-append (omega (arith, from_snoc k (suc n) xs x, ap (λ z. length (segments_of k z x)) e))
 
-module _ {g : Ledger} {t : Terms} {times : List ℕ} {meter : List ℤ} (S : Surveyed g t times meter) where
+module _ {g : Ledger} {t : Terms} {calls : List Instruction} {meter : List ℤ} (S : Surveyed g t calls meter) where
   abbrev k : Contract
   k = contract_of g
 
@@ -51,11 +51,11 @@ module _ {g : Ledger} {t : Terms} {times : List ℕ} {meter : List ℤ} (S : Sur
   abbrev needs : Instruction → List ℕ
   needs i = base_minutes i ++ active k i
 
-  taken : (n : ℕ) → n < t.instructions → take (suc n) is ≡ take n is ++ (instruction_at g n ∷ [])
+  taken : (n : ℕ) → n < length calls → take (suc n) is ≡ take n is ++ (instruction_at g n ∷ [])
   taken n h = take-suc is n no_instruction (omega (arith, S.terms.count))
 
-  one_complete : (n : ℕ) → n < t.instructions → (all (has meter) (between (issue_of times n - 3) (issue_of times n + 1)) && all (has meter)
-      (between (issue_of times n + t.response.0 - t.upminutes.0) (cease_of times n + t.downminutes.0))) ≡ all some? (needs (instruction_at g n))
+  one_complete : (n : ℕ) → n < length calls → (all (has meter) (between (issue_of calls n - 3) (issue_of calls n + 1)) && all (has meter)
+      (between (issue_of calls n + t.response.0 - t.upminutes.0) (cease_of calls n + t.downminutes.0))) ≡ all some? (needs (instruction_at g n))
   unfolding base_minutes active
   one_complete n h =
       let q = S.laid.each n h in let s = S.terms.each n h in
@@ -65,7 +65,7 @@ module _ {g : Ledger} {t : Terms} {times : List ℕ} {meter : List ℤ} (S : Sur
       (known _ _ (omega (arith, s)) ∙ ap₂ (λ a b. all some? (between a b)) s.start s.end)
       ∙ sym (all_append some? (base_minutes (instruction_at g n)) (active k (instruction_at g n)))
 
-  complete_to : (n : ℕ) → n ≤ t.instructions → (survey_to t times meter n).complete ≡ all some? (concat_map needs (take n is))
+  complete_to : (n : ℕ) → n ≤ length calls → (survey_to t calls meter n).complete ≡ all some? (concat_map needs (take n is))
   unfolding survey_of concat_map all
   complete_to zero h = refl
   complete_to (suc n) h =
@@ -73,7 +73,7 @@ module _ {g : Ledger} {t : Terms} {times : List ℕ} {meter : List ℤ} (S : Sur
       ∙ sym (rw (taken n h, concat_map_snoc needs (take n is) (instruction_at g n))
       (all_append some? (concat_map needs (take n is)) (needs (instruction_at g n))))
 
-  count_to : (n : ℕ) → n ≤ t.instructions → (survey_to t times meter n).count ≡ length (segments_from k 1 (take n is))
+  count_to : (n : ℕ) → n ≤ length calls → (survey_to t calls meter n).count ≡ length (segments_from k 1 (take n is))
   unfolding survey_of segments_from
   count_to zero h = refl
   count_to (suc n) h =
@@ -82,13 +82,13 @@ module _ {g : Ledger} {t : Terms} {times : List ℕ} {meter : List ℤ} (S : Sur
       let one = count-segments k (1 + length (take n is)) i s.timed (omega (arith, S.laid, q, s)) in
       rw (count_to n (omega arith), s.start, s.end, s.expiry, s.cease, taken n h) (sym (from_snoc k 1 (take n is) i ∙ rw one refl))
 
-  all-taken : take t.instructions is ≡ is
+  all-taken : take (length calls) is ≡ is
   all-taken = rw S.terms.count (take-length is)
 
-  pub survey_complete : (survey_to t times meter t.instructions).complete ≡ complete g
+  pub survey_complete : (survey_to t calls meter (length calls)).complete ≡ complete g
   unfolding complete needed
-  survey_complete = complete_to t.instructions (le_refl t.instructions) ∙ ap (λ l. all some? (concat_map needs l)) all-taken
+  survey_complete = complete_to (length calls) (le_refl (length calls)) ∙ ap (λ l. all some? (concat_map needs l)) all-taken
 
-  pub survey_count : (survey_to t times meter t.instructions).count ≡ length (segments g)
+  pub survey_count : (survey_to t calls meter (length calls)).count ≡ length (segments g)
   unfolding segments
-  survey_count = count_to t.instructions (le_refl t.instructions) ∙ ap (λ l. length (segments_from k 1 l)) all-taken
+  survey_count = count_to (length calls) (le_refl (length calls)) ∙ ap (λ l. length (segments_from k 1 l)) all-taken

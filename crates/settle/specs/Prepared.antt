@@ -1,6 +1,6 @@
 -- Inner, and proved equal to the rules: what settling has before the first record is written: the answer without the lines' sums, the number of
 -- lines, and the tables that the lines are calculated from. A refusal has no line and no instruction.
-use Rattle.std.specs.Prelude.{◌≡◌, not, List, ◌++◌, map, ℕ, ◌≤◌, ◌<◌, ℤ, pos, nat_abs, ◌+ℤ◌, length, replicate}
+use Rattle.std.specs.Prelude.{◌≡◌, not, List, map, ℕ, ◌≤◌, ◌<◌, ℤ, pos, nat_abs, ◌+ℤ◌, length, take, replicate}
 use Rattle.std.proofs.Math.Option.{Option, none, some}
 use Rattle.book_memory.specs.Meter.{Memory, lent, room_in}
 use Rattle.energy.specs.Number.{Within}
@@ -9,7 +9,6 @@ use Rattle.commands.specs.declared.entries.Instruction.{Instruction}
 use Rattle.rules.specs.Ledger.{Ledger}
 use Rattle.rules.specs.Segment.{live, segments}
 use Rattle.rules.specs.Statement.{lines, settle_refusal, statement_of}
-use Rattle.rules.specs.declared.answer.Answer.TheVariants.{Taken, Refused}
 use Rattle.rules.specs.declared.statement.Line.{Line}
 use Rattle.rules.specs.declared.statement.Statement.{Statement}
 use Rattle.book.specs.Book.{book_cells, ledger_in}
@@ -25,6 +24,7 @@ use Rattle.settle_live.specs.Live.{is_live, number_to, LiveTable}
 use Rattle.settle_availability.specs.Paid.{availability_by}
 use Rattle.settle.specs.Settle.{Settled, no_statement, settle_book}
 use Rattle.settle_terms.specs.Terms.{no_terms, period_places, terms_of}
+use Rattle.rules.specs.Answer.{Taken, Refused}
 
 -- a statement of n lines with the windows' entries, without the lines' sums
 abbrev pub unsummed : ℕ → Entries → Statement
@@ -54,22 +54,18 @@ summed s c =
           };
     }
 
--- a refusal under a number: no line, no instruction, and tables of zeros
+-- a refusal under a number: no line, no instruction, and a table of zeros
 unfoldable pub refusal_of : ℕ → Prepared
 refusal_of n =
     record {
       settlement = record { answer = Refused n; statement = no_statement };
       lines = 0;
       terms = no_terms;
-      times = replicate 128 0;
+      instructions = 0;
       live = replicate period_places 0;
     }
 
 -- ---- what is prepared, over the rules
-
--- the times of instructions: their issues, and after them their ceases
-abbrev pub times_of : List Instruction → List ℕ
-times_of is = map (λ (i : Instruction). i.issue.0) is ++ map (λ (i : Instruction). i.cease.0) is
 
 -- the table of live periods: at each place, which is a period from 0, the number of the live window that has it, from 1, and 0 for none
 abbrev pub live_of : Ledger → List ℕ
@@ -94,8 +90,8 @@ prepared_by none b g =
     record {
       settlement = record { answer = Taken; statement = without_sums g };
       lines = length (segments g);
-      terms = terms_of b.contract b.ninstructions;
-      times = times_of b.instructions;
+      terms = terms_of b.contract;
+      instructions = b.ninstructions;
       live = live_of g;
     }
 
@@ -106,13 +102,17 @@ prepared_of b readings room =
 
 -- ---- how it is come by
 
+-- a book's instructions
+abbrev pub calls_of : Book → List Instruction
+calls_of b = take b.ninstructions b.instructions
+
 -- what a book with terms t and n lines lays out: the table of live periods, and by it the windows' entries
-pub record LaidOut (b : Book) (t : Terms) (table : List ℕ) (n : ℕ) (p : Prepared) : Type 0 where
+pub record LaidOut (b : Book) (t : Terms) (n : ℕ) (p : Prepared) : Type 0 where
   pub lines : p.lines ≡ n
   pub terms : p.terms ≡ t
-  pub times : p.times ≡ table
+  pub instructions : p.instructions ≡ b.ninstructions
   pub size : length p.live ≡ period_places
-  pub live : LiveTable (is_live table t b.contract.recovery.0) b.windows b.nwindows p.live
+  pub live : LiveTable (is_live (calls_of b) t b.contract.recovery.0) b.windows b.nwindows p.live
   pub settlement :
       p.settlement
       ≡ record {
@@ -123,28 +123,41 @@ pub record LaidOut (b : Book) (t : Terms) (table : List ℕ) (n : ℕ) (p : Prep
       }
   pub small : Within 100000000000000 p.settlement.statement.availability.0
 
+-- the instructions that a book's lines are of
+abbrev pub calls_in : Book → Prepared → List Instruction
+calls_in b p = take p.instructions b.instructions
+
+-- the cursor before line n, from 0
+abbrev pub prepared_cursor : Book → Prepared → List ℤ → ℕ → Cursor
+prepared_cursor b p meter n = cursor_at p.terms (calls_in b p) p.live meter n
+
 -- the cursor after all lines
-abbrev pub last_cursor : Prepared → List ℤ → Cursor
-last_cursor p meter = cursor_at p.terms p.times p.live meter p.lines
+abbrev pub last_cursor : Book → Prepared → List ℤ → Cursor
+last_cursor b p meter = prepared_cursor b p meter p.lines
+
+-- line n, from 0
+abbrev pub prepared_line : Book → Prepared → List ℤ → ℕ → Line
+prepared_line b p meter n = stepped_line p.terms (calls_in b p) p.live meter n
 
 -- settling by what is prepared: the lines that the cursor steps through, and their sums
-unfoldable pub settled_with : Prepared → List ℤ → List Line → Settled
-settled_with p meter memory =
+unfoldable pub settled_with : Book → Prepared → List ℤ → List Line → Settled
+settled_with b p meter memory =
     record {
-      settlement = summed p.settlement (last_cursor p meter);
-      memory = stored (stepped_line p.terms p.times p.live meter) p.lines memory;
+      settlement = summed p.settlement (last_cursor b p meter);
+      memory = stored (prepared_line b p meter) p.lines memory;
     }
 
 -- what is prepared for a book, its readings and so much room: which it is, and that it settles the book
 pub record Prepares (b : Book) (readings : Memory) (room : ℕ) (p : Prepared) : Type 0 where
   pub is : p ≡ prepared_of b readings room
   pub size : length p.live ≡ period_places
-  pub plan : Plan p.terms p.times p.live readings.cells
+  pub called : p.instructions ≤ length b.instructions
+  pub plan : Plan p.terms (calls_in b p) p.live readings.cells
   pub few : p.lines ≤ room
   pub count : p.settlement.statement.lines ≡ p.lines
-  pub ready : (k : ℕ) → k < p.lines → Ready p.terms p.times p.live readings.cells (cursor_at p.terms p.times p.live readings.cells k)
-  pub sums : Within 100000000000000 (last_cursor p readings.cells).pence.0 × Within 100000000000000 p.settlement.statement.availability.0
-  pub settles : (memory : List Line) → length memory ≡ room → settled_with p readings.cells memory ≡ settle_book b readings memory
+  pub ready : (k : ℕ) → k < p.lines → Ready p.terms (calls_in b p) p.live readings.cells (prepared_cursor b p readings.cells k)
+  pub sums : Within 100000000000000 (last_cursor b p readings.cells).pence.0 × Within 100000000000000 p.settlement.statement.availability.0
+  pub settles : (memory : List Line) → length memory ≡ room → settled_with b p readings.cells memory ≡ settle_book b readings memory
 
 -- the same of the cells alone, with any revisions for which lent memory has the room that 15 asks
 abbrev pub PreparesWith : Book → List ℤ → ℕ → Prepared → Type 0

@@ -48,29 +48,33 @@ abbrev pub counted_to : List ℕ → List Default → ℕ → ℕ → Bool
 counted_to live ds zero i = false
 counted_to live ds (suc n) i = counted_to live ds n i || counts_in live (get_or ds n no_default) i
 
--- a default's window is in its table, and the places that it reaches are in a table of size places
+-- a default's window is among the windows, and the places that it reaches are in a table of size places
 pub record Placed (live : List ℕ) (ws : List Window) (size : ℕ) (d : Default) : Type 0 where
   pub inside : d.minute.0 / 30 < length live
-  pub number : window_number_of live d ≤ 128
+  pub number : window_number_of live d ≤ length ws
   pub order : 0 < window_number_of live d → reach_from (window_of live ws d) d ≤ reach_to (window_of live ws d) d
   pub room : 0 < window_number_of live d → reach_to (window_of live ws d) d ≤ size
 
+-- a place of a table is marked
+abbrev pub marked : List Bool → ℕ → Bool
+marked xs p = get_or xs p false
+
+-- nothing is marked
+pub record NoneMarked (xs : List Bool) : Type 0 where
+  pub none : (p : ℕ) → marked xs p ≡ false
+
 -- the tables of reached periods and of counted windows once default d has marked them
-pub record DefaultMarked (live : List ℕ) (ws : List Window) (d : Default) (reached reached' counted counted' : List ℕ) : Type 0 where
+pub record DefaultMarked (live : List ℕ) (ws : List Window) (d : Default) (reached reached' counted counted' : List Bool) : Type 0 where
   pub same : (length reached' ≡ length reached) × (length counted' ≡ length counted)
-  pub period : (p : ℕ) → get_or reached' p 0 ≡ cond (reaches_place live ws d p) 1 (get_or reached p 0)
-  pub window : (i : ℕ) → get_or counted' i 0 ≡ cond (counts_in live d i) 1 (get_or counted i 0)
+  pub period : (p : ℕ) → marked reached' p ≡ (marked reached p || reaches_place live ws d p)
+  pub window : (i : ℕ) → marked counted' i ≡ (marked counted i || counts_in live d i)
 
 -- the tables once the first n defaults have
-pub record DefaultsMarked (live : List ℕ) (ws : List Window) (ds : List Default) (n : ℕ) (reached counted : List ℕ) : Type 0 where
-  pub period : (p : ℕ) → get_or reached p 0 ≡ cond (reached_to live ws ds n p) 1 0
-  pub window : (i : ℕ) → get_or counted i 0 ≡ cond (counted_to live ds n i) 1 0
+pub record DefaultsMarked (live : List ℕ) (ws : List Window) (ds : List Default) (n : ℕ) (reached counted : List Bool) : Type 0 where
+  pub period : (p : ℕ) → marked reached p ≡ reached_to live ws ds n p
+  pub window : (i : ℕ) → marked counted i ≡ counted_to live ds n i
 
 -- ---- P, and the entries
-
--- a place of a table is marked
-abbrev pub marked : List ℕ → ℕ → Bool
-marked xs p = eqb (get_or xs p 0) 1
 
 -- P, from whether window i is counted, of n windows
 abbrev pub penalty_by : (ℕ → Bool) → ℕ → ℕ

@@ -1,58 +1,41 @@
 // Paid periods, P, and the entries of the windows. Each default is gone through once, whatever the number of windows and periods.
-ghost use Rattle.std.specs.Prelude.{◌≡◌, cond, ℕ, ◌≤◌, ◌<◌, nat_abs, length, get_or};
+ghost use Rattle.std.specs.Prelude.{◌≡◌, cond, not, ℕ, ◌≤◌, ◌<◌, min, nat_abs, length, get_or, count_by};
 ghost use Rattle.commands.specs.Input.{from_to};
 ghost use Rattle.energy.specs.Number.{Upto, Within};
 ghost use Rattle.rules.specs.Ledger.{no_default};
-ghost use Rattle.settle_live.specs.Live.{Unmarked};
 ghost use Rattle.settle_terms.specs.Terms.{most_periods, period_places};
-ghost use Rattle.settle_availability.specs.Paid.{DefaultMarked, Placed, Spans, DefaultsMarked, availability_by, entries_by};
-ghost use Rattle.settle_availability.specs.Paid.{entry_of, marked, paid_in, penalty_by, reach_from, reach_to};
+ghost use Rattle.settle_availability.specs.Paid.{DefaultMarked, DefaultsMarked, NoneMarked, Placed, Spans, availability_by, entries_by};
+ghost use Rattle.settle_availability.specs.Paid.{entry_of, marked, reach_from, reach_to};
 
 use commands::contract::Contract;
 use commands::entries::{Default, Window};
 use energy::money::period_pence;
 use energy::units::{Kw, Pence};
 use rules::statement::Available;
-use settle_live::table::{mark, number_at};
+use settle_live::table::number_at;
 use settle_terms::minutes::{PLACES, place_of};
+use std::ops::Range;
 
 // The entries of the windows, and their pence.
-#[derive(Clone, Copy)]
+#[derive(Clone, Copy, Debug, PartialEq, Eq)]
 pub struct Entries {
     pub windows: [Available; 128],
     pub pence: Pence,
 }
 
-// The first place that a default in window w reaches: its window's with reach 2, else its own period's.
-fn reach_from(w: Window, d: Default) -> usize
-    ensures { result ≡ reach_from w d }
+// The places that a default in window w reaches: with reach 1 its own period's, with 2 the window's, with 3 those from its own period on. One of no
+// known reach reaches none.
+fn reach_of(w: Window, d: Default) -> Range<usize>
+    ensures { (result.start ≡ reach_from w d) × (result.end ≡ reach_to w d) }
 {
-    let start = w.start;
-    let minute = d.minute;
-    let first = place_of(start);
-    let own = place_of(minute);
-    let reach = d.reach;
-    match reach {
-        Contract::REACH_PERIOD => own,
-        Contract::REACH_WINDOW => first,
-        Contract::REACH_WINDOW_END => own,
-        0 | 4..=255 => own,
-    }
-}
-
-// The place after the last one that it reaches. One of no known reach reaches nothing.
-fn reach_to(w: Window, d: Default) -> usize
-    ensures { result ≡ reach_to w d }
-{
-    let end = w.end;
-    let minute = d.minute;
-    let last = place_of(end);
-    let own = place_of(minute);
-    let reach = d.reach;
-    match reach {
-        Contract::REACH_PERIOD => own + 1,
-        Contract::REACH_WINDOW | Contract::REACH_WINDOW_END => last,
-        0 | 4..=255 => own,
+    let first = place_of(w.start);
+    let last = place_of(w.end);
+    let own = place_of(d.minute);
+    match d.reach {
+        Contract::REACH_PERIOD => own..own + 1,
+        Contract::REACH_WINDOW => first..last,
+        Contract::REACH_WINDOW_END => own..last,
+        0 | 4..=255 => own..own,
     }
 }
 
@@ -70,104 +53,75 @@ fn counts_for_p(kind: u8) -> bool
 
 // Marks the places that a default reaches, and its window where it counts for P. One in no live window marks nothing.
 fn mark_default(
-    reached: &mut [u8],
-    counted: &mut [u8],
+    reached: &mut [bool],
+    counted: &mut [bool],
     live: &[u8],
-    windows: [Window; 128],
+    windows: &[Window],
     d: Default,
 )
-    requires { Placed live.now windows (length reached.old) d × (128 ≤ length counted.old) }
-    ensures { DefaultMarked live.now windows d reached.old reached.new counted.old counted.new }
+    requires { Placed live.now windows.now (length reached.old) d × (length windows.now ≤ length counted.old) }
+    ensures { DefaultMarked live.now windows.now d reached.old reached.new counted.old counted.new }
 {
-    let minute = d.minute;
-    let number = number_at(live, place_of(minute));
+    let number = number_at(live, place_of(d.minute));
     if number == 0 {
         return;
     }
-    let w = windows[number - 1];
-    let from = reach_from(w, d);
-    let to = reach_to(w, d);
-    mark(reached, from, to, 1);
-    let counts = counts_for_p(d.kind);
-    if counts {
-        counted[number - 1] = 1;
-        return;
+    let reach = reach_of(windows[number - 1], d);
+    reached[reach].fill(true);
+    if counts_for_p(d.kind) {
+        counted[number - 1] = true;
     }
 }
 
-// The same for the first n defaults.
+// The same for all defaults.
 fn mark_defaults(
-    reached: &mut [u8],
-    counted: &mut [u8],
+    reached: &mut [bool],
+    counted: &mut [bool],
     live: &[u8],
-    windows: [Window; 128],
-    defaults: [Default; 128],
-    n: usize,
+    windows: &[Window],
+    defaults: &[Default],
 )
-    requires { ((j : ℕ) → j < n → Placed live.now windows (length reached.old) (get_or defaults j no_default))
-        × (n ≤ 128)
-        × (128 ≤ length counted.old)
-        × Unmarked reached.old
-        × Unmarked counted.old }
-    ensures { DefaultsMarked live.now windows defaults n reached.new counted.new
+    requires { ((j : ℕ) → j < length defaults.now → Placed live.now windows.now (length reached.old) (get_or defaults.now j no_default))
+        × (length windows.now ≤ length counted.old)
+        × NoneMarked reached.old
+        × NoneMarked counted.old }
+    ensures { DefaultsMarked live.now windows.now defaults.now (length defaults.now) reached.new counted.new
         × (length reached.new ≡ length reached.old)
         × (length counted.new ≡ length counted.old) }
 {
-    let mut i = 0;
-    while i < n {
-        let d = defaults[i];
-        mark_default(reached, counted, live, windows, d);
-        i += 1;
+    for d in defaults {
+        mark_default(reached, counted, live, windows, *d);
     }
 }
 
-// P: the counted windows among the first n, at most 30.
-fn penalty(counted: &[u8], n: usize) -> u32
-    requires { (n ≤ 128) × (128 ≤ length counted.now) }
-    ensures { (result ≡ penalty_by (marked counted.now) n) × (result ≤ 30) }
+// P: the counted windows, at most 30.
+fn penalty(counted: &[bool]) -> u32
+    ensures { (result ≡ min 30 (count_by (λ c. c) counted.now)) × (result ≤ 30) }
 {
-    let mut count: u32 = 0;
-    let mut i = 0;
-    while i < n {
-        if counted[i] == 1 {
-            count += 1;
-        }
-        i += 1;
-    }
-    if count < Contract::P_MOST {
-        return count;
-    }
-    Contract::P_MOST
+    let count = counted.iter().filter(|c| **c).count();
+    count.min(Contract::P_MOST as usize) as u32
 }
 
-// The places from `from` to `to` - 1 that are not reached.
-fn unreached(reached: &[u8], from: usize, to: usize) -> u32
-    requires { (from ≤ to) × (to ≤ most_periods) × (to ≤ length reached.now) }
-    ensures { (result ≡ paid_in (marked reached.now) from to) × (result ≤ most_periods) }
+// The places that are not reached.
+fn unreached(reached: &[bool]) -> u32
+    requires { length reached.now ≤ most_periods }
+    ensures { result ≡ count_by not reached.now }
 {
-    let mut count: u32 = 0;
-    let mut p = from;
-    while p < to {
-        if reached[p] != 1 {
-            count += 1;
-        }
-        p += 1;
-    }
-    count
+    reached.iter().filter(|r| !**r).count() as u32
 }
 
-// The paid periods of a window at these places: none unless it is live, and all of them where there are no defaults.
-fn paid_periods(reached: &[u8], defaults: usize, from: usize, to: usize, shown: bool) -> u32
-    requires { (from ≤ to) × (to ≤ most_periods) × (to ≤ length reached.now) × (defaults ≡ 0 → Unmarked reached.now) }
-    ensures { (result ≡ cond shown (paid_in (marked reached.now) from to) 0) × (result ≤ most_periods) }
+// The paid periods of a window, from what is reached of its places: none unless it is live, and all of them where there are no defaults.
+fn paid_periods(reached: &[bool], defaults: usize, shown: bool) -> u32
+    requires { (length reached.now ≤ most_periods) × (defaults ≡ 0 → NoneMarked reached.now) }
+    ensures { (result ≡ cond shown (count_by not reached.now) 0) × (result ≤ most_periods) }
 {
     if !shown {
         return 0;
     }
     if defaults == 0 {
-        return (to - from) as u32;
+        return reached.len() as u32;
     }
-    unreached(reached, from, to)
+    unreached(reached)
 }
 
 // The entry of so many paid periods.
@@ -176,27 +130,24 @@ fn entry_of(periods: u32, each: Pence) -> Available
     ensures { result ≡ entry_of periods (nat_abs each.0) }
 {
     let pence = each.times(periods);
-    Available {
-        periods: periods,
-        pence: pence,
-    }
+    Available { periods, pence }
 }
 
-// The entries of the first n windows, and the pence of all their periods.
+// The entries of the windows, and the pence of all their periods.
 fn entries_of(
-    reached: &[u8],
+    reached: &[bool],
     live: &[u8],
     defaults: usize,
-    windows: [Window; 128],
-    n: usize,
+    windows: &[Window],
     each: Pence,
 ) -> Entries
-    requires { Spans windows n
+    requires { Spans windows.now (length windows.now)
         × (length reached.now ≡ period_places)
         × (length live.now ≡ period_places)
-        × (defaults ≡ 0 → Unmarked reached.now)
+        × (defaults ≡ 0 → NoneMarked reached.now)
         × Upto 250000000 each.0 }
-    ensures { (result ≡ entries_by live.now (marked reached.now) (nat_abs each.0) windows n) × Within 100000000000000 result.pence.0 }
+    ensures { (result ≡ entries_by live.now (marked reached.now) (nat_abs each.0) windows.now (length windows.now))
+        × Within 100000000000000 result.pence.0 }
 {
     let none = Available {
         periods: 0,
@@ -204,48 +155,40 @@ fn entries_of(
     };
     let mut entries = [none; 128];
     let mut total: u32 = 0;
-    let mut i = 0;
-    while i < n {
-        let w = windows[i];
-        let start = w.start;
-        let end = w.end;
-        let from = place_of(start);
-        let to = place_of(end);
+    for (i, w) in windows.iter().enumerate() {
+        let from = place_of(w.start);
+        let to = place_of(w.end);
         let shown = number_at(live, from) == i + 1;
-        let k = paid_periods(reached, defaults, from, to, shown);
-        let a = entry_of(k, each);
-        entries[i] = a;
-        total = total + k;
-        i += 1;
+        let k = paid_periods(&reached[from..to], defaults, shown);
+        entries[i] = entry_of(k, each);
+        total += k;
     }
     let pence = each.times(total);
     Entries {
         windows: entries,
-        pence: pence,
+        pence,
     }
 }
 
-// The availability of the first n windows with d defaults.
+// The availability of the windows with these defaults.
 pub fn availability(
     live: &[u8],
-    windows: [Window; 128],
-    n: usize,
-    defaults: [Default; 128],
-    d: usize,
+    windows: &[Window],
+    defaults: &[Default],
     kw: Kw,
     rate: u32,
 ) -> Entries
-    requires spans { Spans windows n
+    requires spans { Spans windows.now (length windows.now)
         × (length live.now ≡ period_places)
-        × ((j : ℕ) → j < d → Placed live.now windows period_places (get_or defaults j no_default))
-        × (d ≤ 128) }
+        × ((j : ℕ) → j < length defaults.now → Placed live.now windows.now period_places (get_or defaults.now j no_default)) }
     requires upto { Upto 500000 kw.0 × (rate ≤ 1000000) }
-    ensures { (result ≡ availability_by live.now windows n defaults d (nat_abs kw.0) rate) × Within 100000000000000 result.pence.0 }
+    ensures { (result ≡ availability_by live.now windows.now (length windows.now) defaults.now (length defaults.now) (nat_abs kw.0) rate)
+        × Within 100000000000000 result.pence.0 }
 {
-    let mut reached = [0; PLACES];
-    let mut counted = [0; 128];
-    mark_defaults(&mut reached, &mut counted, live, windows, defaults, d);
-    let p = penalty(&counted, n);
+    let mut reached = [false; PLACES];
+    let mut counted = [false; 128];
+    mark_defaults(&mut reached, &mut counted, live, windows, defaults);
+    let p = penalty(&counted[..windows.len()]);
     let each = period_pence(kw, rate, p);
-    entries_of(&reached, live, d, windows, n, each)
+    entries_of(&reached, live, defaults.len(), windows, each)
 }

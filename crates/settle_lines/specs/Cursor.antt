@@ -3,6 +3,7 @@ use Rattle.std.specs.Prelude.{◌≡◌, Bool, true, false, cond, not, ◌&&◌,
 use Rattle.energy.specs.Energy.{cell, kwh, capped, payment, expected_in, delivered_in}
 use Rattle.energy.specs.Lists.{sum, between}
 use Rattle.energy.specs.Number.{Upto, Within}
+use Rattle.commands.specs.declared.entries.Instruction.{Instruction}
 use Rattle.rules.specs.Segment.{period_of}
 use Rattle.rules.specs.declared.statement.Line.{Line}
 use Rattle.rules.specs.declared.statement.Rate.{Rate}
@@ -21,15 +22,15 @@ abbrev pub live_at : List ℕ → ℕ → Bool
 live_at live m = not (eqb (get_or live (m / 30) 0) 0)
 
 -- instruction j: its times, its base load, and whether its expiry and its last minute before cease are in live windows
-unfoldable pub active_of : Terms → List ℕ → List ℕ → List ℤ → ℕ → Active
-active_of t times live meter j =
+unfoldable pub active_of : Terms → List Instruction → List ℕ → List ℤ → ℕ → Active
+active_of t calls live meter j =
     record {
-      expiry = record { 0 = issue_of times j + t.response.0 };
-      cease = record { 0 = cease_of times j };
-      end = record { 0 = cease_of times j + t.downminutes.0 };
-      base = sum (cell meter) (between (issue_of times j - 3) (issue_of times j + 1));
-      early = live_at live (issue_of times j + t.response.0);
-      late = live_at live (cease_of times j - 1);
+      expiry = record { 0 = issue_of calls j + t.response.0 };
+      cease = record { 0 = cease_of calls j };
+      end = record { 0 = cease_of calls j + t.downminutes.0 };
+      base = sum (cell meter) (between (issue_of calls j - 3) (issue_of calls j + 1));
+      early = live_at live (issue_of calls j + t.response.0);
+      late = live_at live (cease_of calls j - 1);
     }
 
 -- the rate of minute m of an instruction: by its own window, or by the one that pays for its ramp
@@ -70,13 +71,13 @@ either true a b = a
 either false a b = b
 
 -- the cursor at the start of its instruction, if there is one
-unfoldable pub enter_of : Terms → List ℕ → List ℕ → List ℤ → Cursor → Cursor
-enter_of t times live meter c =
-    either (ltb c.at t.instructions)
+unfoldable pub enter_of : Terms → List Instruction → List ℕ → List ℤ → Cursor → Cursor
+enter_of t calls live meter c =
+    either (ltb c.at (length calls))
     (record {
       at = c.at;
-      minute = record { 0 = (active_of t times live meter c.at).expiry.0 - t.upminutes.0 };
-      active = active_of t times live meter c.at;
+      minute = record { 0 = (active_of t calls live meter c.at).expiry.0 - t.upminutes.0 };
+      active = active_of t calls live meter c.at;
       capped = c.capped;
       pence = c.pence;
     })
@@ -98,14 +99,14 @@ abbrev pub cut_by : Cursor → ℕ
 cut_by c = cut_of c.active.expiry.0 c.active.cease.0 c.active.end.0 c.minute.0
 
 -- the line at the cursor, and the cursor after it
-unfoldable pub step_of : Terms → List ℕ → List ℕ → List ℤ → Cursor → Stepped
-step_of t times live meter c =
+unfoldable pub step_of : Terms → List Instruction → List ℕ → List ℤ → Cursor → Stepped
+step_of t calls live meter c =
     let l : Line = line_by t c.active live meter c.at c.minute.0 (cut_by c) in
     record {
       line = l;
       next =
           either (ltb (cut_by c) c.active.end.0) (moved c c.at (cut_by c) l)
-          (enter_of t times live meter (moved c (c.at + 1) (cut_by c) l));
+          (enter_of t calls live meter (moved c (c.at + 1) (cut_by c) l));
     }
 
 -- before the first instruction
@@ -128,13 +129,13 @@ start_of =
     }
 
 -- the cursor before line n, from 0
-abbrev pub cursor_at : Terms → List ℕ → List ℕ → List ℤ → ℕ → Cursor
-cursor_at t times live meter zero = enter_of t times live meter start_of
-cursor_at t times live meter (suc n) = (step_of t times live meter (cursor_at t times live meter n)).next
+abbrev pub cursor_at : Terms → List Instruction → List ℕ → List ℤ → ℕ → Cursor
+cursor_at t calls live meter zero = enter_of t calls live meter start_of
+cursor_at t calls live meter (suc n) = (step_of t calls live meter (cursor_at t calls live meter n)).next
 
 -- line n, from 0
-abbrev pub stepped_line : Terms → List ℕ → List ℕ → List ℤ → ℕ → Line
-stepped_line t times live meter n = (step_of t times live meter (cursor_at t times live meter n)).line
+abbrev pub stepped_line : Terms → List Instruction → List ℕ → List ℤ → ℕ → Line
+stepped_line t calls live meter n = (step_of t calls live meter (cursor_at t calls live meter n)).line
 
 -- the first n lines of f in the first n records, and the records after them as they were
 abbrev pub stored : (ℕ → Line) → ℕ → List Line → List Line
@@ -144,33 +145,32 @@ stored f (suc n) ys = set (stored f n ys) n (f n)
 -- ---- what the cursor takes for granted
 
 -- instruction j: in the month, in the table of live periods and in meter memory, with a reading in each needed minute
-pub record Planned (t : Terms) (times live : List ℕ) (meter : List ℤ) (j : ℕ) : Type 0 where
+pub record Planned (t : Terms) (calls : List Instruction) (live : List ℕ) (meter : List ℤ) (j : ℕ) : Type 0 where
   pub ramp : (1 ≤ t.upminutes.0) × (t.upminutes.0 ≤ t.response.0)
-  pub three : 3 ≤ issue_of times j
-  pub steady : issue_of times j + t.response.0 ≤ cease_of times j
-  pub inside : cease_of times j + t.downminutes.0 ≤ length meter
-  pub periods : cease_of times j + t.downminutes.0 < 30 * length live
-  pub base : (m : ℕ) → issue_of times j - 3 ≤ m → m < issue_of times j + 1 → Within 500000 (cell meter m)
-  pub read : (m : ℕ) → issue_of times j + t.response.0 - t.upminutes.0 ≤ m → m < cease_of times j + t.downminutes.0 → Within 500000 (cell meter m)
+  pub three : 3 ≤ issue_of calls j
+  pub steady : issue_of calls j + t.response.0 ≤ cease_of calls j
+  pub inside : cease_of calls j + t.downminutes.0 ≤ length meter
+  pub periods : cease_of calls j + t.downminutes.0 < 30 * length live
+  pub base : (m : ℕ) → issue_of calls j - 3 ≤ m → m < issue_of calls j + 1 → Within 500000 (cell meter m)
+  pub read : (m : ℕ) → issue_of calls j + t.response.0 - t.upminutes.0 ≤ m → m < cease_of calls j + t.downminutes.0 → Within 500000 (cell meter m)
 
 -- every instruction, one after the other, and the contract's figures in their ranges
-pub record Plan (t : Terms) (times live : List ℕ) (meter : List ℤ) : Type 0 where
+pub record Plan (t : Terms) (calls : List Instruction) (live : List ℕ) (meter : List ℤ) : Type 0 where
   pub kw : Upto 500000 t.kw.0
   pub utilisation : t.utilisation ≤ 1000000
   pub optional : t.optional ≤ 1000000
   pub response : t.response.0 ≤ 240
   pub down : t.downminutes.0 ≤ 240
-  pub few : t.instructions ≤ 64
-  pub table : 128 ≤ length times
+  pub few : length calls ≤ 64
   pub fits : length live ≤ period_places
-  pub each : (j : ℕ) → j < t.instructions → Planned t times live meter j
-  pub order : (j : ℕ) → j + 1 < t.instructions → cease_of times j + t.downminutes.0 ≤ issue_of times (j + 1)
+  pub each : (j : ℕ) → j < length calls → Planned t calls live meter j
+  pub order : (j : ℕ) → j + 1 < length calls → cease_of calls j + t.downminutes.0 ≤ issue_of calls (j + 1)
 
 -- a segment is at the cursor, and the sums so far are no larger than its minute lets them be
-pub record Ready (t : Terms) (times live : List ℕ) (meter : List ℤ) (c : Cursor) : Type 0 where
-  pub more : c.at < t.instructions
-  pub active : c.active ≡ active_of t times live meter c.at
-  pub begun : issue_of times c.at + t.response.0 - t.upminutes.0 ≤ c.minute.0
-  pub before : c.minute.0 < cease_of times c.at + t.downminutes.0
+pub record Ready (t : Terms) (calls : List Instruction) (live : List ℕ) (meter : List ℤ) (c : Cursor) : Type 0 where
+  pub more : c.at < length calls
+  pub active : c.active ≡ active_of t calls live meter c.at
+  pub begun : issue_of calls c.at + t.response.0 - t.upminutes.0 ≤ c.minute.0
+  pub before : c.minute.0 < cease_of calls c.at + t.downminutes.0
   pub capped : Within (500000 * c.minute.0) c.capped.0
   pub pence : Within (500000000 * c.minute.0) c.pence.0

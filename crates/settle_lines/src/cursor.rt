@@ -7,13 +7,14 @@ ghost use Rattle.settle_terms.specs.Terms.{period_places};
 ghost use Rattle.settle_lines.specs.Cursor.{Plan, Ready, active_of, cursor_at, enter_of, line_by, moved as moved_to, price_by, rate_by, step_of};
 
 use commands::contract::Contract;
+use commands::entries::Instruction;
 use energy::money::{capped_kwh, delivered_kwh, expected_kwh, payment_pence};
 use energy::quarters::{delivered, expected, total};
 use energy::units::{Kwh, Minutes, Pence};
 use rules::statement::{Line, Rate, Stage};
 use settle_terms::Terms;
 use settle_terms::minutes::{cell_of, place_of};
-use settle_terms::times::{base_from, cease_at, end_of, expiry_of, issue_at, start_of};
+use settle_terms::times::base_from;
 
 // An instruction under way: its times e, cease and f, its base load as the sum of four readings, and whether a live window pays for its ramps.
 #[derive(Clone, Copy)]
@@ -43,63 +44,58 @@ pub struct Stepped {
     pub next: Cursor,
 }
 
-// The end of the stage of minute m.
-fn stage_end(a: Active, m: Minutes) -> Minutes
-    ensures { result.0 ≡ stage_end a.expiry.0 a.cease.0 a.end.0 m.0 }
-{
-    let expiry = a.expiry;
-    let cease = a.cease;
-    if m.0 < expiry.0 {
-        return expiry;
-    }
-    if m.0 < cease.0 {
-        return cease;
-    }
-    a.end
-}
-
 // The stage of minute m.
 fn stage_of(a: Active, m: Minutes) -> Stage
     ensures { result ≡ stage_at a.expiry.0 a.cease.0 m.0 }
 {
-    let expiry = a.expiry;
-    let cease = a.cease;
-    if m.0 < expiry.0 {
-        return Stage::Up;
+    if m.0 < a.expiry.0 {
+        Stage::Up
+    } else if m.0 < a.cease.0 {
+        Stage::Steady
+    } else {
+        Stage::Down
     }
-    if m.0 < cease.0 {
-        return Stage::Steady;
+}
+
+// The end of the stage of minute m. By tests of its own: over `stage_of` settling takes 5 % longer.
+fn stage_end(a: Active, m: Minutes) -> Minutes
+    ensures { result.0 ≡ stage_end a.expiry.0 a.cease.0 a.end.0 m.0 }
+{
+    if m.0 < a.expiry.0 {
+        a.expiry
+    } else if m.0 < a.cease.0 {
+        a.cease
+    } else {
+        a.end
     }
-    Stage::Down
 }
 
 // The end of the segment that begins at minute m: of its stage or of its period, whichever is first.
+#[tactic(auto, unfolding(rules::specs::Cuts::cut_of))]
 fn segment_end(a: Active, m: Minutes) -> Minutes
     requires { m.0 < 30 * period_places }
     ensures { result.0 ≡ cut_of a.expiry.0 a.cease.0 a.end.0 m.0 }
 {
-    let s = stage_end(a, m);
     let length = Contract::PERIOD.0;
     let p = length * (m.0 / length) + length;
-    if s.0 < p {
-        return s;
-    }
-    Minutes(p)
+    let s = stage_end(a, m);
+    if s.0 < p { s } else { Minutes(p) }
 }
 
 // The rate of minute m: by its own window, or by the one that pays for its ramp.
+#[tactic(auto, unfolding(crate::specs::Cursor::rate_by))]
 fn rate_of(a: Active, live: &[u8], m: Minutes) -> Rate
     requires { m.0 < 30 * length live.now }
     ensures { result ≡ rate_by a live.now m.0 }
 {
-    let place = place_of(m);
-    let here = live[place] != 0;
+    let here = live[place_of(m)] != 0;
     let before = a.early & (m.0 < a.expiry.0);
     let after = a.late & (a.cease.0 <= m.0);
-    if (here | before) | after {
-        return Rate::Utilisation;
+    if here | before | after {
+        Rate::Utilisation
+    } else {
+        Rate::Optional
     }
-    Rate::Optional
 }
 
 // A rate's pence per MWh.
@@ -131,69 +127,66 @@ fn line_of(
         × Within 500000 result.capped.0
         × Within 500000000 result.pence.0 }
 {
-    let kw = t.kw;
-    let steady = (a.expiry.0 <= from.0) & (from.0 < a.cease.0);
+    let stage = stage_of(a, from);
+    let steady = stage == Stage::Steady;
     let length = Minutes(to.0 - from.0);
-    let x = expected_kwh(expected(kw, steady, length));
+    let x = expected_kwh(expected(t.kw, steady, length));
     let d = delivered_kwh(delivered(t.kind, a.base, meter, cell_of(from), cell_of(to)));
     let capped = capped_kwh(x, d);
     let rate = rate_of(a, live, from);
-    let paid = payment_pence(capped, price_of(t, rate));
+    let pence = payment_pence(capped, price_of(t, rate));
     Line {
         instruction: (at + 1) as u32,
         period: (place_of(from) + 1) as u32,
-        stage: stage_of(a, from),
-        rate: rate,
+        stage,
+        rate,
         expected: x,
         delivered: d,
-        capped: capped,
-        pence: paid,
+        capped,
+        pence,
     }
 }
 
-// Instruction `at`, from the table of issues and ceases.
-fn active_at(t: Terms, times: &[u16], live: &[u8], meter: &[i32], at: usize) -> Active
-    requires plan { Plan t times.now live.now meter.now }
-    requires at_lt_instructions { at < t.instructions }
-    ensures { result ≡ active_of t times.now live.now meter.now at }
+// Instruction `at` under way.
+#[tactic(auto, unfolding(crate::specs::Cursor::active_of))]
+fn active_at(
+    t: Terms,
+    instructions: &[Instruction],
+    live: &[u8],
+    meter: &[i32],
+    at: usize,
+) -> Active
+    requires plan { Plan t instructions.now live.now meter.now }
+    requires at_lt_instructions { at < length instructions.now }
+    ensures { result ≡ active_of t instructions.now live.now meter.now at }
 {
-    let response = t.response;
-    let down = t.downminutes;
-    let issue = issue_at(times, at);
-    let cease = cease_at(times, at);
-    let expiry = expiry_of(issue, response);
-    let end = end_of(cease, down);
-    let base = total(meter, base_from(issue), cell_of(issue) + 1);
-    let first = place_of(expiry);
-    let early = live[first] != 0;
-    let last = place_of(Minutes(cease.0 - 1));
-    let late = live[last] != 0;
+    let x = instructions[at];
+    let expiry = t.expiry(x);
     Active {
-        expiry: expiry,
-        cease: cease,
-        end: end,
-        base: base,
-        early: early,
-        late: late,
+        expiry,
+        cease: x.cease,
+        end: t.end(x),
+        base: total(meter, base_from(x.issue), cell_of(x.issue) + 1),
+        early: live[place_of(expiry)] != 0,
+        late: live[place_of(Minutes(x.cease.0 - 1))] != 0,
     }
 }
 
 // The cursor at the start of its instruction, if there is one.
-fn enter(t: Terms, times: &[u16], live: &[u8], meter: &[i32], c: Cursor) -> Cursor
-    requires { Plan t times.now live.now meter.now }
-    ensures { result ≡ enter_of t times.now live.now meter.now c }
+#[tactic(auto, unfolding(crate::specs::Cursor::active_of, crate::specs::Cursor::enter_of))]
+fn enter(t: Terms, instructions: &[Instruction], live: &[u8], meter: &[i32], c: Cursor) -> Cursor
+    requires { Plan t instructions.now live.now meter.now }
+    ensures { result ≡ enter_of t instructions.now live.now meter.now c }
 {
-    let at = c.at;
-    if at < t.instructions {
-        let a = active_at(t, times, live, meter, at);
-        let expiry = a.expiry;
-        let up = t.upminutes;
-        let mut next = c;
-        next.minute = start_of(expiry, up);
-        next.active = a;
-        return next;
+    if c.at < instructions.len() {
+        Cursor {
+            minute: t.start(instructions[c.at]),
+            active: active_at(t, instructions, live, meter, c.at),
+            ..c
+        }
+    } else {
+        c
     }
-    c
 }
 
 // The cursor at another place, with a line's energy and money added. Energy added to money does not compile: it was tried.
@@ -202,53 +195,46 @@ fn moved(c: Cursor, at: usize, minute: Minutes, l: Line) -> Cursor
     requires within_2 { Within 500000 l.capped.0 × Within 500000000 l.pence.0 }
     ensures { result ≡ moved_to c at minute.0 l }
 {
-    let capped = c.capped;
-    let pence = c.pence;
-    let energy = l.capped;
-    let paid = l.pence;
-    let mut next = c;
-    next.at = at;
-    next.minute = minute;
-    next.capped = capped.plus(energy);
-    next.pence = pence.plus(paid);
-    next
+    Cursor {
+        at,
+        minute,
+        capped: c.capped.plus(l.capped),
+        pence: c.pence.plus(l.pence),
+        ..c
+    }
 }
 
 // The line of the segment that comes next, and the cursor after it.
+#[tactic(auto, unfolding(crate::specs::Cursor::step_of))]
 pub fn step<'b, 'c>(
     t: Terms,
-    times: &'b [u16],
+    instructions: &'b [Instruction],
     live: &'b [u8],
     meter: &'c [i32],
     c: Cursor,
 ) -> Stepped
-    requires { Plan t times.now live.now meter.now × Ready t times.now live.now meter.now c }
-    ensures { result ≡ step_of t times.now live.now meter.now c }
+    requires { Plan t instructions.now live.now meter.now × Ready t instructions.now live.now meter.now c }
+    ensures { result ≡ step_of t instructions.now live.now meter.now c }
 {
-    let a = c.active;
-    let at = c.at;
-    let from = c.minute;
-    let to = segment_end(a, from);
-    let line = line_of(t, a, live, meter, at, from, to);
-    if to.0 < a.end.0 {
-        let on = moved(c, at, to, line);
-        return Stepped {
-            line: line,
-            next: on,
-        };
-    }
-    let over = moved(c, at + 1, to, line);
-    let next = enter(t, times, live, meter, over);
-    Stepped {
-        line: line,
-        next: next,
-    }
+    let to = segment_end(c.active, c.minute);
+    let line = line_of(t, c.active, live, meter, c.at, c.minute, to);
+    let next = if to.0 < c.active.end.0 {
+        moved(c, c.at, to, line)
+    } else {
+        enter(t, instructions, live, meter, moved(c, c.at + 1, to, line))
+    };
+    Stepped { line, next }
 }
 
 // The cursor at the first segment, if there is one.
-pub fn first<'b, 'c>(t: Terms, times: &'b [u16], live: &'b [u8], meter: &'c [i32]) -> Cursor
-    requires { Plan t times.now live.now meter.now }
-    ensures { result ≡ cursor_at t times.now live.now meter.now 0 }
+pub fn first<'b, 'c>(
+    t: Terms,
+    instructions: &'b [Instruction],
+    live: &'b [u8],
+    meter: &'c [i32],
+) -> Cursor
+    requires { Plan t instructions.now live.now meter.now }
+    ensures { result ≡ cursor_at t instructions.now live.now meter.now 0 }
 {
     let none = Active {
         expiry: Minutes(0),
@@ -265,5 +251,5 @@ pub fn first<'b, 'c>(t: Terms, times: &'b [u16], live: &'b [u8], meter: &'c [i32
         capped: Kwh(0),
         pence: Pence(0),
     };
-    enter(t, times, live, meter, start)
+    enter(t, instructions, live, meter, start)
 }

@@ -2,31 +2,41 @@
 -- and 0 in none.
 use Rattle.std.specs.Prelude.{◌≡◌, Bool, false, cond, not, ◌&&◌, ◌||◌, List, ℕ, zero, suc, ◌+◌, ◌/◌, ◌≤◌, ◌<◌, eqb, leb, ltb, length, get_or}
 use Rattle.commands.specs.Input.{most_minute}
+use Rattle.commands.specs.declared.entries.Instruction.{Instruction}
 use Rattle.commands.specs.declared.entries.Window.{Window}
 use Rattle.rules.specs.Ledger.{no_window}
 use Rattle.settle_terms.specs.declared.Terms.{Terms}
 use Rattle.settle_terms.specs.Terms.{cease_of}
 
 -- every instruction ends in the month, and recovery and response are in their ranges
-pub record Cleared (times : List ℕ) (t : Terms) (recovery : ℕ) : Type 0 where
-  pub few : t.instructions ≤ 64
-  pub table : 128 ≤ length times
+pub record Cleared (calls : List Instruction) (t : Terms) (recovery : ℕ) : Type 0 where
+  pub few : length calls ≤ 64
   pub near : recovery + t.response.0 ≤ 1440
-  pub small : (j : ℕ) → j < t.instructions → cease_of times j + t.downminutes.0 ≤ most_minute
+  pub small : (j : ℕ) → j < length calls → cease_of calls j + t.downminutes.0 ≤ most_minute
 
 -- instruction j excludes a window that starts at start
-abbrev pub excludes_at : List ℕ → Terms → ℕ → ℕ → ℕ → Bool
-excludes_at times t recovery start j =
-    ltb (cease_of times j + t.downminutes.0) start && ltb start (cease_of times j + t.downminutes.0 + recovery + t.response.0)
+abbrev pub excludes_at : List Instruction → Terms → ℕ → ℕ → ℕ → Bool
+excludes_at calls t recovery start j =
+    ltb (cease_of calls j + t.downminutes.0) start && ltb start (cease_of calls j + t.downminutes.0 + recovery + t.response.0)
 
 -- one of the first n does
-abbrev pub excluded_to : List ℕ → Terms → ℕ → ℕ → ℕ → Bool
-excluded_to times t recovery start zero = false
-excluded_to times t recovery start (suc n) = excluded_to times t recovery start n || excludes_at times t recovery start n
+abbrev pub excluded_to : List Instruction → Terms → ℕ → ℕ → ℕ → Bool
+excluded_to calls t recovery start zero = false
+excluded_to calls t recovery start (suc n) = excluded_to calls t recovery start n || excludes_at calls t recovery start n
+
+-- the ends of instructions, side by side
+abbrev pub Ends : List Instruction → Terms → List ℕ → Type 0
+Ends calls t ends = (j : ℕ) → j < length calls → get_or ends j 0 ≡ cease_of calls j + t.downminutes.0
+
+-- by them one of the first n excludes a window that starts at start
+abbrev pub past_to : List ℕ → Terms → ℕ → ℕ → ℕ → Bool
+past_to ends t recovery start zero = false
+past_to ends t recovery start (suc n) =
+    past_to ends t recovery start n || (ltb (get_or ends n 0) start && ltb start (get_or ends n 0 + recovery + t.response.0))
 
 -- a window is live: accepted, and excluded by no instruction
-unfoldable pub is_live : List ℕ → Terms → ℕ → Window → Bool
-is_live times t recovery w = eqb w.verdict 0 && not (leb 1 recovery && excluded_to times t recovery w.start.0 t.instructions)
+unfoldable pub is_live : List Instruction → Terms → ℕ → Window → Bool
+is_live calls t recovery w = eqb w.verdict 0 && not (leb 1 recovery && excluded_to calls t recovery w.start.0 (length calls))
 
 -- a table with v in the places from a to b − 1
 pub record Marked (xs : List ℕ) (a b v : ℕ) (ys : List ℕ) : Type 0 where

@@ -7,11 +7,7 @@ pub fn mark(table: &mut [u8], from: usize, to: usize, value: u8)
     requires { (from ≤ to) × (to ≤ length table.old) }
     ensures { Marked table.old from to value table.new }
 {
-    let mut p = from;
-    while p < to {
-        table[p] = value;
-        p += 1;
-    }
+    table[from..to].fill(value);
 }
 
 // The number at a place.
@@ -19,5 +15,5 @@ pub fn number_at(table: &[u8], place: usize) -> usize
     requires { place < length table.now }
     ensures { result ≡ get_or table.now place 0 }
 {
-    table[place] as usize
+    usize::from(table[place])
 }

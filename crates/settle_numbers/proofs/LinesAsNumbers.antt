@@ -1,14 +1,13 @@
 -- Lines as numbers: eight stores in a row, one line more, and what is prepared for a book settles it in numbers too.
 use mathlib.Core.Path.{◌≡◌, refl, sym, ◌∙◌, ap, ap₂}
 use mathlib.Core.Bool.{not}
-use mathlib.Core.List.{List, [], ◌∷◌, ◌++◌, map}
+use mathlib.Core.List.{List, [], ◌∷◌, ◌++◌, append_assoc, map}
 use mathlib.Core.Option.{Option, none, some}
-use Prim.Native.Nat.{ℕ, ◌+◌, ◌*◌, ◌/◌, ◌≤◌}
-use native.Mathlib.Numerals.{add-one, add-two, add-three, add-four, add_five, add_six, add_seven}
+use Prim.Native.Nat.{ℕ, ◌+◌, ◌*◌, ◌/◌}
 use native.Mathlib.Omega.{arith}
-use lib.IntN.{ℤ, pos}
-use lib.ListN.{length, take, drop, set, replicate, length-append, length-drop, length-replicate}
-use lib.Seq.{sets-eq, take_at, drop_at, drop-drop}
+use lib.IntN.{ℤ}
+use lib.ListN.{length, take, drop, replicate, length-replicate}
+use lib.Seq.{take_at, drop_at, drop-drop}
 use Rattle.book_memory.specs.Meter.{Memory, room_in}
 use Rattle.energy.specs.Lists.{concat_map, run, between}
 use Rattle.rules.specs.Ledger.{Ledger}
@@ -20,24 +19,11 @@ use Rattle.book.specs.declared.Book.{Book}
 use Rattle.settle.specs.declared.Settlement.{Settlement}
 use Rattle.settle.specs.declared.prepare.Prepared.{Prepared}
 use Rattle.settle_lines.specs.declared.cursor.Cursor.{Cursor}
-use Rattle.settle_lines.specs.Cursor.{stepped_line}
 use Rattle.settle.specs.Settle.{Settled, settled_by, settle_book}
-use Rattle.settle_numbers.specs.Numbers.{stage_number, rate_number, numbers_of, SettledAsNumbers, numbered_by, number_book}
-use Rattle.settle.specs.Prepared.{summed, last_cursor, settled_with, Prepares}
+use Rattle.settle_numbers.specs.Numbers.{numbers_of, SettledAsNumbers, numbered_by, number_book}
+use Rattle.settle.specs.Prepared.{summed, last_cursor, prepared_line, settled_with, Prepares}
 use Rattle.rules.proofs.Folds.{concat_map_snoc, length-first, first-snoc}
 use Rattle.settle_lines.proofs.Step.{stored-first}
-
--- the eight stores of a line
-pub eight_stores :
-    (l : Line) (ys : List ℤ) (at : ℕ) (a b c d e f g h : ℤ) → at + 8 ≤ length ys
-    → a ≡ pos l.instruction → b ≡ pos l.period → c ≡ stage_number l.stage → d ≡ rate_number l.rate
-    → e ≡ l.expected.0 → f ≡ l.delivered.0 → g ≡ l.capped.0 → h ≡ l.pence.0
-    → set (set (set (set (set (set (set (set ys at a) (at + 1) b) (at + 2) c) (at + 3) d) (at + 4) e) (at + 5) f) (at + 6) g) (at + 7) h
-    ≡ take at ys ++ numbers_of l ++ drop (at + 8) ys
-unfolding numbers_of
-eight_stores l ys at a b c d e f g h m e₁ e₂ e₃ e₄ e₅ e₆ e₇ e₈ =
-    rw (e₁, e₂, e₃, e₄, e₅, e₆, e₇, e₈, add-one at, add-two at, add-three at, add-four at, add_five at, add_six at, add_seven at)
-    (sets-eq (numbers_of l) ys at m)
 
 long : (ls : List Line) → length (concat_map numbers_of ls) ≡ 8 * length ls
 unfolding numbers_of concat_map
@@ -55,20 +41,16 @@ module _ (f : ℕ → Line) where
   length-numbers : (n : ℕ) → length (numbers_to n) ≡ 8 * n
   length-numbers n = long (map f (between 0 n)) ∙ ap (λ m. 8 * m) (length-first f n)
 
-  -- the numbers of the lines take the place of as many
-  pub same_size : (n : ℕ) (ys zs : List ℤ) → 8 * n ≤ length ys → zs ≡ numbers_to n ++ drop (8 * n) ys → length zs ≡ length ys
-  same_size n ys zs h e = ap length e ∙ length-append (numbers_to n) (drop (8 * n) ys) ∙ omega (arith, length-numbers n, length-drop (8 * n) ys)
-
   -- the numbers of one line more
-  pub put_next : (n : ℕ) (ys zs : List ℤ) → zs ≡ numbers_to n ++ drop (8 * n) ys
-      → take (8 * n) zs ++ numbers_of (f n) ++ drop (8 * n + 8) zs ≡ numbers_to (n + 1) ++ drop (8 * (n + 1)) ys
-  put_next n ys zs e =
+  pub put_next : (n : ℕ) (ys zs row : List ℤ) → zs ≡ numbers_to n ++ drop (8 * n) ys → row ≡ numbers_of (f n)
+      → take (8 * n) zs ++ (row ++ drop 8 (drop (8 * n) zs)) ≡ numbers_to (n + 1) ++ drop (8 * (n + 1)) ys
+  put_next n ys zs row e er =
       let front : take (8 * n) zs ≡ numbers_to n = ap (take (8 * n)) e ∙ take_at (numbers_to n) (drop (8 * n) ys) (8 * n) (length-numbers n) in
       let past : drop (8 * n) zs ≡ drop (8 * n) ys = ap (drop (8 * n)) e ∙ drop_at (numbers_to n) (drop (8 * n) ys) (8 * n) (length-numbers n) in
       let eight : 8 * n + 8 ≡ 8 * (n + 1) = omega arith in
-      let after : drop (8 * n + 8) zs ≡ drop (8 * (n + 1)) ys =
-      sym (drop-drop 8 (8 * n) zs) ∙ ap (drop 8) past ∙ drop-drop 8 (8 * n) ys ∙ ap (λ m. drop m ys) eight in
-      ap₂ (λ x y. x ++ numbers_of (f n) ++ y) front after ∙ ap (λ x. x ++ drop (8 * (n + 1)) ys) (sym (numbers_next n))
+      let after : drop 8 (drop (8 * n) zs) ≡ drop (8 * (n + 1)) ys = ap (drop 8) past ∙ drop-drop 8 (8 * n) ys ∙ ap (λ m. drop m ys) eight in
+      ap₂ (λ x y. x ++ (row ++ y)) front after ∙ ap (λ x. numbers_to n ++ (x ++ drop (8 * (n + 1)) ys)) er
+      ∙ sym (append_assoc (numbers_to n) (numbers_of (f n)) (drop (8 * (n + 1)) ys)) ∙ ap (λ x. x ++ drop (8 * (n + 1)) ys) (sym (numbers_next n))
 
 -- what `settle_numbers` promises, from what is prepared: the lines are those that `settle` would put into as many records, whatever these hold
 module _ {b : Book} {readings : Memory} (memory : List ℤ) {p : Prepared} (P : Prepares b readings (length memory / 8) p) where
@@ -79,19 +61,19 @@ module _ {b : Book} {readings : Memory} (memory : List ℤ) {p : Prepared} (P : 
   meter = readings.cells
 
   abbrev line : ℕ → Line
-  line = stepped_line p.terms p.times p.live meter
+  line = prepared_line b p meter
 
   abbrev records : List Line
   records = replicate (length memory / 8) (line 0)
 
   abbrev made : SettledAsNumbers
   made =
-      record { settlement = summed p.settlement (last_cursor p meter); memory = numbers_to line p.lines ++ drop (8 * p.lines) memory }
+      record { settlement = summed p.settlement (last_cursor b p meter); memory = numbers_to line p.lines ++ drop (8 * p.lines) memory }
 
   long_records : length records ≡ length memory / 8
   long_records = length-replicate (length memory / 8) (line 0)
 
-  by_refusal : (o : Option ℕ) → settled_with p meter records ≡ settled_by o g records → made ≡ numbered_by o g memory
+  by_refusal : (o : Option ℕ) → settled_with b p meter records ≡ settled_by o g records → made ≡ numbered_by o g memory
   unfolding settled_with statement_of concat_map between run
   by_refusal none e =
       let n : p.lines ≡ length (lines g) = sym P.count ∙ ap (λ (s : Settled). s.settlement.statement.lines) e in
@@ -111,7 +93,7 @@ module _ {b : Book} {readings : Memory} (memory : List ℤ) {p : Prepared} (P : 
       (P.settles records long_records ∙ rw long_records refl)
 
   -- the answer and the numbers, from what `fill_numbers` and `sum_up` promise
-  pub settles : (s : Settlement) (sums : Cursor) (zs : List ℤ) → sums ≡ last_cursor p meter
+  pub settles : (s : Settlement) (sums : Cursor) (zs : List ℤ) → sums ≡ last_cursor b p meter
       → zs ≡ numbers_to line p.lines ++ drop (8 * p.lines) memory
       → s ≡ summed p.settlement sums → (s ≡ (number_book b readings memory).settlement) × (zs ≡ (number_book b readings memory).memory)
   settles s sums zs e ez es = (

@@ -15,17 +15,12 @@ pub fn settle(b: Book, meter: &[i32], revisions: &[u8], lines: &mut [Line]) -> S
         × (lines.new ≡ (settle_book b (lent meter.now revisions.now) lines.old).memory) }
 {
     let p = prepare(b, meter, revisions, lines.len());
-    let times = p.times;
-    let live = p.live;
-    let lent_times: &[u16] = &times;
-    let lent_live: &[u8] = &live;
-    let mut c = first(p.terms, lent_times, lent_live, meter);
-    let mut k: usize = 0;
-    while k < p.lines {
-        let s = step(p.terms, lent_times, lent_live, meter, c);
-        lines[k] = s.line;
+    let instructions = &b.instructions[..p.instructions];
+    let mut c = first(p.terms, instructions, &p.live, meter);
+    for slot in &mut lines[..p.lines] {
+        let s = step(p.terms, instructions, &p.live, meter, c);
+        *slot = s.line;
         c = s.next;
-        k += 1;
     }
     sum_up(p.settlement, c)
 }

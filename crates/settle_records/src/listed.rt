@@ -13,13 +13,11 @@ use rules::statement::{LISTED_MOST, Line, Rate, Stage};
 pub fn blank() -> Line
     ensures { result ≡ no_line }
 {
-    let stage = Stage::Up;
-    let rate = Rate::Utilisation;
     Line {
         instruction: 0,
         period: 0,
-        stage: stage,
-        rate: rate,
+        stage: Stage::Up,
+        rate: Rate::Utilisation,
         expected: Kwh(0),
         delivered: Kwh(0),
         capped: Kwh(0),
@@ -32,17 +30,10 @@ pub fn listed(b: Book, meter: &[i32], revisions: &[u8]) -> Listing
     ensures { result ≡ list_book b (lent meter.now revisions.now) }
 {
     let own = settle_into(b, meter, revisions, LISTED_MOST, blank());
-    let settlement = own.settlement;
-    let made = own.lines;
     let mut lines = [blank(); LISTED_MOST];
-    let mut i = 0;
-    while i < LISTED_MOST {
-        let l = made[i];
-        lines[i] = l;
-        i += 1;
-    }
+    lines.copy_from_slice(&own.lines[..LISTED_MOST]);
     Listing {
-        settlement: settlement,
-        lines: lines,
+        settlement: own.settlement,
+        lines,
     }
 }

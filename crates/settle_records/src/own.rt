@@ -22,8 +22,5 @@ pub fn settle_into(b: Book, meter: &[i32], revisions: &[u8], n: usize, before: L
 {
     let mut lines = [before; LINES_MOST];
     let settlement = settle(b, meter, revisions, &mut lines[..n]);
-    Own {
-        settlement: settlement,
-        lines: lines,
-    }
+    Own { settlement, lines }
 }

@@ -4,13 +4,14 @@
 ghost use Rattle.std.specs.Prelude.{◌≡◌, ◌+◌, ◌*◌, ◌≤◌, ◌<◌, length};
 ghost use Rattle.energy.specs.Lists.{all, between};
 ghost use Rattle.rules.specs.Cuts.{touched as touched_of};
-ghost use Rattle.settle_survey.specs.Survey.{Surveyable, has, survey_of, survey_to};
+ghost use Rattle.settle_survey.specs.Survey.{Surveyable, SurveyableAt, Termed, has, survey_of, survey_to};
 
 use book_memory::holds_reading;
+use commands::entries::Instruction;
 use energy::units::Minutes;
 use settle_terms::Terms;
 use settle_terms::minutes::{cell_of, place_of};
-use settle_terms::times::{base_from, cease_at, end_of, expiry_of, issue_at, start_of};
+use settle_terms::times::base_from;
 
 // Of the instructions so far: whether all their readings are there, and the number of their segments.
 #[derive(Clone, Copy)]
@@ -25,64 +26,55 @@ fn all_read(meter: &[i32], from: usize, to: usize) -> bool
     ensures { result ≡ all (has meter.now) (between from to) }
 {
     let mut ok = true;
-    let mut i = from;
-    while i < to {
-        let x = meter[i];
-        ok = ok & holds_reading(x);
-        i += 1;
+    for x in &meter[from..to] {
+        ok &= holds_reading(*x);
     }
     ok
 }
 
 // The periods that the minutes from a to b - 1 touch.
+#[tactic(auto, unfolding(rules::specs::Cuts::touched))]
 fn touched(a: Minutes, b: Minutes) -> usize
     ensures { (result ≡ touched_of a.0 b.0) × (result ≤ 1000000) }
 {
-    if a.0 < b.0 {
-        let last = Minutes(b.0 - 1);
-        return place_of(last) - place_of(a) + 1;
+    if a < b {
+        place_of(Minutes(b.0 - 1)) - place_of(a) + 1
+    } else {
+        0
     }
-    0
 }
 
-// The survey with instruction `at`.
-fn surveyed(t: Terms, times: &[u16], meter: &[i32], at: usize, s: Survey) -> Survey
-    requires surveyable { Surveyable t times.now meter.now }
-    requires at_lt_instructions { (at < t.instructions) × (s.count ≤ 3000000 * at) }
-    ensures { (result ≡ survey_of t times.now meter.now at s) × (result.count ≤ 3000000 * (at + 1)) }
+// The survey with one instruction more.
+#[tactic(auto, unfolding(crate::specs::Survey::survey_of))]
+fn surveyed(t: Terms, meter: &[i32], x: Instruction, s: Survey) -> Survey
+    requires terms { Termed t }
+    requires instruction { SurveyableAt t meter.now x }
+    requires count { s.count ≤ 3000000 * 64 }
+    ensures { (result ≡ survey_of t meter.now x s) × (result.count ≤ s.count + 3000000) }
 {
-    let response = t.response;
-    let up = t.upminutes;
-    let down = t.downminutes;
-    let issue = issue_at(times, at);
-    let cease = cease_at(times, at);
-    let expiry = expiry_of(issue, response);
-    let start = start_of(expiry, up);
-    let end = end_of(cease, down);
-    let base = all_read(meter, base_from(issue), cell_of(issue) + 1);
+    let expiry = t.expiry(x);
+    let start = t.start(x);
+    let end = t.end(x);
+    let base = all_read(meter, base_from(x.issue), cell_of(x.issue) + 1);
     let active = all_read(meter, cell_of(start), cell_of(end));
-    let n = touched(start, expiry) + touched(expiry, cease) + touched(cease, end);
-    let count = s.count + n;
+    let n = touched(start, expiry) + touched(expiry, x.cease) + touched(x.cease, end);
     Survey {
         complete: s.complete & (base & active),
-        count: count,
+        count: s.count + n,
     }
 }
 
 // The survey of all instructions.
-pub fn survey_all(t: Terms, times: &[u16], meter: &[i32]) -> Survey
-    requires { Surveyable t times.now meter.now }
-    ensures { result ≡ survey_to t times.now meter.now t.instructions }
+pub fn survey_all(t: Terms, instructions: &[Instruction], meter: &[i32]) -> Survey
+    requires { Surveyable t instructions.now meter.now }
+    ensures { result ≡ survey_to t instructions.now meter.now (length instructions.now) }
 {
     let mut s = Survey {
         complete: true,
         count: 0,
     };
-    let n = t.instructions;
-    let mut i = 0;
-    while i < n {
-        s = surveyed(t, times, meter, i, s);
-        i += 1;
+    for x in instructions {
+        s = surveyed(t, meter, *x, s);
     }
     s
 }

@@ -1,4 +1,4 @@
-// What settling reads off a book once: the contract's figures, and the times of the instructions.
+// What settling reads off a book once: the contract's figures, and by them the times of an instruction.
 #![tactic(auto)]
 
 ghost use Rattle.std.specs.Prelude.{◌≡◌, ◌≤◌};
@@ -13,7 +13,7 @@ use energy::units::{Kw, Minutes};
 pub mod minutes;
 pub mod times;
 
-// What a line needs of the contract, and the number of instructions. Its kW and its minutes put into each other's places do not compile: it was tried.
+// What a line needs of the contract. Its kW and its minutes put into each other's places do not compile: it was tried.
 #[derive(Clone, Copy)]
 pub struct Terms {
     pub kw: Kw,
@@ -25,27 +25,24 @@ pub struct Terms {
     // pence per MWh
     pub utilisation: u32,
     pub optional: u32,
-    pub instructions: usize,
 }
 
-// The terms of a contract with so many instructions. Its ramps take at most 240 minutes, so that they are minutes of a month.
-pub fn terms_of(k: Contract, instructions: usize) -> Terms
+// The terms of a contract. Its ramps take at most 240 minutes, so that they are minutes of a month.
+#[tactic(auto, unfolding(commands::specs::Input::up_minutes, commands::specs::Input::down_minutes, crate::specs::Terms::terms_of))]
+pub fn terms_of(k: Contract) -> Terms
     requires { Upto 500000 k.contracted.0 × (up_minutes k ≤ 240) × (down_minutes k ≤ 240) }
-    ensures { result ≡ terms_of k instructions }
+    ensures { result ≡ terms_of k }
 {
-    let kw = k.contracted;
-    let response = k.response;
-    let up = ramp_minutes(kw, k.rampup) as u16;
-    let down = ramp_minutes(kw, k.rampdown) as u16;
+    let up = ramp_minutes(k.contracted, k.rampup) as u16;
+    let down = ramp_minutes(k.contracted, k.rampdown) as u16;
     Terms {
-        kw: kw,
+        kw: k.contracted,
         kind: k.kind,
-        response: response,
+        response: k.response,
         upminutes: Minutes(up),
         downminutes: Minutes(down),
         utilisation: k.utilisation,
         optional: k.optional,
-        instructions: instructions,
     }
 }
 
@@ -61,6 +58,5 @@ pub fn no_terms() -> Terms
         downminutes: Minutes(0),
         utilisation: 0,
         optional: 0,
-        instructions: 0,
     }
 }

@@ -3,95 +3,64 @@
 
 ghost use Rattle.energy.specs.Number.{Upto, Within};
 
-use energy::magnitude::magnitude;
+use energy::limits::OutOfRange;
 use energy::money::{
-    Paid, capped_kwh, delivered_kwh, expected_kwh, kwh_of, pay, pay_period, payment_pence,
+    capped_kwh, delivered_kwh, expected_kwh, kwh_of, pay, pay_period, payment_pence,
 };
 use energy::quarters::{delivered, expected};
 use energy::ramp::ramp_minutes;
-use energy::round::{Rounded, nearest};
+use energy::round::nearest;
 use energy::units::{Kw, Kwh, Minutes, Pence};
 use std::io;
 
-// A number, with a minus sign before a negative one.
-fn put(rt: &impl Print, n: i64) -> io::Result<()> {
-    if n < 0 {
-        rt.print("-")?;
-    }
-    rt.print(magnitude(n))
-}
-
-fn put_refused(rt: &impl Print, r: u8) -> io::Result<()> {
-    rt.print("refused ")?;
-    put(rt, r as i64)?;
-    rt.print("\n")
-}
-
-fn put_paid(rt: &impl Print, p: Paid) -> io::Result<()> {
-    match p {
-        Paid::Pays(pence) => {
-            put(rt, pence.0)?;
-            rt.print(" pence\n")
-        }
-        Paid::Refused(r) => put_refused(rt, r),
+// What paying answers.
+fn print_paid(rt: &impl Print, paid: Result<Pence, OutOfRange>) -> io::Result<()> {
+    match paid {
+        Ok(pence) => println!(rt; "{} pence", pence.0),
+        Err(refusal) => println!(rt; "{refusal}"),
     }
 }
 
-fn put_rounded(rt: &impl Print, q: Rounded) -> io::Result<()> {
-    match q {
-        Rounded::Value(n) => {
-            put(rt, n)?;
-            rt.print("\n")
-        }
-        Rounded::Refused(r) => put_refused(rt, r),
+// What rounding answers.
+fn print_rounded(rt: &impl Print, rounded: Result<i64, OutOfRange>) -> io::Result<()> {
+    match rounded {
+        Ok(n) => println!(rt; "{n}"),
+        Err(refusal) => println!(rt; "{refusal}"),
     }
 }
 
 // F3 and F4: quarters as kWh.
 fn energy_row(rt: &impl Print, quarters: i64) -> io::Result<()> {
-    put(rt, quarters)?;
-    rt.print(" quarters: ")?;
-    let k = kwh_of(quarters);
-    put(rt, k.0)?;
-    rt.print(" kWh\n")
+    println!(rt; "{quarters} quarters: {} kWh", kwh_of(quarters).0)
 }
 
 // F5: the minutes of a ramp.
 fn ramp_row(rt: &impl Print, kw: Kw, ramp: u32) -> io::Result<()>
     requires { Upto 4294967295 kw.0 }
 {
-    put(rt, kw.0)?;
-    rt.print(" kW at ")?;
-    put(rt, ramp as i64)?;
-    rt.print(" a minute: ")?;
-    put(rt, ramp_minutes(kw, ramp) as i64)?;
-    rt.print(" minutes\n")
+    println!(rt;
+        "{} kW at {ramp} a minute: {} minutes",
+        kw.0,
+        ramp_minutes(kw, ramp)
+    )
 }
 
 // F8: the pence of a period of F1's contract.
 fn period_row(rt: &impl Print, p: u32) -> io::Result<()> {
-    rt.print("a period of 12000 kW at 900, P ")?;
-    put(rt, p as i64)?;
-    rt.print(": ")?;
-    put_paid(rt, pay_period(Kw(12000), 900, p))
+    print!(rt; "a period of 12000 kW at 900, P {p}: ")?;
+    print_paid(rt, pay_period(Kw(12000), 900, p))
 }
 
 // F10: the pence for kWh at a rate.
 fn payment_row(rt: &impl Print, k: i64, rate: u32) -> io::Result<()> {
-    put(rt, k)?;
-    rt.print(" kWh at ")?;
-    put(rt, rate as i64)?;
-    rt.print(": ")?;
-    put_paid(rt, pay(Kwh(k), rate))
+    print!(rt; "{k} kWh at {rate}: ")?;
+    print_paid(rt, pay(Kwh(k), rate))
 }
 
 // Rounding by any divisor.
 fn rounding_row(rt: &impl Print, n: i64, d: u32) -> io::Result<()> {
-    put(rt, n)?;
-    rt.print(" / ")?;
-    put(rt, d as i64)?;
-    rt.print(": ")?;
-    put_rounded(rt, nearest(n, d))
+    print!(rt; "{n} / {d}: ")?;
+    print_rounded(rt, nearest(n, d))
 }
 
 #[derive(Clone, Copy)]
@@ -107,28 +76,23 @@ fn six_minutes(kind: u8, base: i32, reading: i32) -> Line
     requires { Within 2000000 base × Within 500000 reading }
 {
     let meter = [reading; 6];
-    let x = expected_kwh(expected(Kw(12000), false, Minutes(6)));
-    let d = delivered_kwh(delivered(kind, base, &meter, 0, 6));
-    let k = capped_kwh(x, d);
-    let p = payment_pence(k, 30000);
+    let expected = expected_kwh(expected(Kw(12000), false, Minutes(6)));
+    let delivered = delivered_kwh(delivered(kind, base, &meter, 0, 6));
+    let capped = capped_kwh(expected, delivered);
     Line {
-        expected: x,
-        delivered: d,
-        capped: k,
-        pence: p,
+        expected,
+        delivered,
+        capped,
+        pence: payment_pence(capped, 30000),
     }
 }
 
 // The kWh expected, delivered and capped, and the pence.
 fn line_row(rt: &impl Print, l: Line) -> io::Result<()> {
-    put(rt, l.expected.0)?;
-    rt.print(" ")?;
-    put(rt, l.delivered.0)?;
-    rt.print(" ")?;
-    put(rt, l.capped.0)?;
-    rt.print(" ")?;
-    put(rt, l.pence.0)?;
-    rt.print("\n")
+    println!(rt;
+        "{} {} {} {}",
+        l.expected.0, l.delivered.0, l.capped.0, l.pence.0
+    )
 }
 
 // Numbers outside their ranges get 3.

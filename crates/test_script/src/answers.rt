@@ -1,76 +1,66 @@
-// Rows of what entering answers, and of cells.
-use crate::print::{print_number, print_text};
-use book::Entry;
-use rules::answer::Answer;
-use std::io;
+// Rows of what entering answers, of cells, and of days.
+use crate::text::ScriptLine;
+use book::{Book, Entry};
+use std::{array, io};
+use working_days::{Day, day_of};
 
-fn print_flag(rt: &impl Print, b: bool) -> io::Result<()> {
-    if b {
-        print_number(rt, 1)
-    } else {
-        print_number(rt, 0)
-    }
-}
+// The most holidays that a line tells.
+const HOLIDAYS_MOST: usize = 64;
 
-fn print_answer(rt: &impl Print, a: Answer) -> io::Result<()> {
-    match a {
-        Answer::Taken => print_text(rt, b": taken"),
-        Answer::Refused(n) => {
-            print_text(rt, b":")?;
-            print_number(rt, n as u64)
-        }
-    }
-}
-
-fn is_taken(a: Answer) -> bool {
-    match a {
-        Answer::Taken => true,
-        Answer::Refused(n) => false,
-    }
+// A line of the script as it stands.
+pub(crate) fn print_line(rt: &impl Print, line: ScriptLine<'_>) -> io::Result<()> {
+    rt.write_all(line.text)?;
+    println!(rt)
 }
 
 // A line with its answer, and of the book after it: contract, windows, instructions, defaults, closed. Where it is quiet, only a refusal.
-pub(crate) fn print_entry(rt: &impl Print, line: &[u8], e: Entry, quiet: bool) -> io::Result<()> {
-    let a = e.answer;
-    if quiet & is_taken(a) {
+pub(crate) fn print_entry(
+    rt: &impl Print,
+    line: ScriptLine<'_>,
+    e: Entry,
+    quiet: bool,
+) -> io::Result<()> {
+    if quiet && e.answer.is_ok() {
         return Ok(());
     }
-    print_text(rt, line)?;
-    print_answer(rt, a)?;
-    print_text(rt, b" /")?;
-    print_flag(rt, e.book.agreed)?;
-    print_number(rt, e.book.nwindows as u64)?;
-    print_number(rt, e.book.ninstructions as u64)?;
-    print_number(rt, e.book.ndefaults as u64)?;
-    print_flag(rt, e.book.closed)?;
-    print_text(rt, b"\n")
+    rt.write_all(line.text)?;
+    match e.answer {
+        Ok(()) => print!(rt; ": taken")?,
+        Err(refusal) => print!(rt; ": {}", refusal.number())?,
+    }
+    let agreed = u8::from(e.book.agreed);
+    let windows = e.book.nwindows;
+    let instructions = e.book.ninstructions;
+    let defaults = e.book.ndefaults;
+    let closed = u8::from(e.book.closed);
+    println!(rt; " / {agreed} {windows} {instructions} {defaults} {closed}")
 }
 
-// A number from 0, and 0 of one below.
-fn natural(kw: i32) -> u64 {
-    if kw < 0 {
-        return 0;
+// A line with a minute's cell and its revision byte. The cell is "marked", "negative", or its kW from 0.
+pub(crate) fn print_minute(
+    rt: &impl Print,
+    line: ScriptLine<'_>,
+    kw: i32,
+    revision: u8,
+) -> io::Result<()> {
+    rt.write_all(line.text)?;
+    match kw {
+        i32::MIN => print!(rt; ": marked")?,
+        0.. => print!(rt; ": {kw}")?,
+        _ => print!(rt; ": negative")?,
     }
-    kw as u64
+    println!(rt; " / {revision}")
 }
 
-// A cell of meter memory: "marked", "negative", or its kW from 0.
-fn print_cell(rt: &impl Print, kw: i32) -> io::Result<()> {
-    if kw == -2147483648 {
-        return print_text(rt, b": marked");
+// A line with the kind of its day of a book's month. The numbers behind it are holidays.
+pub(crate) fn print_day(rt: &impl Print, b: Book, line: ScriptLine<'_>) -> io::Result<()> {
+    let holidays: [u32; HOLIDAYS_MOST] = array::from_fn(|i| line.at(i + 2));
+    let told = line.further_numbers().min(HOLIDAYS_MOST);
+    rt.write_all(line.text)?;
+    match day_of(b, line.at(1), &holidays[..told]) {
+        Ok(None) => println!(rt; ": no such day"),
+        Ok(Some(Day::Working)) => println!(rt; ": working"),
+        Ok(Some(Day::NonWorking)) => println!(rt; ": non-working"),
+        Err(refusal) => println!(rt; ": {}", refusal.number()),
     }
-    if kw < 0 {
-        return print_text(rt, b": negative");
-    }
-    print_text(rt, b":")?;
-    print_number(rt, natural(kw))
-}
-
-// A line with a minute's cell and its revision byte.
-pub(crate) fn print_minute(rt: &impl Print, line: &[u8], kw: i32, revision: u8) -> io::Result<()> {
-    print_text(rt, line)?;
-    print_cell(rt, kw)?;
-    print_text(rt, b" /")?;
-    print_number(rt, revision as u64)?;
-    print_text(rt, b"\n")
 }

@@ -1,105 +1,64 @@
 // Books changed by hand.
 use crate::entries::{default_of, instruction_of, window_of};
-use crate::text::{digits_after, i64_after, u8_after, u16_after, u32_after, usize_after};
+use crate::text::ScriptLine;
 use book::Book;
 use calendar::Date;
 use commands::contract::Contract;
-use commands::entries::{Default, Instruction, Window};
 use energy::units::{Kw, Minutes};
 
-// A contract with a field set: 2 days to 12 optional rate, in the contract's order.
-fn with_term(k: Contract, field: u8, line: &[u8]) -> Contract {
-    let mut changed = k;
+// Sets a field of a contract: 2 days to 12 optional rate, in the contract's order.
+fn set_term(k: &mut Contract, field: u8, line: ScriptLine<'_>) {
     match field {
-        2 => changed.days = u8_after(line, 2),
-        3 => changed.kind = u8_after(line, 2),
-        4 => changed.service = u8_after(line, 2),
-        6 => changed.rampup = u32_after(line, 2),
-        7 => changed.rampdown = u32_after(line, 2),
-        10 => changed.availability = u32_after(line, 2),
-        11 => changed.utilisation = u32_after(line, 2),
-        12 => changed.optional = u32_after(line, 2),
-        _ => return with_quantity(k, field, line),
+        2 => k.days = line.at(2),
+        3 => k.kind = line.at(2),
+        4 => k.service = line.at(2),
+        5 => k.contracted = Kw(line.at(2)),
+        6 => k.rampup = line.at(2),
+        7 => k.rampdown = line.at(2),
+        8 => k.response = Minutes(line.at(2)),
+        9 => k.recovery = Minutes(line.at(2)),
+        10 => k.availability = line.at(2),
+        11 => k.utilisation = line.at(2),
+        12 => k.optional = line.at(2),
+        _ => {}
     }
-    changed
 }
 
-fn with_quantity(k: Contract, field: u8, line: &[u8]) -> Contract {
-    let mut changed = k;
-    let kw = Kw(i64_after(line, 2));
-    let minutes = Minutes(u16_after(line, 2));
+// Sets a field of a date: 16 year, 17 month, 18 day.
+fn set_part(d: &mut Date, field: u8, line: ScriptLine<'_>) {
     match field {
-        5 => changed.contracted = kw,
-        8 => changed.response = minutes,
-        9 => changed.recovery = minutes,
-        _ => return k,
+        16 => d.year = line.at(2),
+        17 => d.month = line.at(2),
+        _ => d.day = line.at(2),
     }
-    changed
 }
 
-// A date with a field set: 16 year, 17 month, 18 day.
-fn with_part(d: Date, field: u8, line: &[u8]) -> Date {
-    let mut changed = d;
+// Sets a field of a book: 0 agreed, 1 closed, 2 to 12 the contract's, 13 to 15 the counts of windows, instructions and defaults, 16 to 18 the date's.
+fn set_field(b: &mut Book, field: u8, line: ScriptLine<'_>) {
     match field {
-        16 => changed.year = u16_after(line, 2),
-        17 => changed.month = u8_after(line, 2),
-        _ => changed.day = u8_after(line, 2),
+        0 => b.agreed = line.at::<u64>(2) != 0,
+        1 => b.closed = line.at::<u64>(2) != 0,
+        13 => b.nwindows = line.at(2),
+        14 => b.ninstructions = line.at(2),
+        15 => b.ndefaults = line.at(2),
+        16..=18 => set_part(&mut b.date, field, line),
+        _ => set_term(&mut b.contract, field, line),
     }
-    changed
 }
 
-// A book with a field set: 0 agreed, 1 closed, 2 to 12 the contract's, 13 to 15 the counts of windows, instructions and defaults, 16 to 18 the
-// date's.
-fn with_field(b: Book, field: u8, line: &[u8]) -> Book {
-    let mut changed = b;
-    match field {
-        0 => changed.agreed = digits_after(line, 2) != 0,
-        1 => changed.closed = digits_after(line, 2) != 0,
-        13 => changed.nwindows = usize_after(line, 2),
-        14 => changed.ninstructions = usize_after(line, 2),
-        15 => changed.ndefaults = usize_after(line, 2),
-        16..=18 => {
-            let d = b.date;
-            changed.date = with_part(d, field, line);
-        }
-        _ => {
-            let k = b.contract;
-            changed.contract = with_term(k, field, line);
-        }
+// Sets an entry of a table, where it has such a place.
+fn set_entry<T: Copy>(table: &mut [T], at: usize, entry: T) {
+    if let Some(place) = table.get_mut(at) {
+        *place = entry;
     }
-    changed
 }
 
-fn with_window(b: Book, at: usize, w: Window) -> Book {
-    let mut changed = b;
-    if at < 128 {
-        changed.windows[at] = w;
-    }
-    changed
-}
-
-fn with_instruction(b: Book, at: usize, i: Instruction) -> Book {
-    let mut changed = b;
-    if at < 64 {
-        changed.instructions[at] = i;
-    }
-    changed
-}
-
-fn with_default(b: Book, at: usize, d: Default) -> Book {
-    let mut changed = b;
-    if at < 128 {
-        changed.defaults[at] = d;
-    }
-    changed
-}
-
-// A book changed as a line says.
-pub(crate) fn changed(b: Book, letter: u8, line: &[u8]) -> Book {
-    match letter {
-        b'b' => with_field(b, u8_after(line, 1), line),
-        b'w' => with_window(b, usize_after(line, 1), window_of(line, 2)),
-        b'i' => with_instruction(b, usize_after(line, 1), instruction_of(line, 2)),
-        _ => with_default(b, usize_after(line, 1), default_of(line, 2)),
+// Changes a book as a line says.
+pub(crate) fn change(b: &mut Book, line: ScriptLine<'_>) {
+    match line.letter() {
+        b'b' => set_field(b, line.at(1), line),
+        b'w' => set_entry(&mut b.windows, line.at(1), window_of(line, 2)),
+        b'i' => set_entry(&mut b.instructions, line.at(1), instruction_of(line, 2)),
+        _ => set_entry(&mut b.defaults, line.at(1), default_of(line, 2)),
     }
 }

@@ -1,75 +1,78 @@
 // The entry of a line.
-use crate::text::{i64_after, u8_after, u16_after, u32_after};
+use crate::text::ScriptLine;
 use calendar::Date;
 use commands::contract::Contract;
 use commands::entries::{Command, Default, Instruction, Reading, Revision, Window};
 use energy::units::{Kw, Minutes};
 
-fn contract_of(line: &[u8]) -> Contract {
+fn contract_of(line: ScriptLine<'_>) -> Contract {
     Contract {
-        days: u8_after(line, 1),
-        kind: u8_after(line, 2),
-        service: u8_after(line, 3),
-        contracted: Kw(i64_after(line, 4)),
-        rampup: u32_after(line, 5),
-        rampdown: u32_after(line, 6),
-        response: Minutes(u16_after(line, 7)),
-        recovery: Minutes(u16_after(line, 8)),
-        availability: u32_after(line, 9),
-        utilisation: u32_after(line, 10),
-        optional: u32_after(line, 11),
+        days: line.at(1),
+        kind: line.at(2),
+        service: line.at(3),
+        contracted: Kw(line.at(4)),
+        rampup: line.at(5),
+        rampdown: line.at(6),
+        response: Minutes(line.at(7)),
+        recovery: Minutes(line.at(8)),
+        availability: line.at(9),
+        utilisation: line.at(10),
+        optional: line.at(11),
     }
 }
 
-pub(crate) fn date_of(line: &[u8]) -> Date {
+fn date_of(line: ScriptLine<'_>) -> Date {
     Date {
-        year: u16_after(line, 1),
-        month: u8_after(line, 2),
-        day: u8_after(line, 3),
+        year: line.at(1),
+        month: line.at(2),
+        day: line.at(3),
     }
 }
 
 // The fields of an entry, after so many spaces.
-pub(crate) fn window_of(line: &[u8], from: u8) -> Window {
+pub(crate) fn window_of(line: ScriptLine<'_>, from: u8) -> Window {
+    let from = usize::from(from);
     Window {
-        start: Minutes(u16_after(line, from as usize)),
-        end: Minutes(u16_after(line, from as usize + 1)),
-        verdict: u8_after(line, from as usize + 2),
+        start: Minutes(line.at(from)),
+        end: Minutes(line.at(from + 1)),
+        verdict: line.at(from + 2),
     }
 }
 
-pub(crate) fn instruction_of(line: &[u8], from: u8) -> Instruction {
+pub(crate) fn instruction_of(line: ScriptLine<'_>, from: u8) -> Instruction {
+    let from = usize::from(from);
     Instruction {
-        issue: Minutes(u16_after(line, from as usize)),
-        cease: Minutes(u16_after(line, from as usize + 1)),
+        issue: Minutes(line.at(from)),
+        cease: Minutes(line.at(from + 1)),
     }
 }
 
-pub(crate) fn default_of(line: &[u8], from: u8) -> Default {
+pub(crate) fn default_of(line: ScriptLine<'_>, from: u8) -> Default {
+    let from = usize::from(from);
     Default {
-        minute: Minutes(u16_after(line, from as usize)),
-        kind: u8_after(line, from as usize + 1),
-        reach: u8_after(line, from as usize + 2),
+        minute: Minutes(line.at(from)),
+        kind: line.at(from + 1),
+        reach: line.at(from + 2),
     }
 }
 
 // A minute after one space, and a kW after so many: a revision has its number between them.
-fn reading_of(line: &[u8], kw: u8) -> Reading {
+fn reading_of(line: ScriptLine<'_>, kw: usize) -> Reading {
     Reading {
-        minute: Minutes(u16_after(line, 1)),
-        kw: Kw(i64_after(line, kw as usize)),
+        minute: Minutes(line.at(1)),
+        kw: Kw(line.at(kw)),
     }
 }
 
-fn revision_of(line: &[u8]) -> Revision {
+fn revision_of(line: ScriptLine<'_>) -> Revision {
     Revision {
-        number: u8_after(line, 2),
+        number: line.at(2),
         reading: reading_of(line, 3),
     }
 }
 
-pub(crate) fn command_of(letter: u8, line: &[u8]) -> Command {
-    match letter {
+pub(crate) fn command_of(line: ScriptLine<'_>) -> Command {
+    match line.letter() {
         b'C' => Command::Contract(contract_of(line)),
         b'Y' => Command::Date(date_of(line)),
         b'W' => Command::Window(window_of(line, 1)),

@@ -23,13 +23,9 @@
 ghost use Rattle.std.specs.Prelude.{◌≤◌, length};
 
 mod answers;
-mod cells;
 mod change;
-mod days;
 mod entries;
-mod month;
-mod print;
-mod revisions;
+mod memory;
 mod run;
 mod statement;
 mod text;
@@ -38,17 +34,17 @@ use crate::run::run_script;
 use std::io;
 use std::io::Read;
 
-// Reads until the buffer is full, the input ends or a read fails; how many bytes it put in front.
+// Reads until the buffer is full, the input ends or a read fails; how many bytes it put in front. Not by `read_exact`, which does not tell how many those are.
+// The lister has the same: no crate below both reads input.
 fn read_full(input: &mut impl Read, buffer: &mut [u8]) -> usize
     ensures { result ≤ length buffer.new }
 {
     let mut done = 0;
     while done < buffer.len() {
-        let n = input.read(&mut buffer[done..]).unwrap_or(0);
-        if n == 0 {
-            break;
+        match input.read(&mut buffer[done..]) {
+            Ok(0) | Err(_) => break,
+            Ok(n) => done += n,
         }
-        done += n;
     }
     done
 }
@@ -57,7 +53,5 @@ fn main(rt: HostRuntime) -> io::Result<()> {
     let mut script = [0u8; 65536];
     let mut input = rt.stdin();
     let n = read_full(&mut input, &mut script);
-    let mut meter = [0i32; 44700];
-    let mut revisions = [0u8; 44700];
-    run_script(&rt, &script[..n], &mut meter, &mut revisions)
+    run_script(&rt, &script[..n])
 }

@@ -29,7 +29,8 @@ use Rattle.rules.proofs.Taken.{concat_map_append}
 use Rattle.watch_step.specs.Month.{month_numbers, kw_at, kind_at, utilisation_at, optional_at, count_at, start_at, expiry_at, cease_at, end_at, live_at}
 use Rattle.watch_step.specs.Step.{advanced, answer_to, cut_before, expects_at, is_next, month_fits, price_at, step_of}
 use Rattle.watch_step.specs.declared.totals.Totals.{Totals}
-use Rattle.watch_step.specs.declared.step.Stepped.{Stepped}
+use Rattle.watch_step.specs.declared.step.NotStepped.{NotStepped}
+use Rattle.std.specs.Prelude.{Result}
 use Rattle.watch_month.specs.MonthOf.{MonthLaid, month_of}
 use Rattle.watch.specs.Later.{Later·theorem}
 use Rattle.watch.proofs.Minute.{Figures, Row, figures_fit}
@@ -319,5 +320,5 @@ later size cs ds ew memory memory' h h' j i m act s kw base =
     let both =
     months_same (taken size cs) (taken size (cs ++ ds)) xs e (reached size cs) (reached size (cs ++ ds)) ew (drop month_numbers memory)
     (drop month_numbers memory') j i m act in
-    let step : MonthLaid → Stepped = λ l. step_of l.month s (suc j) (record { minute = record { 0 = m }; kw = record { 0 = kw } }) base in
+    let step : MonthLaid → Result Totals NotStepped = λ l. step_of l.month s (suc j) (record { minute = record { 0 = m }; kw = record { 0 = kw } }) base in
     ap step (laid size cs memory h) ∙ steps_same both s kw base ∙ sym (ap step (laid size (cs ++ ds) memory' h'))

@@ -35,8 +35,8 @@ use Rattle.rules.proofs.Stages.{expects_stage, rate_stage}
 use Rattle.watch_step.specs.Month.{month_numbers, month_periods, kw_at, kind_at, utilisation_at, optional_at, count_at, start_at, expiry_at, cease_at, end_at, live_at}
 use Rattle.watch_step.specs.Step.{advanced, answer_to, are_base, cut_before, expects_at, is_next, month_fits, over, price_at, step_of}
 use Rattle.watch_step.specs.declared.totals.Totals.{Totals}
-use Rattle.watch_step.specs.declared.step.Stepped.{Stepped}
-use Rattle.watch_step.specs.declared.step.StepAnswer.TheVariants.{Taken}
+use Rattle.watch_step.specs.declared.step.NotStepped.{NotStepped}
+use Rattle.std.specs.Prelude.{Result, Ok, None}
 use Rattle.watch.specs.Running.{ActiveMinute, lines_to, minutes_to, running_at, so_far}
 use Rattle.watch.specs.Watched.{base_for, step_at}
 use Rattle.watch.proofs.Cut.{cut_at, cut_flat, cut_rise}
@@ -331,8 +331,8 @@ module _ {g : Ledger} {month : List ℕ} (F : Figures g month) {n : ℕ} {i : In
   -- ---- the step
 
   -- what a step gives that is taken
-  abbrev taken : ℕ → Stepped
-  taken m = record { answer = Taken; totals = running_at g (at m) }
+  abbrev taken : ℕ → Result Totals NotStepped
+  taken m = Ok (running_at g (at m))
 
   -- the four base readings, as they are handed in
   abbrev p : ℕ
@@ -370,7 +370,7 @@ module _ {g : Ledger} {month : List ℕ} (F : Figures g month) {n : ℕ} {i : In
     -- an answer is taken where what is asked holds
     answered : (s : Totals) (m : ℕ) (base : List ℤ) → TotalsFit s → is_next month s n m ≡ true → A ≤ m → m < B
         → (not (not (eqb n s.instruction)) || are_base base) ≡ true
-        → answer_to month s n (record { minute = record { 0 = m }; kw = record { 0 = reads g m } }) base ≡ Taken
+        → answer_to month s n (record { minute = record { 0 = m }; kw = record { 0 = reads g m } }) base ≡ None
     unfolding answer_to
     answered s m base f q a l b = rw (figures_fit F, totals_test s f, there, q, d.read m a l, b) refl
 
@@ -406,7 +406,7 @@ module _ {g : Ledger} {month : List ℕ} (F : Figures g month) {n : ℕ} {i : In
         let ep = lines-sum g (λ (l : Line). l.pence.0) p ∙ ap (λ x. sum_to (pence_of g) x (segments g)) back in
         let is : advanced month false s n m (reads g m) (base_load g i) ≡ running_at g (at m) = advance_is false s m l carries ec ep gc gp in
         let fits = advance_fits false s m (omega arith) l f (omega arith) (λ z. refl) in
-        (rw (no, answered s m [] f next (omega arith) l (rw same refl), same) (ap (λ t. record { answer = Taken; totals = t }) is), subst TotalsFit is fits)
+        (rw (no, answered s m [] f next (omega arith) l (rw same refl), same) (ap (λ t. Ok t) is), subst TotalsFit is fits)
 
     -- its first minute, from totals whose instruction is over
     pub steps_first : (s : Totals) → TotalsFit s → s.instruction + 1 ≡ n → over month s ≡ true → s.minute.0 < A → A < B
@@ -429,6 +429,6 @@ module _ {g : Ledger} {month : List ℕ} (F : Figures g month) {n : ℕ} {i : In
         let is : advanced month true s n A (reads g A) (base_load g i) ≡ running_at g (at A) = advance_is true s A l carries ec ep gc gp in
         let fits = advance_fits true s A (le_refl A) l f h (λ z. absurd (true≢false z)) in (
           rw (yes, base_given, answered s A given f next (le_refl A) l (rw other given_base), other, given_sum)
-              (ap (λ t. record { answer = Taken; totals = t }) is),
+              (ap (λ t. Ok t) is),
           subst TotalsFit is fits,
         )

@@ -1,5 +1,5 @@
 -- The steps over a host's numbers: totals that are written and read again are the same, so they go as the steps themselves.
-use mathlib.Core.Path.{◌≡◌, refl, sym, ap, ◌∙◌}
+use mathlib.Core.Path.{◌≡◌, refl, ap, ◌∙◌}
 use mathlib.Core.Bool.{true, ◌&&◌}
 use mathlib.Core.List.{List, [], ◌∷◌, ◌++◌, map}
 use Prim.Native.Nat.{ℕ, zero, suc, ◌+◌, ◌≤◌}
@@ -21,11 +21,10 @@ use Rattle.rules.specs.Ledger.{Ledger, ramp_start, end_of}
 use Rattle.rules.specs.Reached.{instructions_sound}
 use Rattle.rules.specs.Segment.{active}
 use Rattle.rules.proofs.Tables.{instructions_cons}
-use Rattle.watch_step.specs.Step.{answer_to, month_fits, step_number, step_of, stepped_by, totals_fit}
+use Rattle.watch_step.specs.Step.{answer_to, month_fits, step_of, stepped_by, totals_fit}
 use Rattle.watch_step.specs.declared.totals.Totals.{Totals}
-use Rattle.watch_step.specs.declared.step.Stepped.{Stepped}
-use Rattle.watch_step.specs.declared.step.StepAnswer.{StepAnswer}
-use Rattle.watch_step.specs.declared.step.StepAnswer.TheVariants.{Taken, Unfit, NoInstruction, NotNext, NoReading}
+use Rattle.watch_step.specs.declared.step.NotStepped.{NotStepped}
+use Rattle.std.specs.Prelude.{Option, Some, None, Ok}
 use Rattle.watch_step.proofs.Fits.{TotalsFit, totals_fit_lem}
 use Rattle.host_watch.specs.StepNumbers.{are_totals, is_sum, numbers_of, step_numbers, totals_in}
 use Rattle.watch.specs.Running.{ActiveMinute, active_from, running_at}
@@ -63,21 +62,16 @@ read_again s more = refl
 
 -- ---- a step that is taken
 
-answer_is : (a : StepAnswer) (x y : Totals) → (stepped_by a x y).answer ≡ a
-answer_is Taken x y = refl
-answer_is Unfit x y = refl
-answer_is NoInstruction x y = refl
-answer_is NotNext x y = refl
-answer_is NoReading x y = refl
+answer_is : (a : Option NotStepped) (x y : Totals) → stepped_by a x ≡ Ok y → a ≡ None
+answer_is None x y e = refl
+answer_is (Some r) x y e = absurd (cc)
 
 -- its totals before it fit
-fit-taken : (month : List ℕ) (s : Totals) (n : ℕ) (r : Reading) (base : List ℤ) → answer_to month s n r base ≡ Taken → totals_fit s ≡ true
+fit-taken : (month : List ℕ) (s : Totals) (n : ℕ) (r : Reading) (base : List ℤ) → answer_to month s n r base ≡ None → totals_fit s ≡ true
 unfolding answer_to
 fit-taken month s n r base q =
     either (month_fits month && totals_fit s) (λ e. (on_and (month_fits month) (totals_fit s) e).1)
-    (λ e.
-    let z : ◌≡◌ {A = ℕ} 101 0 = ap step_number (rw e at q) in
-    absurd (omega arith))
+    (λ e. let z = rw e at q in absurd (cc))
 
 -- ---- a month's active minutes
 
@@ -101,12 +95,12 @@ minutes_small k span b (i ∷ is) n e t h =
 
 module _ (month : List ℕ) (g : Ledger) (P : Totals → Type 0) where
   one : (s : Totals) (a : ActiveMinute) (more : List ℤ) → Small s.instruction s.minute.0
-      → step_at month g s a ≡ record { answer = Taken; totals = running_at g a }
+      → step_at month g s a ≡ Ok (running_at g a)
       → (step_numbers_at month g (numbers_of s ++ more) a).memory ≡ numbers_of (running_at g a) ++ more
   unfolding step_numbers_at step_numbers step_at step_of
   one s a more h e =
-      let is : answer_to month s a.number (reading_for g a) (base_for g a) ≡ Taken =
-      sym (answer_is (answer_to month s a.number (reading_for g a) (base_for g a)) _ s) ∙ ap (λ (t : Stepped). t.answer) e in
+      let is : answer_to month s a.number (reading_for g a) (base_for g a) ≡ None =
+      answer_is (answer_to month s a.number (reading_for g a) (base_for g a)) _ (running_at g a) e in
       let fits : TotalsFit s = totals_fit_lem s (fit-taken month s a.number (reading_for g a) (base_for g a) is) in
       rw (held s more fits h, read_again s more, e) refl
 

@@ -17,10 +17,10 @@ use Rattle.rules.specs.Refusal.{taken}
 use Rattle.book.specs.Book.{empty_book, put_all}
 use Rattle.watch_month.specs.MonthOf.{month_book}
 use Rattle.watch_step.specs.Month.{month_numbers}
-use Rattle.watch_step.specs.Step.{advanced, answer_to, base_now, cut_before, no_totals, price_at, step_of, stepped_by}
+use Rattle.watch_step.specs.Step.{advanced, answer_to, base_now, cut_before, no_totals, price_at, step_of, stepped_by, totals_after}
 use Rattle.watch_step.specs.declared.totals.Totals.{Totals}
-use Rattle.watch_step.specs.declared.step.StepAnswer.{StepAnswer}
-use Rattle.watch_step.specs.declared.step.StepAnswer.TheVariants.{Taken, Unfit, NoInstruction, NotNext, NoReading}
+use Rattle.watch_step.specs.declared.step.NotStepped.{NotStepped}
+use Rattle.std.specs.Prelude.{Option, Some, None}
 use Rattle.watch.specs.Running.{ActiveMinute, active_minutes, running_of}
 use Rattle.watch.specs.Watched.{Watched·theorem, base_for, reading_for, step_all, step_at}
 use Rattle.watch.specs.Rising.{NoLess, StepRises·theorem, Rising·theorem}
@@ -50,12 +50,9 @@ advance_rises month new s n m kw S =
       pence = added (cut_before month n (m + 1)) s.pence.0 (payment c (price_at month n m)) (payment_above c (price_at month n m) up);
     }
 
-answered : (a : StepAnswer) (after before : Totals) → NoLess before after → NoLess before (stepped_by a after before).totals
-answered Taken after before h = h
-answered Unfit after before h = no_less before
-answered NoInstruction after before h = no_less before
-answered NotNext after before h = no_less before
-answered NoReading after before h = no_less before
+answered : (a : Option NotStepped) (after before : Totals) → NoLess before after → NoLess before (totals_after before (stepped_by a after))
+answered None after before h = h
+answered (Some e) after before h = no_less before
 
 pub step_rises : StepRises·theorem
 unfolding StepRises·theorem step_of
@@ -67,21 +64,21 @@ step_rises month s n r base =
 -- ---- the steps of a month
 
 module _ (month : List ℕ) (g : Ledger) where
-  one_rises : (s : Totals) (a : ActiveMinute) → NoLess s (step_at month g s a).totals
+  one_rises : (s : Totals) (a : ActiveMinute) → NoLess s (totals_after s (step_at month g s a))
   unfolding step_at StepRises·theorem
   one_rises s a = step_rises month s a.number (reading_for g a) (base_for g a)
 
   all_rise : (xs : List ActiveMinute) (s : Totals) → NoLess s (step_all month g s xs)
   unfolding step_all
   all_rise [] s = no_less s
-  all_rise (a ∷ xs) s = no_less_then (one_rises s a) (all_rise xs (step_at month g s a).totals)
+  all_rise (a ∷ xs) s = no_less_then (one_rises s a) (all_rise xs (totals_after s (step_at month g s a)))
 
   more_rise : (xs : List ActiveMinute) (s : Totals) (n m : ℕ) → n ≤ m → NoLess (step_all month g s (take n xs)) (step_all month g s (take m xs))
   unfolding step_all
   more_rise xs s zero m h = all_rise (take m xs) s
   more_rise xs s (suc n) zero h = absurd (omega arith)
   more_rise [] s (suc n) (suc m) h = no_less s
-  more_rise (a ∷ xs) s (suc n) (suc m) h = more_rise xs (step_at month g s a).totals n m (omega arith)
+  more_rise (a ∷ xs) s (suc n) (suc m) h = more_rise xs (totals_after s (step_at month g s a)) n m (omega arith)
 
 pub rising : Rising·theorem
 unfolding Rising·theorem Watched·theorem

@@ -25,10 +25,9 @@ use Rattle.rules.proofs.Cuts.{Timed}
 use Rattle.rules.proofs.Reached.{parts_of, terms_of_lem}
 use Rattle.rules.proofs.Span.{span_cells, cells_most}
 use Rattle.rules.proofs.Tables.{InstructionFits, instructions_cons}
-use Rattle.watch_step.specs.Step.{over}
+use Rattle.watch_step.specs.Step.{over, step_number, totals_after}
 use Rattle.watch_step.specs.declared.totals.Totals.{Totals}
-use Rattle.watch_step.specs.declared.step.Stepped.{Stepped}
-use Rattle.watch_step.specs.declared.step.StepAnswer.TheVariants.{Taken}
+use Rattle.std.specs.Prelude.{Ok}
 use Rattle.watch.specs.Running.{ActiveMinute, active_from, running_at}
 use Rattle.watch.specs.Watched.{step_all, step_at}
 use Rattle.watch.proofs.SoFar.{minute_at}
@@ -47,22 +46,22 @@ between_none a b h = let z : b - a ≡ 0 = omega arith in rw z refl
 module _ (month : List ℕ) (g : Ledger) (P : Totals → Type 0) where
   abbrev pub Chain : Totals → List ActiveMinute → Type 0
   Chain s [] = P s
-  Chain s (a ∷ rest) = (step_at month g s a ≡ record { answer = Taken; totals = running_at g a }) × Chain (running_at g a) rest
+  Chain s (a ∷ rest) = (step_at month g s a ≡ Ok (running_at g a)) × Chain (running_at g a) rest
 
   pub chain_totals : (xs : List ActiveMinute) (s : Totals) → Chain s xs → (n : ℕ) → step_all month g s (take n xs) ≡ last s (map (running_at g) (take n xs))
   unfolding step_all last
   chain_totals [] s c zero = refl
   chain_totals [] s c (suc n) = refl
   chain_totals (a ∷ xs) s c zero = refl
-  chain_totals (a ∷ xs) s (e, c) (suc n) = ap (λ (t : Stepped). step_all month g t.totals (take n xs)) e ∙ chain_totals xs (running_at g a) c n
+  chain_totals (a ∷ xs) s (e, c) (suc n) = ap (λ t. step_all month g (totals_after s t) (take n xs)) e ∙ chain_totals xs (running_at g a) c n
 
   pub chain_taken : (xs : List ActiveMinute) (s : Totals) → Chain s xs → (n : ℕ) (a : ActiveMinute) → get_elem? xs n ≡ some a
-      → (step_at month g (last s (map (running_at g) (take n xs))) a).answer ≡ Taken
+      → step_number (step_at month g (last s (map (running_at g) (take n xs))) a) ≡ 0
   unfolding last
   chain_taken [] s c n a q = absurd (none-ne-some a q)
   chain_taken (x ∷ xs) s (e, c) zero a q =
       let same : x ≡ a = some-injective x a q in
-      ap (λ z. (step_at month g s z).answer) (sym same) ∙ ap (λ z. z.answer) e
+      ap (λ z. step_number (step_at month g s z)) (sym same) ∙ ap step_number e
   chain_taken (x ∷ xs) s (e, c) (suc n) a q = chain_taken xs (running_at g x) c n a q
 
   pub chain_ends : (xs : List ActiveMinute) (s : Totals) → Chain s xs → P (last s (map (running_at g) xs))
@@ -189,7 +188,7 @@ module _ {size : ℕ} {g : Ledger} {month : List ℕ} (a : Agreed size g) (F : F
     most : n ≤ length g.instructions
     most = omega (arith, b.count)
 
-    first : (step_at month g s (at A) ≡ record { answer = Taken; totals = running_at g (at A) }) × TotalsFit (running_at g (at A))
+    first : (step_at month g s (at A) ≡ Ok (running_at g (at A))) × TotalsFit (running_at g (at A))
     first =
         let (r, o, l) = ramp in
         steps_first F row.0 read least most s b.fits b.number b.over (b.low A r o) l

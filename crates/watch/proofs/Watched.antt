@@ -20,7 +20,6 @@ use Rattle.rules.specs.Reached.Reached.{untouched, agreed}
 use Rattle.rules.specs.Refusal.{taken}
 use Rattle.rules.specs.Segment.{complete, in_live, live, needed, segments, segments_from}
 use Rattle.rules.specs.Statement.{lines, line_of, statement_of}
-use Rattle.rules.specs.declared.answer.Answer.TheVariants.{Taken as takenᵃ}
 use Rattle.rules.specs.declared.statement.Line.{Line}
 use Rattle.rules.proofs.OneRate.{same_live, whole}
 use Rattle.rules.proofs.Reached.{parts_of, reached, terms_of_lem}
@@ -39,6 +38,7 @@ use Rattle.watch.proofs.Fits.{none-fit}
 use Rattle.watch.proofs.Minute.{Figures, Row, capped_of, pence_of, sum_mapped}
 use Rattle.watch.proofs.Numbers.{Minutes, chain_numbers, minutes_small}
 use Rattle.watch.proofs.Steps.{Chain, Rows, Summed, chain_ends, chain_taken, chain_totals, goes, span_most}
+use Rattle.rules.specs.Answer.{Taken as takenᵃ}
 
 -- ---- the month's numbers
 

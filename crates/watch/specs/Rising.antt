@@ -5,7 +5,7 @@ use Rattle.commands.specs.declared.entries.Reading.{Reading}
 use Rattle.rules.specs.Ledger.{ledger_of}
 use Rattle.rules.specs.Refusal.{taken}
 use Rattle.rules.specs.Segment.{complete}
-use Rattle.watch_step.specs.Step.{step_of}
+use Rattle.watch_step.specs.Step.{step_of, totals_after}
 use Rattle.watch_step.specs.declared.totals.Totals.{Totals}
 use Rattle.watch.specs.Running.{running_of}
 
@@ -16,7 +16,7 @@ pub record NoLess (s t : Totals) : Type 0 where
 
 -- a step leaves no less, whatever it is given and whatever it answers
 unfoldable pub StepRises·theorem : Type 0
-StepRises·theorem = (month : List ℕ) (s : Totals) (n : ℕ) (r : Reading) (base : List ℤ) → NoLess s (step_of month s n r base).totals
+StepRises·theorem = (month : List ℕ) (s : Totals) (n : ℕ) (r : Reading) (base : List ℤ) → NoLess s (totals_after s (step_of month s n r base))
 
 -- and what the rules give for the active minutes of a month never falls: n of them, zeros where that is none, and as many or more
 unfoldable pub Rising·theorem : Type 0

@@ -9,12 +9,12 @@ use Rattle.commands.specs.declared.entries.Instruction.{Instruction}
 use Rattle.rules.specs.Ledger.{Ledger, contract_of, expiry, ramp_start, end_of}
 use Rattle.rules.specs.Refusal.{answer_of}
 use Rattle.rules.specs.Segment.{in_live}
-use Rattle.rules.specs.declared.answer.Answer.{Answer}
 use Rattle.book_memory.specs.Meter.{lent}
 use Rattle.book.specs.Book.{ledger_in}
 use Rattle.book.specs.Sound.{sound}
 use Rattle.book.specs.declared.Book.{Book}
 use Rattle.watch_step.specs.Month.{month_numbers, month_periods}
+use Rattle.rules.specs.Answer.{Answer}
 
 -- a time of each instruction, in a column of 64 places
 unfoldable pub column : (Instruction → ℕ) → List Instruction → List ℕ

@@ -6,11 +6,11 @@ ghost use Rattle.watch_month.specs.MonthOf.{month_book, month_laid};
 
 use crate::numbers::put_month;
 use book::Book;
+use commands::refusal::Refusal;
 use rules::answer::Answer;
 use settle_live::mark_live;
 use settle_terms::minutes::PLACES;
 use settle_terms::terms_of;
-use settle_terms::times::times_of;
 use watch_step::month::MONTH_NUMBERS;
 
 mod numbers;
@@ -19,21 +19,19 @@ mod numbers;
 pub fn month_of(b: Book, month: &mut [u32]) -> Answer
     ensures { month_laid result month.new ≡ month_book b month.old }
 {
-    let soundness = b.sound();
-    if !soundness {
-        return Answer::Refused(11);
+    if !b.sound() {
+        return Err(Refusal::NotReached);
     }
     if month.len() < MONTH_NUMBERS {
-        return Answer::Refused(26);
+        return Err(Refusal::NoRoom);
     }
     let k = b.contract;
-    let windows = b.windows;
-    let instructions = b.instructions;
     let recovery = k.recovery;
-    let times = times_of(instructions);
-    let t = terms_of(k, b.ninstructions);
+    let windows = &b.windows[..b.nwindows];
+    let instructions = &b.instructions[..b.ninstructions];
+    let t = terms_of(k);
     let mut live = [0; PLACES];
-    mark_live(&mut live, windows, b.nwindows, &times, t, recovery);
-    put_month(month, t, &times, &live);
-    Answer::Taken
+    mark_live(&mut live, windows, instructions, t, recovery);
+    put_month(month, t, instructions, &live);
+    Ok(())
 }

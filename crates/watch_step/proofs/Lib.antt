@@ -1,2 +1,3 @@
 pub mod Fits
+pub mod Kept
 pub mod Widths

@@ -1,14 +1,13 @@
 -- Inner, and for hosts, proved equal to the rules: the totals after one more active minute, from its reading, the totals before it and the month's numbers.
-use Rattle.std.specs.Prelude.{Bool, cond, not, ◌&&◌, ◌||◌, List, ℕ, ◌+◌, ◌-◌, ◌*◌, ◌%◌, eqb, leb, ltb, ℤ, pos, neg_ℤ, ◌+ℤ◌, length}
+use Rattle.std.specs.Prelude.{Bool, cond, not, ◌&&◌, ◌||◌, List, ℕ, ◌+◌, ◌-◌, ◌*◌, ◌%◌, eqb, leb, ltb, ℤ, pos, neg_ℤ, ◌+ℤ◌, length, Option, Some, None, Result, Ok, Err}
 use Rattle.energy.specs.Energy.{cell, steady_quarters, ramp_quarters, delivers, kwh, capped, payment}
 use Rattle.energy.specs.Lists.{sum, between, all}
 use Rattle.commands.specs.Input.{from_to, from_to_ℤ, is_reading}
 use Rattle.commands.specs.declared.entries.Reading.{Reading}
 use Rattle.watch_step.specs.Month.{month_numbers, kw_at, kind_at, utilisation_at, optional_at, count_at, start_at, expiry_at, cease_at, end_at, live_at}
 use Rattle.watch_step.specs.declared.totals.Totals.{Totals}
-use Rattle.watch_step.specs.declared.step.StepAnswer.{StepAnswer}
-use Rattle.watch_step.specs.declared.step.StepAnswer.TheVariants.{Taken, Unfit, NoInstruction, NotNext, NoReading}
-use Rattle.watch_step.specs.declared.step.Stepped.{Stepped}
+use Rattle.watch_step.specs.declared.step.NotStepped.{NotStepped}
+use Rattle.watch_step.specs.declared.step.NotStepped.TheVariants.{Unfit, NoInstruction, NotNext, NoReading}
 
 -- ---- what a step asks
 
@@ -52,13 +51,13 @@ are_base base = eqb (length base) 4 && all (λ j. is_reading (cell base j)) (bet
 abbrev pub are_readings : Bool → ℤ → List ℤ → Bool
 are_readings new kw base = is_reading kw && (not new || are_base base)
 
--- what a step is answered: of month and totals, instruction, minute and readings the first that does not fit decides
-unfoldable pub answer_to : List ℕ → Totals → ℕ → Reading → List ℤ → StepAnswer
+-- why a step is not taken, if it is not: of month and totals, instruction, minute and readings the first that does not fit decides
+unfoldable pub answer_to : List ℕ → Totals → ℕ → Reading → List ℤ → Option NotStepped
 answer_to month s n r base =
     cond (month_fits month && totals_fit s)
     (cond (is_there month n)
-    (cond (is_next month s n r.minute.0) (cond (are_readings (not (eqb n s.instruction)) r.kw.0 base) Taken NoReading) NotNext) NoInstruction)
-    Unfit
+    (cond (is_next month s n r.minute.0) (cond (are_readings (not (eqb n s.instruction)) r.kw.0 base) None (Some NoReading)) (Some NotNext)) (Some NoInstruction))
+    (Some Unfit)
 
 -- ---- what a minute adds
 
@@ -102,21 +101,7 @@ advanced month new s n m kw S =
       pence = record { 0 = s.pence.0 +ℤ cond ends (payment c (price_at month n m)) (pos 0) };
     }
 
--- an answer with the totals after a minute that is taken, and as they were after one that is not
-abbrev pub stepped_by : StepAnswer → Totals → Totals → Stepped
-stepped_by Taken after before = record { answer = Taken; totals = after }
-stepped_by Unfit after before = record { answer = Unfit; totals = before }
-stepped_by NoInstruction after before = record { answer = NoInstruction; totals = before }
-stepped_by NotNext after before = record { answer = NotNext; totals = before }
-stepped_by NoReading after before = record { answer = NoReading; totals = before }
-
--- one step: what `step` promises
-unfoldable pub step_of : List ℕ → Totals → ℕ → Reading → List ℤ → Stepped
-step_of month s n r base =
-    let new : Bool = not (eqb n s.instruction) in
-    stepped_by (answer_to month s n r base) (advanced month new s n r.minute.0 r.kw.0 (base_now new s base)) s
-
--- ---- before the first step, and the answers' numbers
+-- ---- a step
 
 -- the totals before the first step: zeros
 abbrev pub no_totals : Totals
@@ -131,10 +116,32 @@ no_totals =
       pence = record { 0 = pos 0 };
     }
 
--- the number of an answer: 0 for taken, and from 101 on, above every refusal's
-abbrev pub step_number : StepAnswer → ℕ
-step_number Taken = 0
-step_number Unfit = 101
-step_number NoInstruction = 102
-step_number NotNext = 103
-step_number NoReading = 104
+-- the totals after a minute that is taken, or why it is not
+abbrev pub stepped_by : Option NotStepped → Totals → Result Totals NotStepped
+stepped_by None after = Ok after
+stepped_by (Some e) after = Err e
+
+-- one step: what `step` promises
+unfoldable pub step_of : List ℕ → Totals → ℕ → Reading → List ℤ → Result Totals NotStepped
+step_of month s n r base =
+    let new : Bool = not (eqb n s.instruction) in
+    stepped_by (answer_to month s n r base) (advanced month new s n r.minute.0 r.kw.0 (base_now new s base))
+
+-- the totals after a step: as they were where it is not taken
+abbrev pub totals_after : Totals → Result Totals NotStepped → Totals
+totals_after before (Ok after) = after
+totals_after before (Err e) = before
+
+-- ---- the numbers of answers
+
+-- the number of a step that is not taken: from 101 on, above every refusal's
+abbrev pub refused_number : NotStepped → ℕ
+refused_number Unfit = 101
+refused_number NoInstruction = 102
+refused_number NotNext = 103
+refused_number NoReading = 104
+
+-- the number that a step is answered with: 0 where it is taken
+abbrev pub step_number : Result Totals NotStepped → ℕ
+step_number (Ok after) = 0
+step_number (Err e) = refused_number e

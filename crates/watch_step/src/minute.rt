@@ -1,24 +1,37 @@
 // What one minute adds to its segment's two sums, in quarter kW-minutes, and what the segment's line counts and pays.
-ghost use Rattle.std.specs.Prelude.{◌≡◌, true, false, cond, ◌≤◌, pos, ◌+ℤ◌};
+ghost use Rattle.std.specs.Prelude.{◌≡◌, false, cond, pos, ◌+ℤ◌};
 ghost use Rattle.energy.specs.Energy.{capped, delivers, kwh, payment};
 ghost use Rattle.energy.specs.Number.{Within, Upto};
-ghost use Rattle.watch_step.specs.Step.{expects_at, month_fits, price_at};
+ghost use Rattle.watch_step.specs.Step.{expects_at, price_at};
 
-use crate::month::{CEASES, EXPIRIES, KW, price_at, time_at};
+use crate::month::{CEASES, Called, EXPIRIES, KW};
 use energy::money::{capped_kwh, delivered_kwh, expected_kwh, payment_pence};
 use energy::quarters::expected;
 use energy::units::{Kw, Kwh, Minutes, Pence};
 
-// What minute m of instruction n expects.
-pub(crate) fn expects_at(month: &[u32], n: u32, m: u32) -> i32
-    requires { (month_fits month.now ≡ true) × (n ≤ 64) }
-    ensures { (result ≡ expects_at month.now n m) × Upto 2000000 result }
-{
-    let expiry = time_at(month, EXPIRIES, n);
-    let cease = time_at(month, CEASES, n);
-    let steady = (expiry <= m) & (m < cease);
-    let kw = month[KW];
-    expected(Kw(kw as i64), steady, Minutes(1)) as i32
+impl Called<'_> {
+    // What minute m expects.
+    pub(crate) fn expects_at(self, m: u32) -> i32
+        ensures { (result ≡ expects_at self.entry.month.numbers.now self.entry.n m) × Upto 2000000 result }
+    {
+        let expiry = self.time_at(EXPIRIES);
+        let cease = self.time_at(CEASES);
+        let steady = (expiry <= m) & (m < cease);
+        let kw = self.month.numbers[KW];
+        expected(Kw(kw as i64), steady, Minutes(1)) as i32
+    }
+
+    // The pence of the line that a segment ends with, whose last minute is m: 0 where it does not end.
+    #[inline(always)]
+    pub(crate) fn line_pence(self, ends: bool, m: u32, k: Kwh) -> Pence
+        requires { Within 500000 k.0 }
+        ensures { (result.0 ≡ cond ends (payment k.0 (price_at self.entry.month.numbers.now self.entry.n m)) (pos 0)) × Within 500000000 result.0 }
+    {
+        if ends {
+            return payment_pence(k, self.price_at(m));
+        }
+        Pence(0)
+    }
 }
 
 // What a minute with this reading delivers over the base load.
@@ -53,15 +66,4 @@ pub(crate) fn line_kwh(ends: bool, x: i32, d: i32) -> Kwh
         return capped_kwh(expected_kwh(x as u32), delivered_kwh(d));
     }
     Kwh(0)
-}
-
-// The pence of that line, whose last minute is m of instruction n.
-pub(crate) fn line_pence(month: &[u32], ends: bool, n: u32, m: u32, k: Kwh) -> Pence
-    requires { (month_fits month.now ≡ true) × (n ≤ 64) × Within 500000 k.0 }
-    ensures { (result.0 ≡ cond ends (payment k.0 (price_at month.now n m)) (pos 0)) × Within 500000000 result.0 }
-{
-    if ends {
-        return payment_pence(k, price_at(month, n, m));
-    }
-    Pence(0)
 }

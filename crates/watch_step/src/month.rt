@@ -1,9 +1,10 @@
 // What a step needs of a month, as a table of numbers that the caller keeps: five figures, the times of 64 instructions in five columns, and a
 // number for each period, 0 where no live window has it. Plain numbers can be lent; each is a kW or a minute from the moment it is read.
-ghost use Rattle.std.specs.Prelude.{◌≡◌, true, ◌+◌, ◌-◌, ◌≤◌, ◌<◌, get_or, length};
-ghost use Rattle.watch_step.specs.Month.{live_at, month_numbers};
-ghost use Rattle.watch_step.specs.Step.{cut_before, month_fits, price_at};
+ghost use Rattle.std.specs.Prelude.{◌≡◌, true, false, ◌+◌, ◌≤◌, MatchResult, get_or, length};
+ghost use Rattle.watch_step.specs.Month.{count_at, kw_at, live_at, month_numbers, optional_at, utilisation_at};
+ghost use Rattle.watch_step.specs.Step.{cut_before, is_there, month_fits, price_at};
 
+use crate::step::NotStepped;
 use commands::contract::Contract;
 use energy::limits;
 
@@ -48,7 +49,7 @@ pub const MONTH_PERIODS: usize = 1491;
 pub const MONTH_NUMBERS: usize = 1816;
 
 // Whether a month has all its numbers, and its figures are in their ranges.
-pub(crate) fn month_fits(month: &[u32]) -> bool
+fn month_fits(month: &[u32]) -> bool
     ensures { result ≡ month_fits month.now }
 {
     if month.len() < MONTH_NUMBERS {
@@ -64,59 +65,93 @@ pub(crate) fn month_fits(month: &[u32]) -> bool
         & (instructions <= INSTRUCTIONS_MOST)
 }
 
-// The time of instruction n, from 1, in a column.
-pub(crate) fn time_at(month: &[u32], column: usize, n: u32) -> u32
-    requires { column + n < length month.now }
-    ensures { result ≡ get_or month.now (column + n) 0 }
-{
-    month[column + n as usize]
+// The numbers of a month: all of them, with the figures in their ranges.
+#[derive(Clone, Copy)]
+pub(crate) struct Month<'a> {
+    pub(crate) numbers: &'a [u32],
+    ghost long: { month_numbers ≤ length numbers.now },
+    ghost kw: { kw_at numbers.now ≤ 500000 },
+    ghost utilisation: { utilisation_at numbers.now ≤ 1000000 },
+    ghost optional: { optional_at numbers.now ≤ 1000000 },
+    ghost instructions: { count_at numbers.now ≤ 64 },
 }
 
-// Whether minute m is in a live window.
-fn live_at(month: &[u32], m: u32) -> bool
-    requires { month_numbers ≤ length month.now }
-    ensures { result ≡ live_at month.now m }
-{
-    let period = (m / PERIOD) as usize;
-    if period < MONTH_PERIODS {
-        return month[PERIODS + period] != 0;
+impl<'a> Month<'a> {
+    // Of these numbers, where they are a month's.
+    pub(crate) fn of(numbers: &'a [u32]) -> Result<Self, NotStepped>
+        ensures { MatchResult result (λ m. (m.numbers.now ≡ numbers.now) × (month_fits numbers.now ≡ true))
+            (λ e. (e ≡ NotStepped.Unfit) × (month_fits numbers.now ≡ false)) }
+    {
+        if month_fits(numbers) {
+            return Ok(Month { numbers });
+        }
+        Err(NotStepped::Unfit)
     }
-    false
-}
 
-// The minute before m: 0 before the first.
-fn minute_before(m: u32) -> u32
-    ensures { result ≡ m - 1 }
-{
-    if 0 < m {
-        return m - 1;
+    // Whether minute m is in a live window.
+    fn live_at(self, m: u32) -> bool
+        ensures { result ≡ live_at self.entry.numbers.now m }
+    {
+        let period = (m / PERIOD) as usize;
+        if period < MONTH_PERIODS {
+            return self.numbers[PERIODS + period] != 0;
+        }
+        false
     }
-    0
-}
 
-// The pence per MWh of minute m of instruction n: by its own window, or by the one that pays for its ramp.
-pub(crate) fn price_at(month: &[u32], n: u32, m: u32) -> u32
-    requires { (month_fits month.now ≡ true) × (n ≤ 64) }
-    ensures { (result ≡ price_at month.now n m) × (result ≤ 1000000) }
-{
-    let expiry = time_at(month, EXPIRIES, n);
-    let cease = time_at(month, CEASES, n);
-    let here = live_at(month, m);
-    let before = (m < expiry) & live_at(month, expiry);
-    let after = (cease <= m) & live_at(month, minute_before(cease));
-    if (here | before) | after {
-        return month[UTILISATION];
+    // Instruction n, from 1, where it is there.
+    pub(crate) fn called(self, n: u32) -> Result<Called<'a>, NotStepped>
+        ensures { MatchResult result
+            (λ i. (i.month.numbers.now ≡ self.entry.numbers.now) × (i.n ≡ n) × (is_there self.entry.numbers.now n ≡ true))
+            (λ e. (e ≡ NotStepped.NoInstruction) × (is_there self.entry.numbers.now n ≡ false)) }
+    {
+        if (1..=self.numbers[INSTRUCTIONS]).contains(&n) {
+            return Ok(Called { month: self, n });
+        }
+        Err(NotStepped::NoInstruction)
     }
-    month[OPTIONAL]
 }
 
-// Whether a segment of instruction n does not go on into minute m: a period or a stage begins there, or it is f.
-pub(crate) fn cut_before(month: &[u32], n: u32, m: u32) -> bool
-    requires { (month_numbers ≤ length month.now) × (n ≤ 64) }
-    ensures { result ≡ cut_before month.now n m }
-{
-    let expiry = time_at(month, EXPIRIES, n);
-    let cease = time_at(month, CEASES, n);
-    let end = time_at(month, ENDS, n);
-    (m % PERIOD == 0) | (m == expiry) | (m == cease) | (m == end)
+// Instruction n, from 1, of a month: one that is there.
+#[derive(Clone, Copy)]
+pub(crate) struct Called<'a> {
+    pub(crate) month: Month<'a>,
+    pub(crate) n: u32,
+    ghost few: { n ≤ 64 },
+}
+
+impl Called<'_> {
+    // Its time in a column.
+    pub(crate) fn time_at(self, column: usize) -> u32
+        requires { column ≤ 260 }
+        ensures { result ≡ get_or self.entry.month.numbers.now (column + self.entry.n) 0 }
+    {
+        self.month.numbers[column + self.n as usize]
+    }
+
+    // The pence per MWh of minute m: by its own window, or by the one that pays for its ramp.
+    pub(crate) fn price_at(self, m: u32) -> u32
+        ensures { (result ≡ price_at self.entry.month.numbers.now self.entry.n m) × (result ≤ 1000000) }
+    {
+        let month = self.month;
+        let expiry = self.time_at(EXPIRIES);
+        let cease = self.time_at(CEASES);
+        let here = month.live_at(m);
+        let before = (m < expiry) & month.live_at(expiry);
+        let after = (cease <= m) & month.live_at(cease.saturating_sub(1));
+        if (here | before) | after {
+            return month.numbers[UTILISATION];
+        }
+        month.numbers[OPTIONAL]
+    }
+
+    // Whether a segment does not go on into minute m: a period or a stage begins there, or it is f.
+    pub(crate) fn cut_before(self, m: u32) -> bool
+        ensures { result ≡ cut_before self.entry.month.numbers.now self.entry.n m }
+    {
+        let expiry = self.time_at(EXPIRIES);
+        let cease = self.time_at(CEASES);
+        let end = self.time_at(ENDS);
+        (m % PERIOD == 0) | (m == expiry) | (m == cease) | (m == end)
+    }
 }

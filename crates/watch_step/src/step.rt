@@ -1,24 +1,20 @@
 // One step: the totals after one more active minute.
-ghost use Rattle.std.specs.Prelude.{◌≡◌, true, false, ◌+◌, ◌≤◌};
+ghost use Rattle.std.specs.Prelude.{◌≡◌, true, false, ◌+◌, MatchResult};
 ghost use Rattle.energy.specs.Number.{Within};
 ghost use Rattle.commands.specs.Input.{is_reading};
-ghost use Rattle.watch_step.specs.Step.{advanced, are_base, are_readings, base_now, is_next, month_fits, step_number, step_of, totals_fit};
+ghost use Rattle.watch_step.specs.Step.{advanced, are_base, are_readings, base_now, is_next, refused_number, step_of, totals_fit};
 
-use crate::minute::{delivered_in, expects_at, line_kwh, line_pence, sum_with};
-use crate::month::{
-    ENDS, INSTRUCTIONS, INSTRUCTIONS_MOST, KIND, STARTS, cut_before, month_fits, time_at,
-};
+use crate::minute::{delivered_in, line_kwh, sum_with};
+use crate::month::{Called, ENDS, INSTRUCTIONS_MOST, KIND, Month, STARTS};
 use crate::totals::{Totals, totals_fit};
-use commands::checks::{kw_from_to, number_from_to};
 use commands::contract::Contract;
 use commands::entries::Reading;
 use energy::quarters::total;
 use energy::units::Kw;
 
-// What a step answers: taken, or why not.
-#[derive(Clone, Copy)]
-pub enum StepAnswer {
-    Taken,
+// Why a step is not taken.
+#[derive(Clone, Copy, Debug, PartialEq, Eq)]
+pub enum NotStepped {
     // a month or totals that are none
     Unfit,
     // an instruction that is not there
@@ -29,40 +25,34 @@ pub enum StepAnswer {
     NoReading,
 }
 
-// The answer, and the totals after the step: as they were where it is not taken.
-#[derive(Clone, Copy)]
-pub struct Stepped {
-    pub answer: StepAnswer,
-    pub totals: Totals,
-}
-
-// The answer's number for hosts.
-pub fn step_number(a: StepAnswer) -> u8
-    ensures { result ≡ step_number a }
-{
-    match a {
-        StepAnswer::Taken => 0,
-        StepAnswer::Unfit => 101,
-        StepAnswer::NoInstruction => 102,
-        StepAnswer::NotNext => 103,
-        StepAnswer::NoReading => 104,
+impl NotStepped {
+    // Its number for hosts, who have 0 for a step that is taken.
+    pub fn number(self) -> u8
+        ensures { result ≡ refused_number self }
+    {
+        match self {
+            NotStepped::Unfit => 101,
+            NotStepped::NoInstruction => 102,
+            NotStepped::NotNext => 103,
+            NotStepped::NoReading => 104,
+        }
     }
 }
 
-// Whether minute m of instruction n, which is there, is the next active one.
-fn is_next(month: &[u32], s: Totals, n: u32, m: u32) -> bool
-    requires { (month_fits month.now ≡ true) × (n ≤ 64) }
-    ensures { result ≡ is_next month.now s n m }
+// Whether minute m of instruction i is the next active one.
+fn is_next(i: Called, s: Totals, m: u32) -> bool
+    ensures { result ≡ is_next i.entry.month.numbers.now s i.entry.n m }
 {
+    let n = i.n;
     let last = s.instruction;
     let after = s.minute.0 as u32 + 1;
-    let end = time_at(month, ENDS, n);
+    let end = i.time_at(ENDS);
     if n == last {
         return (m < end) & (m == after);
     }
     if last < INSTRUCTIONS_MOST {
-        let start = time_at(month, STARTS, n);
-        let ended = time_at(month, ENDS, last);
+        let start = i.time_at(STARTS);
+        let ended = i.month.numbers[ENDS + last as usize];
         return (m < end) & ((n == last + 1) & (m == start) & ((last == 0) | (after == ended)));
     }
     false
@@ -72,7 +62,7 @@ fn is_next(month: &[u32], s: Totals, n: u32, m: u32) -> bool
 fn is_reading(kw: Kw) -> bool
     ensures { result ≡ is_reading kw.0 }
 {
-    kw_from_to(Contract::READING_LEAST, Contract::READING_MOST, kw)
+    (Contract::READING_LEAST..=Contract::READING_MOST).contains(&kw)
 }
 
 // The same of a base reading, which a host lends as a plain number.
@@ -86,17 +76,17 @@ fn is_base_reading(kw: i32) -> bool
 fn are_base(base: &[i32]) -> bool
     ensures { result ≡ are_base base.now }
 {
-    if base.len() != 4 {
-        return false;
+    match base {
+        [a, b, c, d] => is_base_reading(*a)
+            & is_base_reading(*b)
+            & is_base_reading(*c)
+            & is_base_reading(*d),
+        _ => false,
     }
-    let a = base[0];
-    let b = base[1];
-    let c = base[2];
-    let d = base[3];
-    is_base_reading(a) & is_base_reading(b) & is_base_reading(c) & is_base_reading(d)
 }
 
 // Whether the reading is in its range, and four base readings are given where the instruction is a new one.
+#[inline(always)]
 fn are_readings(new: bool, kw: Kw, base: &[i32]) -> bool
     ensures { result ≡ are_readings new kw.0 base.now }
 {
@@ -117,67 +107,89 @@ fn base_now(new: bool, s: Totals, base: &[i32]) -> i32
     s.base
 }
 
-// The totals after minute m of instruction n with this reading, over the base load.
-fn advance(month: &[u32], new: bool, s: Totals, n: u32, r: Reading, base: i32) -> Totals
-    requires month_value { (month_fits month.now ≡ true) × (totals_fit s ≡ true) × (n ≤ 64) }
+// The totals after a minute of instruction i with this reading, over the base load. In line, as what it calls in each minute: a step is timed against a
+// plain program's, and a call that moves totals through memory costs a fifth of it.
+#[inline(always)]
+fn advance(i: Called, new: bool, s: Totals, r: Reading, base: i32) -> Totals
+    requires fit { totals_fit s ≡ true }
     requires within { Within 2000000 base × Within 500000 r.kw.0 }
     requires minute_value { (new ≡ false) → (r.minute.0 ≡ s.minute.0 + 1) }
-    ensures { result ≡ advanced month.now new s n r.minute.0 r.kw.0 base }
+    ensures { result ≡ advanced i.entry.month.numbers.now new s i.entry.n r.minute.0 r.kw.0 base }
 {
     let minute = r.minute;
     let kw = r.kw;
     let m = minute.0 as u32;
-    let fresh = new | cut_before(month, n, m);
-    let x = sum_with(fresh, s.expected, expects_at(month, n, m));
-    let d = sum_with(fresh, s.delivered, delivered_in(month[KIND], base, kw));
-    let ends = cut_before(month, n, m + 1);
+    let fresh = new | i.cut_before(m);
+    let x = sum_with(fresh, s.expected, i.expects_at(m));
+    let d = sum_with(
+        fresh,
+        s.delivered,
+        delivered_in(i.month.numbers[KIND], base, kw),
+    );
+    let ends = i.cut_before(m + 1);
     let line = line_kwh(ends, x, d);
-    let paid = line_pence(month, ends, n, m, line);
+    let paid = i.line_pence(ends, m, line);
     let capped = s.capped.plus(line);
     let pence = s.pence.plus(paid);
     Totals {
-        instruction: n,
-        minute: minute,
-        base: base,
+        instruction: i.n,
+        minute,
+        base,
         expected: x,
         delivered: d,
-        capped: capped,
-        pence: pence,
+        capped,
+        pence,
     }
 }
 
-// An answer that is not taken, and the totals as they were.
-fn unstepped(answer: StepAnswer, s: Totals) -> Stepped
-    ensures { result ≡ record { answer = answer; totals = s } }
+// Totals that are no larger than the minutes so far let them be, or unfit ones.
+fn check_totals(s: Totals) -> Result<(), NotStepped>
+    ensures { MatchResult result (λ _. totals_fit s ≡ true) (λ e. (e ≡ NotStepped.Unfit) × (totals_fit s ≡ false)) }
 {
-    Stepped {
-        answer: answer,
-        totals: s,
+    if totals_fit(s) {
+        return Ok(());
     }
+    Err(NotStepped::Unfit)
+}
+
+// The next active minute, or another.
+fn check_next(i: Called, s: Totals, m: u32) -> Result<(), NotStepped>
+    ensures { MatchResult result (λ _. is_next i.entry.month.numbers.now s i.entry.n m ≡ true)
+        (λ e. (e ≡ NotStepped.NotNext) × (is_next i.entry.month.numbers.now s i.entry.n m ≡ false)) }
+{
+    if is_next(i, s, m) {
+        return Ok(());
+    }
+    Err(NotStepped::NotNext)
+}
+
+// The readings that a step needs, or none. In line, as `advance`.
+#[inline(always)]
+fn check_readings(new: bool, kw: Kw, base: &[i32]) -> Result<(), NotStepped>
+    ensures { MatchResult result (λ _. are_readings new kw.0 base.now ≡ true)
+        (λ e. (e ≡ NotStepped.NoReading) × (are_readings new kw.0 base.now ≡ false)) }
+{
+    if are_readings(new, kw, base) {
+        return Ok(());
+    }
+    Err(NotStepped::NoReading)
 }
 
 // The totals after the next active minute: minute and reading of instruction n, and its four base readings where this is its first.
-pub fn step(month: &[u32], s: Totals, n: u32, r: Reading, base: &[i32]) -> Stepped
+pub fn step(
+    month: &[u32],
+    s: Totals,
+    n: u32,
+    r: Reading,
+    base: &[i32],
+) -> Result<Totals, NotStepped>
     ensures { result ≡ step_of month.now s n r base.now }
 {
-    if !(month_fits(month) & totals_fit(s)) {
-        return unstepped(StepAnswer::Unfit, s);
-    }
-    if !number_from_to(1, month[INSTRUCTIONS], n) {
-        return unstepped(StepAnswer::NoInstruction, s);
-    }
-    let minute = r.minute;
-    if !is_next(month, s, n, minute.0 as u32) {
-        return unstepped(StepAnswer::NotNext, s);
-    }
-    let kw = r.kw;
+    let known = Month::of(month)?;
+    check_totals(s)?;
+    let i = known.called(n)?;
+    check_next(i, s, r.minute.0 as u32)?;
     let new = n != s.instruction;
-    if !are_readings(new, kw, base) {
-        return unstepped(StepAnswer::NoReading, s);
-    }
-    let after = advance(month, new, s, n, r, base_now(new, s, base));
-    Stepped {
-        answer: StepAnswer::Taken,
-        totals: after,
-    }
+    check_readings(new, r.kw, base)?;
+    Ok(advance(i, new, s, r, base_now(new, s, base)))
 }

@@ -19,7 +19,7 @@ const LINE_KWH: u64 = limits::KWH_MOST as u64;
 const LINE_PENCE: u64 = LINE_KWH * limits::RATE_MOST as u64 / 1000;
 
 // All zeros before the first step.
-#[derive(Clone, Copy)]
+#[derive(Clone, Copy, Debug, PartialEq, Eq)]
 pub struct Totals {
     // the last step's instruction, from 1, and its minute
     pub instruction: u32,
@@ -35,17 +35,19 @@ pub struct Totals {
 }
 
 // Before the first step.
-pub fn no_totals() -> Totals
-    ensures { result ≡ no_totals }
-{
-    Totals {
-        instruction: 0,
-        minute: Minutes(0),
-        base: 0,
-        expected: 0,
-        delivered: 0,
-        capped: Kwh(0),
-        pence: Pence(0),
+impl Default for Totals {
+    ghost is_default = { λ s. s ≡ no_totals };
+
+    fn default() -> Totals {
+        Totals {
+            instruction: 0,
+            minute: Minutes(0),
+            base: 0,
+            expected: 0,
+            delivered: 0,
+            capped: Kwh(0),
+            pence: Pence(0),
+        }
     }
 }
 

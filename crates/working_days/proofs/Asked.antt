@@ -14,6 +14,7 @@ use Rattle.book.proofs.SoundTests.{contract_is, sound_empty}
 use Rattle.book.proofs.FromCommands.{leads}
 use Rattle.working_days.specs.Days.{day_kind, day_in, day_book}
 use Rattle.working_days.specs.Asked.{Asked·theorem}
+use Rattle.std.specs.Prelude.{Ok}
 
 -- a sound book's day is by its own contract and date, whatever memory is lent
 pub of_book : (b : Book) (meter : Memory) (n : ℕ) (holidays : List ℕ) → sound b ≡ true
@@ -29,4 +30,4 @@ asked size cs meter n holidays =
     let l = leads size cs in
     let b : Book = put_all empty_book (taken size cs) in
     let e : sound b ≡ true = l.follows.stands.sound in
-    (rw e (sym (of_book b meter n holidays e) ∙ of_book b l.meter n holidays e ∙ ap (λ g. day_in g n holidays) l.follows.ledger))
+    (rw e (ap Ok (sym (of_book b meter n holidays e) ∙ of_book b l.meter n holidays e ∙ ap (λ g. day_in g n holidays) l.follows.ledger)))

@@ -1,3 +1,3 @@
-pub mod DayByTests
+pub mod Among
 pub mod Asked
 pub mod Examples

@@ -6,9 +6,10 @@ use Rattle.book_memory.specs.Meter.{Memory}
 use Rattle.book.specs.Book.{empty_book, put_all}
 use Rattle.commands.specs.declared.entries.Command.{Command}
 use Rattle.working_days.specs.Days.{day_in, day_book}
+use Rattle.std.specs.Prelude.{Ok}
 
 -- whatever the commands, the room in lent memory, the memory that is lent now, the day and the holidays
 abbrev pub Asked·theorem : Type 0
 Asked·theorem =
     (size : ℕ) (cs : List Command) (meter : Memory) (n : ℕ) (holidays : List ℕ)
-    → day_book (put_all empty_book (taken size cs)) meter n holidays ≡ day_in (ledger_of (taken size cs)) n holidays
+    → day_book (put_all empty_book (taken size cs)) meter n holidays ≡ Ok (day_in (ledger_of (taken size cs)) n holidays)

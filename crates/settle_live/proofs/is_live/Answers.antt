@@ -1,24 +1,15 @@
--- `settle_live::is_live` meets its contract: the two tests decide, or the instructions do. Assumes nothing.
-use native.Mathlib.Omega.{arith}
-use borrow.Author.Rules.{rules}
-use borrow.Author.Tests.{eq-eqb, ne_eqb, le-leb}
-use Rattle.settle_live.specs.Live.{is_live}
+-- `settle_live::is_live` meets its contract: what the ends exclude, the instructions do. Assumes nothing.
+use Rattle.std.proofs.Common.{◌≡◌, sym, ◌∙◌, ap, true, false, not, ◌&&◌, length, rules, arith}
+use native.Mathlib.Nat.{le_refl}
+use Rattle.settle_live.proofs.Ends.{past_excluded}
+use Rattle.settle_live.specs.Live.{excluded_to, is_live}
 use Rattle.settle_live.proofs.is_live.Goals as goal
 
 pub returns : goal.returns
 unfolding is_live
 returns c =
     let a = c.args in
-    rw (
-      eq-eqb a.w.verdict 0 c.if-w-ne-ACCEPTED.false,
-      le-leb 1 a.recovery.0 (omega (arith, c.if-recovery-eq0.false)),
-      c.excluded.ensures,
-    )
-
-pub returns-then-w-ne-ACCEPTED : goal.returns-then-w-ne-ACCEPTED
-unfolding is_live
-returns-then-w-ne-ACCEPTED c = search (ne_eqb, rules)
-
-pub returns-then-recovery-eq0 : goal.returns-then-recovery-eq0
-unfolding is_live
-returns-then-recovery-eq0 c = rw (eq-eqb _ 0 c.if-w-ne-ACCEPTED.false, c.if-recovery-eq0.true)
+    let same = past_excluded a.instructions.now a.t a.ends.now c.requires.1 a.recovery.0 a.w.start.0 (length a.instructions.now) (omega arith) in
+    let told : c.excluded.result ≡ excluded_to a.instructions.now a.t a.recovery.0 a.w.start.0 (length a.instructions.now) =
+    c.excluded.ensures ∙ rw c.requires.2 same in
+    search (told, rules)

@@ -2,7 +2,7 @@
 -- before line k.
 use mathlib.Core.Path.{◌≡◌}
 use mathlib.Core.List.{◌++◌}
-use Prim.Native.Nat.{◌-◌, ◌*◌, ◌≤◌}
+use Prim.Native.Nat.{◌*◌}
 use lib.ListN.{drop}
 use Rattle.settle_lines.specs.Cursor.{cursor_at, stepped_line}
 use Rattle.settle_numbers.proofs.LinesAsNumbers.{numbers_to}
@@ -10,7 +10,4 @@ use Rattle.settle_numbers.proofs.fill_numbers.Given as goal
 
 abbrev pub invariant-loop-k : goal.invariant-loop-k
 invariant-loop-k l =
-    (l.k ≤ l.n) × (l.c ≡ cursor_at l.t l.times l.live l.meter l.k) × (l.numbers ≡ numbers_to (stepped_line l.t l.times l.live l.meter) l.k ++ drop (8 * l.k) l.initial.numbers)
-
-abbrev pub decreases-loop-k : goal.decreases-loop-k
-decreases-loop-k l = l.n - l.k
+    (l.c ≡ cursor_at l.t l.instructions l.live l.meter l.k) × (l.numbers ≡ numbers_to (stepped_line l.t l.instructions l.live l.meter) l.k ++ drop (8 * l.k) l.initial.numbers)

@@ -1,6 +1,5 @@
 -- `settle_numbers::settle_numbers` meets its contract: `prepare` decides before a number is written, `fill_numbers` stores the lines, and `sum_up` adds
 -- their sums to the answer.
-use mathlib.Core.Path.{sym}
 use Rattle.settle_numbers.proofs.LinesAsNumbers.{settles}
 use Rattle.settle_numbers.proofs.settle_numbers.Goals as goal
 
@@ -15,7 +14,3 @@ returns c =
     let f = c.fill_numbers-sums in
     let done = settles p.args.numbers.now p.prepare-p.ensures _ f.result _ f.ensures.value f.ensures.numbers_after c.sum_up.ensures in
     record { value = done.0; numbers_after = done.1 }
-
--- the table of live periods has the length that `prepare` promises
-pub slice_bounds-fill_numbers-end-2 : goal.slice_bounds-fill_numbers-end-2
-slice_bounds-fill_numbers-end-2 c = sym c.prepare-p.ensures.size

@@ -1,28 +1,26 @@
--- `Book::agree` meets its contract: a contract has no conditions of its own, so a number up to 15 decides alone; without one its span fits both
+-- `Book::agree` meets its contract: a contract has no conditions of its own, so what the book refuses decides alone; else its span fits both
 -- memories.
-use mathlib.Core.Path.{◌≡◌, refl, ◌∙◌}
+use mathlib.Core.Path.{refl}
 use native.Mathlib.Omega.{arith}
 use Prim.Native.Nat.{◌≤◌}
 use borrow.Author.Tests.{ltb-false}
-use Rattle.commands.specs.declared.entries.Command.TheVariants.{Contract as contractᶜ}
+use Rattle.commands.specs.declared.entries.Command.TheVariants.{Contract as command}
+use Rattle.commands.proofs.Outcomes.{outcome_taken}
 use Rattle.rules.specs.Ledger.{span_of}
 use Rattle.book_memory.specs.Meter.{lent, room_in}
 use Rattle.book_memory.proofs.Lengths.{room_cells, room_revisions}
-use Rattle.book.proofs.Refusals.{any_of, contract_own}
-use Rattle.book.proofs.EnteringByNumbers.{Past, past_any, any_refuses, own_takes}
+use Rattle.book.proofs.Refusals.{contract_own}
+use Rattle.book.proofs.Asked.{Past, by_book, past_book, by_own, refused_to, taken_to}
 use Rattle.book.proofs.Book.agree.Goals as goal
-use Rattle.book.proofs.Book.agree.Goals.{After-any_refusal-met, Else-met-ne0}
+use Rattle.book.proofs.Book.agree.Goals.{In_default}
 
--- the number up to 15
-any : (c : After-any_refusal-met) → let s = c.args in
-    c.any_refusal-met.result ≡ any_of s.self (room_in (lent s.meter.now s.revisions.now)) (contractᶜ s.k)
-any c = c.any_refusal-met.ensures ∙ (rw (c.span_of-span.ensures, c.room_of.ensures, c.requires.0, c.requires.1))
-
-past : (c : Else-met-ne0) → let s = c.args in Past s.self (room_in (lent s.meter.now s.revisions.now)) (contractᶜ s.k)
-past c = past_any _ _ _ _ (any c.before) c.if-met-ne0.false
+past : (c : In_default) → let s = c.args in Past s.self (room_in (lent s.meter.now s.revisions.now)) (command s.k)
+past c =
+    past_book _ _ (command c.args.k) (outcome_taken _ c.requires.1) c.requires.0
+    (rw (c.span_of-span.ensures, c.room_of.ensures) at (c.in_default.ensures {u = tt}))
 
 -- the span that both memories have room for
-span_fits : (c : Else-met-ne0) → c.span_of-span.result ≤ room_in (lent c.args.meter.now c.args.revisions.now)
+span_fits : (c : In_default) → c.span_of-span.result ≤ room_in (lent c.args.meter.now c.args.revisions.now)
 span_fits c =
     rw c.span_of-span.ensures
     (ltb-false (room_in (lent c.args.meter.now c.args.revisions.now)) (span_of c.args.k) (past c).enough)
@@ -37,11 +35,18 @@ clear-requires c =
 pub returns : goal.returns
 returns c =
     let s = c.args in
+    let memory = lent s.meter.now s.revisions.now in
+    let p =
+    past_book s.self (room_in memory) (command s.k) (outcome_taken _ c.requires.1) c.requires.0
+    (rw (c.span_of-span.ensures, c.room_of.ensures) at (c.in_default.ensures {u = tt})) in
     rw (c.taken.ensures, c.mark.ensures, c.clear.ensures, c.span_of-span.ensures)
-    (own_takes (past c.before.before.before.before.before.before.before.before.before) (lent s.meter.now s.revisions.now) refl
-    (contract_own s.self (lent s.meter.now s.revisions.now) s.k))
+    (taken_to s.self memory (command s.k) (by_own s.self (room_in memory) (command s.k) p memory refl (outcome_taken _ (contract_own s.self memory s.k))) refl)
 
-pub returns-then-met-ne0 : goal.returns-then-met-ne0
-returns-then-met-ne0 c =
+pub returns-in-Err : goal.returns-in-Err
+returns-in-Err c =
+    let s = c.args in
+    let memory = lent s.meter.now s.revisions.now in
     rw c.refused.ensures
-    (any_refuses _ _ _ _ (any c.before.before) c.if-met-ne0.true (lent c.args.meter.now c.args.revisions.now) refl)
+    (refused_to s.self memory (command s.k)
+    (by_book s.self (room_in memory) (command s.k) (outcome_taken _ c.requires.1) c.requires.0
+    (rw (c.span_of-span.ensures, c.room_of.ensures) at (c.in-Err.ensures {u = tt})) memory refl) refl)

@@ -1,21 +1,27 @@
--- `Book::enter_close` meets its contract: a close has no conditions of its own, so a number up to 15 decides alone.
+-- `Book::enter_close` meets its contract: a close has no operands and no conditions of its own, so what the book refuses decides alone.
 use mathlib.Core.Path.{◌≡◌, refl}
+use Rattle.std.specs.Prelude.{Ok}
 use Rattle.commands.specs.Input.{first_met, input_refusal}
-use Rattle.commands.specs.declared.entries.Command.TheVariants.{Close as closeᶜ}
-use Rattle.book.proofs.Refusals.{any_of, close_own}
-use Rattle.book.proofs.EnteringByNumbers.{first_number, past_any, any_refuses, own_takes}
+use Rattle.commands.specs.Refusals.{outcome}
+use Rattle.commands.specs.declared.entries.Command.TheVariants.{Close as command}
+use Rattle.commands.proofs.Outcomes.{outcome_taken}
+use Rattle.rules.specs.Answer.{Answer}
+use Rattle.book.proofs.Refusals.{close_own}
+use Rattle.book.proofs.Asked.{by_book, past_book, by_own, refused_at, taken_at}
 use Rattle.book.proofs.Book.enter_close.Goals as goal
-use Rattle.book.proofs.Book.enter_close.Goals.{After-first_refusal-met}
 
--- the number up to 15
-any : (c : After-first_refusal-met) → let at = c.args in c.first_refusal-met.result ≡ any_of at.self at.room closeᶜ
-unfolding input_refusal first_met
-any c = first_number _ _ closeᶜ _ 0 _ c.first_refusal-met.ensures refl c.requires
+no_input : ◌≡◌ {A = Answer} (Ok tt) (outcome (input_refusal command))
+unfolding input_refusal first_met outcome
+no_input = refl
+
+pub returns-in-Err : goal.returns-in-Err
+returns-in-Err c =
+    rw c.refused.ensures
+    (refused_at c.args.self c.args.room command (λ meter q. by_book c.args.self c.args.room command no_input c.requires (c.in-Err.ensures {u = tt}) meter q) refl)
 
 pub returns : goal.returns
 returns c =
-    let met = c.before.before in
-    rw c.taken.ensures (λ m q. own_takes (past_any _ _ _ _ (any met) c.if-met-ne0.false) m q (close_own met.args.self m))
-
-pub returns-then-met-ne0 : goal.returns-then-met-ne0
-returns-then-met-ne0 c = rw c.refused.ensures (any_refuses _ _ _ _ (any c.before.before) c.if-met-ne0.true)
+    let p = past_book c.args.self c.args.room command no_input c.requires (c.in_default.ensures {u = tt}) in
+    rw c.taken.ensures
+    (taken_at c.args.self c.args.room command
+    (λ meter q. by_own c.args.self c.args.room command p meter q (outcome_taken _ (close_own c.args.self meter))) refl (λ m. refl))

@@ -1,9 +1,7 @@
--- `book_refusal::ready_after` meets its contract.
-use borrow.Author.Tests.{ne_eqb}
+-- `book_refusal::ready_after` meets its contract: the last instruction decides.
+use Rattle.std.proofs.Common.{sym}
+use Rattle.book_refusal.proofs.Last.{recovered_read}
 use Rattle.book_refusal.proofs.instructions.ready_after.Goals as goal
 
-pub returns : goal.returns
-returns c = rw (c.end_of.ensures.0, c.requires, ne_eqb _ 0 c.if-n-eq0.false)
-
-pub returns-then-n-eq0 : goal.returns-then-n-eq0
-returns-then-n-eq0 c = rw c.if-n-eq0.true
+pub returns-in-Some : goal.returns-in-Some
+returns-in-Some c = rw (c.end_of.ensures.0, c.requires, recovered_read c.args.k c.args.instructions.now c.in-Some.last.now (sym c.in-Some.ensures.value))

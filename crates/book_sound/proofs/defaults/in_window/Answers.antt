@@ -1,28 +1,14 @@
--- `book_sound::defaults::in_window` meets its contract: the columns of windows in order are in order, and what is found in them is in the table.
-use borrow.Author.Rules.{rules}
-use mathlib.Core.Path.{◌≡◌}
-use Prim.Native.Nat.{◌≤◌}
-use native.Mathlib.Omega.{arith}
-use lib.ListN.{length}
-use Rattle.rules.proofs.Folds.{length_mapped}
-use Rattle.book_sound.proofs.Search.{ordered, in_table}
+-- `book_sound::defaults::in_window` meets its contract: of windows in order only the last that starts by a minute can hold it.
+use Rattle.std.proofs.Common.{leb, rules}
+use Rattle.std.proofs.lemmas.List.Sorted.{IsPartitionPoint-from_clause}
+use Rattle.commands.specs.declared.entries.Window.{Window}
+use Rattle.book_sound.proofs.Search.{parted, last-says}
 use Rattle.book_sound.proofs.defaults.in_window.Goals as goal
-use Rattle.book_sound.proofs.defaults.in_window.Goals.{Start}
-
--- the windows in use are of the table
-room : (c : Start) → c.args.n ≤ length c.args.windows
-room c = let cells : length c.args.windows ≡ 128 = search (length_mapped, rules) in omega (arith, c.requires.0)
-
-pub in_columns-requires : goal.in_columns-requires
-in_columns-requires c =
-    let at = c.before.before.before.before in (
-      at.requires.0,
-      rw (c.starts_of-starts.ensures, c.ends_of-ends.ensures)
-          (ordered at.args.windows at.args.n (room at) at.requires.1),
-    )
 
 pub returns : goal.returns
 returns c =
-    let at = c.before.before.before.before.before in
-    let columns = rw (c.starts_of-starts.ensures, c.ends_of-ends.ensures) at c.in_columns.ensures in
-    in_table at.args.windows at.args.n (room at) at.args.m.0 _ columns
+    let m = c.args.m.0 in
+    let point = IsPartitionPoint-from_clause (λ (w : Window). leb w.start.0 m) _ _ c.partition_point-started.ensures.partitioned (parted c.requires m)
+    (λ a r q h. search rules) in
+    last-says c.requires m _ c.last.result c.is_some_and.result c.partition_point-started.ensures.bound point c.last.ensures.value c.is_some_and.ensures
+    (λ w h. search rules)

@@ -8,6 +8,3 @@ use Rattle.calendar.proofs.week.before_month.Given as goal
 abbrev pub invariant-loop-m : goal.invariant-loop-m
 invariant-loop-m l =
     (1 ≤ l.m) × (l.m ≤ max 1 l.month) × (l.days ≡ sum_ℕ (days_of l.year) (between 1 l.m)) × (l.days ≤ 31 * (l.m - 1))
-
-abbrev pub decreases-loop-m : goal.decreases-loop-m
-decreases-loop-m l = l.month - l.m

@@ -8,6 +8,3 @@ use Rattle.calendar.proofs.week.before_year.Given as goal
 abbrev pub invariant-loop-y : goal.invariant-loop-y
 invariant-loop-y l =
     (2007 ≤ l.y) × (l.y ≤ max 2007 l.year) × (l.days ≡ sum_ℕ year_days (between 2007 l.y)) × (l.days ≤ 366 * (l.y - 2007))
-
-abbrev pub decreases-loop-y : goal.decreases-loop-y
-decreases-loop-y l = l.year - l.y

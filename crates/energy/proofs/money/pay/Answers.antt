@@ -10,7 +10,7 @@ use mir.Syntax.{w64}
 use mir.Val.{SFits}
 use mir.Facts.{to_z-of_z}
 use Rattle.energy.specs.Answers.{paid_for}
-use Rattle.energy.specs.declared.money.Paid.TheVariants.{Pays}
+use Rattle.std.specs.Prelude.{Ok}
 use Rattle.energy.proofs.Integers.{le_z-true}
 use Rattle.energy.proofs.Tests.{on_and}
 use Rattle.energy.proofs.money.pay.Goals as goal
@@ -37,7 +37,7 @@ payment_pence-requires c =
 
 pub returns-then-k-rate : goal.returns-then-k-rate
 unfolding paid_for
-returns-then-k-rate c = rw (inside c.before) (ap (λ p. Pays (record { 0 = p })) c.payment_pence.ensures.0)
+returns-then-k-rate c = rw (inside c.before) (ap (λ p. Ok (record { 0 = p })) c.payment_pence.ensures.0)
 
 pub returns : goal.returns
 unfolding paid_for

@@ -12,7 +12,7 @@ use mir.Val.{SFits}
 use mir.Facts.{to_z-of_z}
 use Rattle.energy.specs.Answers.{paid_for_period}
 use Rattle.energy.specs.Number.{Upto}
-use Rattle.energy.specs.declared.money.Paid.TheVariants.{Pays}
+use Rattle.std.specs.Prelude.{Ok}
 use Rattle.energy.proofs.Integers.{abs-parts, le_z-true}
 use Rattle.energy.proofs.Tests.{on_and}
 use Rattle.energy.proofs.money.pay_period.Goals as goal
@@ -53,7 +53,7 @@ period_pence-requires c = let t = told c.before in (t.kw-inside, t.rate, t.p)
 
 pub returns-then-power-rate : goal.returns-then-power-rate
 unfolding paid_for_period
-returns-then-power-rate c = rw (inside c.before) (ap (λ p. Pays (record { 0 = p })) c.period_pence.ensures.0)
+returns-then-power-rate c = rw (inside c.before) (ap (λ p. Ok (record { 0 = p })) c.period_pence.ensures.0)
 
 pub returns : goal.returns
 unfolding paid_for_period

@@ -1,82 +1,61 @@
 -- `file_read::decode::read_at` meets its contract: each of its answers is one of the four things that can be found at a position.
-use mathlib.Core.Path.{◌≡◌, sym, ◌∙◌}
+use mathlib.Core.Path.{◌≡◌, sym}
 use mathlib.Core.List.{List}
-use mathlib.Core.Option.{some}
+use mathlib.Core.Option.{Option}
 use Prim.Native.Nat.{ℕ, ◌+◌, ◌-◌, ◌≤◌, ◌<◌}
 use native.Mathlib.Omega.{arith}
-use lib.ListN.{length, get_or, take, drop}
-use lib.Seq.{get_or-drop}
-use Rattle.rules.specs.File.{table, widths_of, total, operands, command_of, read_as, read_at}
-use Rattle.rules.specs.declared.file.Read.{Read}
-use Rattle.rules.specs.declared.file.Read.TheVariants.{Refused}
-use Rattle.file_table.specs.Table.{padded, row_for, byte_widths}
-use Rattle.file_table.specs.Operands.{Narrow, Sized}
+use lib.ListN.{length, get_or, take, drop, length-drop}
+use lib.Seq.{get_or-drop, take_all}
+use Rattle.commands.specs.declared.entries.Command.{Command}
+use Rattle.rules.specs.File.{operands, command_of, read_as, read_at}
 use Rattle.file_table.specs.declared.table.Row.{Row}
+use Rattle.file_table.specs.Table.{RowOf}
+use Rattle.file_table.specs.Operands.{padded}
+use Rattle.file_table.proofs.Operands.{command_padded, operands_sized}
+use Rattle.file_table.proofs.Rows.{row_narrow}
 use Rattle.file_read.proofs.Finds.{ended, unknown, short, entire-reads, found_reads}
-use Rattle.file_table.proofs.Operands.{get_d_padded, command_padded, operand_below}
-use Rattle.file_table.proofs.Rows.{row_widths, row-none, row-some, row-length, row_narrow}
-use Rattle.file_table.proofs.Words.{Bytes}
 use Rattle.file_read.proofs.decode.read_at.Goals as goal
+use Rattle.commands.specs.declared.refusal.Refusal.TheVariants.{CutOff}
+use Rattle.std.specs.Prelude.{Err}
 
--- the widths of the byte at a position
-abbrev ws : List ℕ → ℕ → List ℕ
-ws s at = byte_widths (get_or s at 0)
+-- what stands behind the byte
+rest : (s : List ℕ) (k : ℕ) → take (length s - k) (drop k s) ≡ drop k s
+rest s k = take_all (length s - k) (drop k s) (omega (arith, length-drop k s))
 
 -- a position before the end, and the row of its byte
-module _ (s : List ℕ) (at : ℕ) (inside : at < length s) (row : Row) (is : row ≡ row_for (get_or s at 0)) where
-  not_there : row.length ≡ 0 → Refused 1 ≡ read_at s at
-  not_there h = sym (found_reads (unknown inside (row-none (get_or s at 0) (rw is at h))))
+module _ (s : List ℕ) (at : ℕ) (row : Row) (inside : at < length s) (is : RowOf (get_or s at 0) row) where
+  too_short : length s - at < row.length → Err CutOff ≡ read_at s at
+  too_short h = sym (found_reads (short inside is.widths (rw is.length at h)))
 
-  module _ (there : row.length ≡ 0 → ⊥) where
-    known : widths_of (get_or s at 0) table ≡ some (ws s at)
-    known = row-some (get_or s at 0) (rw is at there)
-
-    long : row.length ≡ 1 + total (ws s at)
-    long = rw is (row-length (get_or s at 0) (rw is at there))
-
-    too_short : length s - at < row.length → Refused 2 ≡ read_at s at
-    too_short h = sym (found_reads (short inside known (rw long at h)))
-
-    -- room for the whole command
-    module _ (room : row.length ≤ length s - at) where
-      asked : Narrow row.count row.widths × (at + 1 + total (take row.count row.widths) ≤ length s)
-      asked = rw is (row_narrow (get_or s at 0), rw row_widths (omega (arith, long)))
-
-      module _ (v : List ℕ) (read : v ≡ padded (operands (take row.count row.widths) (drop (at + 1) s))) where
-        holds : v ≡ padded (operands (ws s at) (drop (at + 1) s))
-        holds = rw (is, row_widths (get_or s at 0)) at read
-
-        fits : Bytes s → Sized (get_or s at 0) v
-        fits h = record { sized = λ k. rw (holds, get_d_padded) (operand_below (ws s at) (drop (at + 1) s) (λ j. rw get_or-drop (h (at + 1 + j))) k) }
-
-        got : (r : Read) → r ≡ read_as (command_of (get_or s at 0) v) (at + row.length) → r ≡ read_at s at
-        got r e = e ∙ rw (holds, command_padded, long) (entire-reads s at inside (ws s at) known (rw long at room))
+  -- whatever a whole command says
+  whole : {v : List ℕ} {o : Option Command} → row.length ≤ length s - at → v ≡ padded (operands row.widths.now (take (length s - (at + 1)) (drop (at + 1) s)))
+      → command_of (get_or s at 0) v ≡ o
+      → read_as o (at + row.length) ≡ read_at s at
+  whole room read e = rw (← e, read, rest s (at + 1), command_padded, is.length) (entire-reads s at inside row.widths.now is.widths (rw is.length at room))
 
 pub returns-then-s-at : goal.returns-then-s-at
 returns-then-s-at c = sym (found_reads (ended c.if-s-at.true))
 
-pub returns-then-length-eq0 : goal.returns-then-length-eq0
-returns-then-length-eq0 c = not_there _ _ c.if-s-at.false _ c.row_of-row.ensures c.if-length-eq0.true
+pub returns-in_default : goal.returns-in_default
+returns-in_default c = sym (found_reads (unknown c.if-s-at.false c.in_default.ensures))
 
 pub returns-then-s-at-2 : goal.returns-then-s-at-2
-returns-then-s-at-2 c =
-    too_short _ _ c.if-s-at.false _ c.row_of-row.ensures c.if-length-eq0.false
-    c.if-s-at-2.true
+returns-then-s-at-2 c = too_short _ _ _ c.if-s-at.false c.in-Some.ensures (rw c.from-length.ensures at c.if-s-at-2.true)
 
-pub operands_at-v-requires : goal.operands_at-v-requires
-operands_at-v-requires c =
-    let both = asked c.args.s.now _ c.if-s-at.false _ c.row_of-row.ensures c.if-length-eq0.false c.if-s-at-2.false in
-    record { narrow = both.0; widths_in_bounds = both.1 }
+pub operands_in-v-requires-clause-narrow : goal.operands_in-v-requires-clause-narrow
+operands_in-v-requires-clause-narrow c = row_narrow _ _ c.in-Some.ensures.widths
 
 pub command_of-requires : goal.command_of-requires
 command_of-requires c =
-    fits _ _ c.if-s-at.false _
-    c.row_of-row.ensures c.if-length-eq0.false
-    c.if-s-at-2.false _ c.operands_at-v.ensures
-    (λ k. (c.shared_slice_known-1.given k).fits)
+    λ widths e. let is = c.in-Some.ensures.widths in
+    let same : widths ≡ c.in-Some.row.widths.now = cc in
+    rw (same, c.operands_in-v.ensures, rest c.args.s.now (c.args.at + 1)) (operands_sized _ _ (λ j. rw get_or-drop (c.type_inv.s (c.args.at + 1 + j)).fits))
 
-pub returns : goal.returns
-returns c =
-    got _ _ c.if-s-at.false _
-    c.row_of-row.ensures c.if-length-eq0.false
-    c.if-s-at-2.false _ c.operands_at-v.ensures _ c.command_of.ensures
+pub returns-in-Some-command_of : goal.returns-in-Some-command_of
+returns-in-Some-command_of c =
+    rw c.from-length.ensures
+    (whole _ _ _ c.if-s-at.false c.in-Some.ensures (rw c.from-length.ensures at c.if-s-at-2.false) c.operands_in-v.ensures c.in-Some-command_of.ensures)
+
+pub returns-in-None : goal.returns-in-None
+returns-in-None c =
+    whole _ _ _ c.if-s-at.false c.in-Some.ensures (rw c.from-length.ensures at c.if-s-at-2.false) c.operands_in-v.ensures c.in-None.ensures

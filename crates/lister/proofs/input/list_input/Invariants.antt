@@ -8,10 +8,12 @@ use Rattle.lister.proofs.input.list_input.Given as goal
 
 abbrev pub invariant-loop-piece : goal.invariant-loop-piece
 invariant-loop-piece g l =
-    (sound l.e.book ≡ true) × (l.kept ≤ length l.buffer) × (length l.buffer ≡ length l.initial.buffer) × (length l.meter ≡ length l.initial.meter)
-    × (length l.revisions ≡ length l.initial.revisions)
-    × (l.rows ≡ l.initial.rows)
-    × SoFar (lent l.initial.meter l.initial.revisions) l.e (lent l.meter l.revisions) (take l.kept l.buffer)
+    record {
+      keeps : sound l.e.book ≡ true;
+      fits : l.kept ≤ length l.buffer;
+      no_rows : l.rows ≡ l.initial.rows;
+      so_far : SoFar (lent l.initial.meter l.initial.revisions) l.e (lent l.meter l.revisions) (take l.kept l.buffer);
+    }
 
 abbrev pub decreases-loop-piece : goal.decreases-loop-piece
 decreases-loop-piece g l = most_taken (room_in (lent l.initial.meter l.initial.revisions)) - l.e.offset

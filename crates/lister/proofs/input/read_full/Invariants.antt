@@ -1,9 +1,9 @@
--- The buffer keeps its length, and what was read is inside it.
-use Rattle.std.proofs.Common.{length, ◌-◌, ◌≡◌, ◌≤◌}
+-- What was read is inside the buffer.
+use Rattle.std.proofs.Common.{length, ◌-◌, ◌≤◌}
 use Rattle.lister.proofs.input.read_full.Given as goal
 
 abbrev pub invariant-loop-done : goal.invariant-loop-done
-invariant-loop-done g l = (l.done ≤ length l.buffer) × (length l.buffer ≡ length l.initial.buffer)
+invariant-loop-done g l = l.done ≤ length l.buffer
 
 abbrev pub decreases-loop-done : goal.decreases-loop-done
 decreases-loop-done g l = length l.initial.buffer - l.done

@@ -4,7 +4,7 @@ use mir.Syntax.{w64}
 use mir.Val.{SFits}
 use mir.Facts.{to_z-of_z}
 use Rattle.lister_rows.specs.Rows.{line_row}
-use Rattle.lister_rows.proofs.Digits.{count-length, signed_length}
+use Rattle.lister_rows.proofs.Digits.{count-length, decimal_digits, decimal_signed, signed_length}
 use Rattle.lister_rows.proofs.Appending.{row_put}
 use Rattle.lister_rows.proofs.rows.line_row.Goals as goal
 
@@ -12,11 +12,12 @@ pub returns : goal.returns
 unfolding line_row
 returns c =
     let l = c.args.l in
+    let instruction = decimal_digits l.instruction (omega arith) in
+    let period = decimal_digits l.period (omega arith) in
     let expected : SFits w64 l.expected.0 = omega arith in
     let delivered : SFits w64 l.delivered.0 = omega arith in
     let capped : SFits w64 l.capped.0 = omega arith in
     let pence : SFits w64 l.pence.0 = omega arith in
-    let put =
     row_put _ _ (omega (
       arith,
       count-length l.instruction (omega arith),
@@ -28,17 +29,18 @@ returns c =
     ))
     (rw (
       c.put-2.ensures,
-      c.amount-4.ensures,
-      c.amount-3.ensures,
-      c.amount-2.ensures,
-      c.amount.ensures,
+      c.number-6.ensures,
+      c.number-5.ensures,
+      c.number-4.ensures,
+      c.number-3.ensures,
       c.letter-2.ensures,
       c.letter.ensures,
-      c.count-2.ensures,
-      c.count.ensures,
+      c.number-2.ensures,
+      c.number.ensures,
       c.put.ensures,
       c.empty.ensures,
       c.rate_letter-rate.ensures,
       c.stage_letter-stage.ensures,
-    ) (simp (to_z-of_z, expected, delivered, capped, pence))) in
-    record { value = put.0; counted = put.1 }
+      instruction,
+      period,
+    ) (simp (to_z-of_z, expected, delivered, capped, pence, decimal_signed)))

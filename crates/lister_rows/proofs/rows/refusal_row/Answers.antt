@@ -1,17 +1,18 @@
 -- Each call puts a field behind the last, and there is room for all of them.
 use native.Mathlib.Omega.{arith}
 use Rattle.lister_rows.specs.Rows.{refusal_row}
-use Rattle.lister_rows.proofs.Digits.{digits-length}
+use Rattle.lister_rows.proofs.Digits.{count-length, decimal_digits, digits-length}
 use Rattle.lister_rows.proofs.Appending.{row_put}
 use Rattle.lister_rows.proofs.rows.refusal_row.Goals as goal
 
 pub returns : goal.returns
 unfolding refusal_row
 returns c =
-    let put =
+    let a = c.args in
+    let number = decimal_digits a.number (omega (arith, c.ranges.number)) in
+    let offset = decimal_digits a.offset (omega (arith, c.ranges.offset)) in
     row_put _ _ (omega (
       arith,
-      digits-length c.args.number 2 (omega (arith, c.ranges.number)),
-      digits-length c.args.offset 19 (omega (arith, c.ranges.offset)),
-    )) (rw (c.put-2.ensures, c.count-2.ensures, c.count.ensures, c.put.ensures, c.empty.ensures)) in
-    record { value = put.0; counted = put.1 }
+      count-length a.number (omega (arith, c.ranges.number)),
+      digits-length a.offset 19 (omega (arith, c.ranges.offset)) (omega (arith, c.ranges.offset)),
+    )) (rw (c.put-2.ensures, c.number-2.ensures, c.number.ensures, c.put.ensures, c.empty.ensures, number, offset))

@@ -4,7 +4,7 @@ use mir.Syntax.{w64}
 use mir.Val.{SFits}
 use mir.Facts.{to_z-of_z}
 use Rattle.lister_rows.specs.Rows.{totals_row}
-use Rattle.lister_rows.proofs.Digits.{signed_length}
+use Rattle.lister_rows.proofs.Digits.{decimal_signed, signed_length}
 use Rattle.lister_rows.proofs.Appending.{row_put}
 use Rattle.lister_rows.proofs.rows.totals_row.Goals as goal
 
@@ -16,7 +16,6 @@ returns c =
     let utilisation : SFits w64 s.utilisation.0 = omega arith in
     let availability : SFits w64 s.availability.0 = omega arith in
     let total : SFits w64 s.total.0 = omega arith in
-    let put =
     row_put _ _ (omega (
       arith,
       signed_length s.capped.0 capped,
@@ -25,11 +24,10 @@ returns c =
       signed_length s.total.0 total,
     )) (rw (
       c.put-2.ensures,
-      c.amount-4.ensures,
-      c.amount-3.ensures,
-      c.amount-2.ensures,
-      c.amount.ensures,
+      c.number-4.ensures,
+      c.number-3.ensures,
+      c.number-2.ensures,
+      c.number.ensures,
       c.put.ensures,
       c.empty.ensures,
-    ) (simp (to_z-of_z, capped, utilisation, availability, total))) in
-    record { value = put.0; counted = put.1 }
+    ) (simp (to_z-of_z, capped, utilisation, availability, total, decimal_signed)))

@@ -1,58 +1,70 @@
 -- `settle::prepare::lay_out` meets its contract. What it stands on does not look at the readings, so cells for the span stand in, without revisions.
 -- Assumes nothing.
-use mathlib.Core.Path.{refl, ◌∙◌}
-use mathlib.Core.List.{[]}
-use Prim.Native.Nat.{ℕ}
-use native.Mathlib.Omega.{arith}
-use lib.IntN.{pos}
-use lib.ListN.{replicate, length-replicate}
-use borrow.Author.Rules.{rules}
-use Rattle.book_memory.specs.Meter.{lent}
+use Rattle.std.proofs.Common.{◌≡◌, refl, ◌∙◌, true, [], ℕ, ◌≤◌, length, pos, nat_abs, replicate, arith, rules}
+use Rattle.std.proofs.lemmas.List.{length-replicate}
+use Rattle.book_memory.specs.Meter.{Memory, lent}
 use Rattle.book.specs.Book.{book_cells}
+use Rattle.book.specs.Sound.{Shaped, sound}
+use Rattle.book.specs.declared.Book.{Book}
 use Rattle.settle_terms.specs.Terms.{period_places, terms_of}
 use Rattle.rules.proofs.Folds.{length_mapped}
 use Rattle.book.proofs.SoundBook.{sound_book}
+use Rattle.settle_live.proofs.Marks.{live_first, windows_first}
 use Rattle.settle_availability.proofs.Defaults.{unmarked_zeros}
-use Rattle.settle.proofs.BookPlan.{Grounds, cleared, kw_upto, windows-fit, spans, placed}
+use Rattle.settle.proofs.BookPlan.{Grounds, cleared, kw_upto, windows-fit, available, available_same}
 use Rattle.settle.proofs.prepare.lay_out.Goals as goal
-use Rattle.settle.proofs.prepare.lay_out.Goals.{Start}
 
-grounds : (s : Start) → Grounds s.args.b s.args.times (lent (replicate (book_cells s.args.b) (pos 0)) [])
-grounds s =
-    record {
-      sound = sound_book s.args.b s.requires.0 s.requires.1;
-      agreed = s.requires.1;
-      -- what is known of the defaults lies past the records that a search enters
-      shape = search (length_mapped, s.well_formed.0.1.1.1.1.1.1.1.1, rules);
-      cells = omega (arith, length-replicate (book_cells s.args.b) (pos 0));
-      timed = s.requires.3;
-    }
+-- cells for the span stand in for the readings, which nothing here looks at
+grounds : (b : Book) → sound b ≡ true → b.agreed ≡ true → Shaped b → Grounds b (lent (replicate (book_cells b) (pos 0)) [])
+grounds b S A shape =
+    record { sound = sound_book b S A; agreed = A; shape = shape; cells = omega (arith, length-replicate (book_cells b) (pos 0)) }
+
+-- windows and defaults stand in the book's arrays
+room : {b : Book} {readings : Memory} → Grounds b readings → b.nwindows ≤ length b.windows
+room G = omega (arith, G.shape.windows, G.sound.counts.0)
+
+pub shared_ref_as_front-windows : goal.shared_ref_as_front-windows
+shared_ref_as_front-windows c = (sound_book c.args.b.now c.requires.0 c.requires.1).counts.0
+
+pub shared_ref_as_front-instructions : goal.shared_ref_as_front-instructions
+shared_ref_as_front-instructions c = (sound_book c.args.b.now c.requires.0 c.requires.1).counts.1
+
+pub shared_ref_as_front-availability : goal.shared_ref_as_front-availability
+shared_ref_as_front-availability c = (sound_book c.args.b.now c.requires.0 c.requires.1).counts.2
 
 pub mark_live-requires : goal.mark_live-requires
 mark_live-requires c =
-    let s = c.before.before.before.before.before.before.before in
-    record { cleared = rw s.requires.2 (cleared (grounds s)); windows = (windows-fit (grounds s), unmarked_zeros period_places) }
+    let r = c.requires in
+    let G = grounds c.args.b.now r.0 r.1 r.3 in
+    record { cleared = rw r.2 (cleared G); windows = (windows_first _ _ (room G) (windows-fit G), unmarked_zeros period_places) }
 
 pub availability-e-requires : goal.availability-e-requires
 unfolding terms_of
 availability-e-requires c =
-    let s = c.before.before.before.before.before.before.before.before.before.before in
-    let r = c.mark_live in
-    let g = (grounds s).sound in
-    let size = r.ensures.1 ∙ length-replicate {A = ℕ} period_places 0 in record {
-      spans = (spans (grounds s), size, placed (grounds s) size (rw s.requires.2 at r.ensures.0), g.counts.2);
-      upto = (rw s.requires.2 (kw_upto (grounds s)), g.contract.availability);
+    let r = c.requires in
+    let G = grounds c.args.b.now r.0 r.1 r.3 in
+    let m = c.mark_live.ensures in
+    let size = m.1 ∙ length-replicate {A = ℕ} period_places 0 in
+    let live = live_first _ _ (room G) (rw r.2 at m.0) in
+    record {
+      spans = available G size live;
+      upto = (rw r.2 (kw_upto G), G.sound.contract.availability);
     }
 
 pub returns : goal.returns
 returns c =
-    let r = c.mark_live.ensures in
+    let r = c.requires in
+    let m = c.mark_live.ensures in
+    let G = grounds c.args.b.now r.0 r.1 r.3 in
+    let size = m.1 ∙ length-replicate {A = ℕ} period_places 0 in
+    let live = live_first _ _ (room G) m.0 in
+    let same = available_same G size (rw r.2 at live) (nat_abs c.args.t.kw.0) c.args.b.now.contract.availability in
     record {
       lines = refl;
       terms = refl;
-      times = refl;
-      size = r.1 ∙ length-replicate {A = ℕ} period_places 0;
-      live = r.0;
-      settlement = rw (c.unsummed_of-statement.ensures, c.availability-e.ensures.0) refl;
-      small = rw c.unsummed_of-statement.ensures c.availability-e.ensures.1;
+      instructions = refl;
+      size = size;
+      live = live;
+      settlement = rw (c.unsummed_of.ensures, c.availability-e.ensures.0, same) refl;
+      small = rw c.unsummed_of.ensures c.availability-e.ensures.1;
     }

@@ -1,71 +1,45 @@
 -- `settle_availability::paid::entries_of` meets its contract. The invariant: the entries and the periods are those of the first i windows. Assumes nothing.
-use mathlib.Core.Path.{◌≡◌, refl}
-use Prim.Native.Nat.{◌*◌, ◌≤◌, ◌<◌}
+use mathlib.Core.Path.{◌≡◌, refl, ◌∙◌}
+use mathlib.Core.Bool.{Bool, cond, not}
+use mathlib.Core.List.{List}
+use Prim.Native.Nat.{ℕ, ◌+◌, ◌-◌, ◌*◌, ◌/◌, ◌≤◌, ◌<◌}
 use native.Mathlib.Nat.{mul-le-mul}
 use native.Mathlib.Numerals.{add-one}
 use native.Mathlib.Omega.{arith}
+use lib.Dec.{eqb}
+use lib.ListN.{length, get_or, take, drop}
+use Rattle.std.specs.List.{count_by}
+use Rattle.commands.specs.declared.entries.Window.{Window}
+use Rattle.rules.specs.Ledger.{no_window}
 use Rattle.settle_terms.specs.Terms.{most_periods}
-use Rattle.settle_availability.specs.Paid.{entries_by}
+use Rattle.settle_availability.specs.Paid.{entries_by, marked, paid_periods_by}
+use Rattle.settle_availability.proofs.Defaults.{counted_places}
 use Rattle.settle_availability.proofs.paid.entries_of.Goals as goal
 
-pub loop-i-init : goal.loop-i-init
-loop-i-init c = (omega arith, refl, refl, omega arith)
-
-pub number_at-requires : goal.number_at-requires
-number_at-requires c =
-    let s = c.before in
-    let l = c.loop-i in
-    let h : l.i < s.args.n = omega arith in
-    omega (arith, c.place_of-from.ensures, s.requires.0.order l.i h, s.requires.0.inside l.i h, s.requires.2)
-
-pub paid_periods-k-requires : goal.paid_periods-k-requires
-paid_periods-k-requires c =
-    let s = c.before in
-    let l = c.loop-i in
-    let h : l.i < s.args.n = omega arith in
-    let o = s.requires.0.order l.i h in
-    let i = s.requires.0.inside l.i h in
-    let a = c.place_of-from.ensures in
-    let b = c.place_of-to.ensures in
-    (omega (arith, a, b, o), omega (arith, b, i), omega (arith, b, i, s.requires.1), s.requires.3)
-
-pub entry_of-a-requires : goal.entry_of-a-requires
-entry_of-a-requires c =
-    (c.paid_periods-k.ensures.1, c.requires.4)
-
-pub overflow_add-total : goal.overflow_add-total
-overflow_add-total c =
-    omega (
-      arith,
-      c.requires.0.few,
-      c.paid_periods-k.ensures.1,
-      c.loop-i.invariant.3,
-    )
+-- the paid periods of window i, from what is reached of its places
+periods : (live : List ℕ) (reached : List Bool) (w : Window) (i n from to k : ℕ) → n ≡ get_or live from 0 → from ≡ w.start.0 / 30 → to ≡ w.end.0 / 30
+    → from ≤ to → to ≤ length reached → k ≡ cond (eqb n (i + 1)) (count_by not (take (to - from) (drop from reached))) 0
+    → k ≡ paid_periods_by live (marked reached) w i
+periods live reached w i n from to k en ef et h l e = e ∙ rw (counted_places not reached from to h l, en, ef, et, add-one i) refl
 
 pub loop-i-preserved : goal.loop-i-preserved
 loop-i-preserved c =
     let l = c.loop-i in
-    let k = c.paid_periods-k.ensures in
-    let p = rw (
-      c.number_at.ensures,
-      c.place_of-from.ensures,
-      c.place_of-to.ensures,
-      add-one l.i,
-    ) at k.0 in (
-      omega arith,
-      rw (c.entry_of-a.ensures, p, l.invariant.1, add-one l.i),
-      rw (l.invariant.2, p, add-one l.i),
-      omega (arith, k.1),
+    let h : l.i < length c.args.windows.now = omega arith in
+    let from = c.place_of-from.ensures in
+    let to = c.place_of-to.ensures in
+    let o = c.requires.0.order l.i h in
+    let p = periods c.args.live.now c.args.reached.now (get_or c.args.windows.now l.i no_window) l.i _ _ _ _ c.number_at.ensures from to (omega (arith, from, to, o))
+    (omega (arith, to, c.requires.0.inside l.i h, c.requires.1)) c.paid_periods-k.ensures.0 in (
+      rw (c.entry_of.ensures, p, l.invariant.0, add-one l.i),
+      rw (l.invariant.1, p, add-one l.i),
+      omega (arith, c.paid_periods-k.ensures.1),
     )
-
-pub times-pence-requires : goal.times-pence-requires
-times-pence-requires c = let s = c.before in (s.requires.4, omega (arith, s.requires.0.few, c.loop-i.invariant))
 
 pub returns : goal.returns
 unfolding entries_by
 returns c =
-    let s = c.before in
     let l = c.loop-i in
-    let e : l.i ≡ s.args.n = omega arith in
-    let h : l.total ≤ most_periods * 128 = omega (arith, s.requires.0.few, l.invariant) in
-    (rw (c.times-pence.ensures, l.invariant.1, l.invariant.2, e), rw c.times-pence.ensures (omega (arith, mul-le-mul h s.requires.4.0)))
+    let e : l.i ≡ length c.args.windows.now = omega arith in
+    let h : l.total ≤ most_periods * 128 = omega (arith, c.requires.0.few, l.invariant) in
+    (rw (c.times-pence.ensures, l.invariant.0, l.invariant.1, e), rw c.times-pence.ensures (omega (arith, mul-le-mul h c.requires.4.0)))

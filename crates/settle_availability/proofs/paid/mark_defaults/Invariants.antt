@@ -1,13 +1,10 @@
--- `settle_availability::paid::mark_defaults` meets its contract. The invariant: the tables are those of the first i defaults. Assumes nothing.
+-- `settle_availability::paid::mark_defaults` meets its contract. The invariant: the tables are those of the defaults before this one. Assumes nothing.
 use mathlib.Core.Path.{◌≡◌}
-use Prim.Native.Nat.{◌-◌, ◌≤◌}
 use lib.ListN.{length}
 use Rattle.settle_availability.specs.Paid.{DefaultsMarked}
 use Rattle.settle_availability.proofs.paid.mark_defaults.Given as goal
 
-abbrev pub invariant-loop-i : goal.invariant-loop-i
-invariant-loop-i l =
-    (l.i ≤ l.n) × (length l.reached ≡ length l.initial.reached) × (length l.counted ≡ length l.initial.counted) × DefaultsMarked l.live l.windows l.defaults l.i l.reached l.counted
-
-abbrev pub decreases-loop-i : goal.decreases-loop-i
-decreases-loop-i l = l.n - l.i
+abbrev pub invariant-loop-d : goal.invariant-loop-d
+invariant-loop-d l =
+    DefaultsMarked l.live l.windows l.defaults l.d-index l.reached l.counted × (length l.reached ≡ length l.initial.reached)
+    × (length l.counted ≡ length l.initial.counted)

@@ -1,14 +1,11 @@
 -- `settle_records::lent::settle` meets its contract: `prepare` decides before a record is written, and each turn stores the line of the segment that comes
--- next. The invariant: k lines are stored, and the cursor is the one before line k. Assumes nothing.
-use mathlib.Core.Path.{◌≡◌}
-use Prim.Native.Nat.{◌-◌, ◌≤◌}
-use Rattle.settle_lines.specs.Cursor.{cursor_at, stepped_line, stored}
+-- next. The invariant: as many lines are stored, and the cursor is the one before the next. Assumes nothing.
+use Rattle.std.proofs.Common.{◌≡◌}
+use Rattle.settle_lines.specs.Cursor.{stored}
+use Rattle.settle.specs.Prepared.{prepared_cursor, prepared_line}
 use Rattle.settle_records.proofs.lent.settle.Given as goal
 
-abbrev pub invariant-loop-k : goal.invariant-loop-k
-invariant-loop-k l =
-    (l.k ≤ l.p.lines) × (l.c ≡ cursor_at l.p.terms l.lent_times l.lent_live l.meter l.k)
-    × (l.lines ≡ stored (stepped_line l.p.terms l.lent_times l.lent_live l.meter) l.k l.initial.lines)
-
-abbrev pub decreases-loop-k : goal.decreases-loop-k
-decreases-loop-k l = l.p.lines - l.k
+abbrev pub invariant-loop-slot : goal.invariant-loop-slot
+invariant-loop-slot l =
+    (l.c ≡ prepared_cursor l.fn.b l.p l.meter l.slot-index)
+    × (l.slot-items ≡ stored (prepared_line l.fn.b l.p l.meter) l.slot-index l.initial.slot-items)

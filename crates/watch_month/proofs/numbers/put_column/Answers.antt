@@ -1,33 +1,20 @@
 -- `watch_month::numbers::put_column` meets its contract. The invariant: the times of the first j instructions are laid. Assumes nothing.
-use mathlib.Core.Path.{◌≡◌}
-use native.Mathlib.Omega.{arith}
-use lib.ListN.{length}
-use Rattle.watch_month.specs.MonthBy.{column_by}
-use Rattle.watch_month.proofs.Laying.{fill_none, filled_long, fill_next}
+use Rattle.std.proofs.Common.{◌≡◌, ◌∙◌, arith}
+use Rattle.watch_month.proofs.Laying.{column_is, fill_none, fill_next}
+use borrow.Author.Tests.{lt-ltb, le-ltb}
 use Rattle.watch_month.proofs.numbers.put_column.Goals as goal
-use Rattle.watch_month.proofs.numbers.put_column.Lts as lts
-use Rattle.watch_month.proofs.numbers.put_column.Reads as reads
-use Rattle.watch_month.proofs.numbers.put_column.Tie as tie
-
-abbrev At-loop-j : Type 0
-At-loop-j = lts.At-loop tie.the-claims reads.Pre reads.Post goal.the-invariant-loop-j goal.the-decreases-loop-j
+use Rattle.watch_month.proofs.numbers.put_column.Goals.{then-j-instructions, else-j-instructions}
 
 pub loop-j-init : goal.loop-j-init
-loop-j-init c = (omega arith, fill_none _ _ _)
-
--- the memory's length stays
-kept : (c : At-loop-j) → length c.loop-j.month ≡ length c.args.month.now
-kept c = filled_long c.loop-j.invariant.1 (omega arith)
+loop-j-init g c f h = fill_none _ _ _
 
 pub loop-j-preserved : goal.loop-j-preserved
-loop-j-preserved c = let l = c.loop-j in (omega arith, fill_next l.invariant.1 (omega arith) c.time_of.ensures)
+loop-j-preserved g c f h =
+    fill_next (c.loop-j.invariant f h) (omega arith) (elim c.if-j-instructions.branch [
+      | then-j-instructions w ↦ rw (lt-ltb _ _ w.if-j-instructions.true) (w.month-is ∙ h _ _ w.time.ensures)
+      | else-j-instructions w ↦ rw (le-ltb _ _ w.if-j-instructions.false) w.month-is
+    ])
 
 pub returns : goal.returns
-unfolding column_by
-returns c = let e : c.loop-j.j ≡ 64 = omega arith in rw e at c.loop-j.invariant.1.laid.holds
-
-pub bounds-month-column : goal.bounds-month-column
-bounds-month-column c = omega (arith, kept c.before.before.before)
-
-pub shape_of-month : goal.shape_of-month
-shape_of-month c = kept c.before.before
+returns g c f h =
+    let e : c.loop-j.j ≡ 64 = omega arith in rw (← column_is f c.args.instructions.now c.requires.room.1) (rw e at (c.loop-j.invariant f h).laid.holds)

@@ -4,9 +4,5 @@ use Rattle.watch_month.proofs.numbers.put_month.Goals as goal
 
 pub returns : goal.returns
 returns c =
-    let periods = c.before.before.before in
-    let times = periods.before.before.before.before in
-    let figures = times.before.before.before.before in
-    let s = figures in
-    month_laid_lem s.args.t s.args.times.now s.args.live.now s.args.month.now s.requires.0 figures.put_figures.ensures
-    times.put_times.ensures periods.put_periods.ensures
+    let a = c.args in
+    month_laid_lem a.t a.instructions.now c.requires.2 a.live.now a.month.now c.requires.0 c.put_figures.ensures c.put_times.ensures c.put_periods.ensures

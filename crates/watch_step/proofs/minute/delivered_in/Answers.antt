@@ -11,7 +11,6 @@ use Rattle.energy.specs.Energy.{delivers}
 use Rattle.energy.specs.Number.{Within}
 use Rattle.energy.proofs.Integers.{arith_ℤ, diff_parts, mul-parts, fits_parts}
 use Rattle.watch_step.proofs.minute.delivered_in.Goals as goal
-use Rattle.watch_step.proofs.minute.delivered_in.Goals.{Start}
 
 abbrev above : ℤ → ℤ → ℤ
 above S r = pos 4 *ℤ r -ℤ S
@@ -43,9 +42,6 @@ fit S r hs hr =
       turned = omega (arith_ℤ, diff_parts S (pos 4 *ℤ r));
     }
 
-abbrev fitted : (s : Start) → Fit s.args.base s.args.kw.0
-fitted s = fit s.args.base s.args.kw.0 s.requires.0 s.requires.1
-
 -- what a minute delivers, by the kind
 generated : (kind : ℕ) (S r : ℤ) → kind ≡ 0 → above S r ≡ delivers kind S r
 generated kind S r e = rw (eq-eqb kind 0 e) refl
@@ -53,27 +49,14 @@ generated kind S r e = rw (eq-eqb kind 0 e) refl
 reduced : (kind : ℕ) (S r : ℤ) → (kind ≡ 0 → ⊥) → S -ℤ pos 4 *ℤ r ≡ delivers kind S r
 reduced kind S r e = rw (ne_eqb kind 0 e) refl
 
-pub overflow_cast-above : goal.overflow_cast-above
-overflow_cast-above c = let f = fitted c.before.before in simp (to_z-of_z, f.f64) f.f32
-
-pub overflow_mul-above : goal.overflow_mul-above
-overflow_mul-above c = let f = fitted c.before.before in simp (to_z-of_z, f.f64, f.f32) f.f4
-
-pub overflow_sub-above : goal.overflow_sub-above
-overflow_sub-above c = let f = fitted c.before.before in simp (to_z-of_z, f.f64, f.f32, f.f4, f.fs) f.fa
-
 pub returns-then-kind-eq0 : goal.returns-then-kind-eq0
 returns-then-kind-eq0 c =
-    let s = c.before.before.before in
-    let f = fitted s in
-    simp (to_z-of_z, f.f64, f.f32, f.f4, f.fs, f.fa) (generated s.args.kind s.args.base s.args.kw.0 c.if-kind-eq0.true, f.most.0)
-
-pub overflow_sub-result : goal.overflow_sub-result
-overflow_sub-result c = let f = fitted c.before.before.before in simp (to_z-of_z, f.f64, f.f32, f.f4, f.fs, f.fa) f.fz
+    let a = c.args in
+    let f = fit a.base a.kw.0 c.requires.0 c.requires.1 in
+    simp (to_z-of_z, f.f64, f.f32, f.f4, f.fs, f.fa) (generated a.kind a.base a.kw.0 c.if-kind-eq0.true, f.most.0)
 
 pub returns : goal.returns
 returns c =
-    let s = c.before.before.before in
-    let f = fitted s in
-    simp (to_z-of_z, f.f64, f.f32, f.f4, f.fs, f.fa, f.fz)
-    (f.turned ∙ reduced s.args.kind s.args.base s.args.kw.0 c.if-kind-eq0.false, f.most.1)
+    let a = c.args in
+    let f = fit a.base a.kw.0 c.requires.0 c.requires.1 in
+    simp (to_z-of_z, f.f64, f.f32, f.f4, f.fs, f.fa, f.fz) (f.turned ∙ reduced a.kind a.base a.kw.0 c.if-kind-eq0.false, f.most.1)

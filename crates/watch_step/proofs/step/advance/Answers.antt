@@ -17,9 +17,8 @@ use Rattle.energy.proofs.Tests.{off_or}
 use Rattle.watch_step.specs.Month.{kind_at, expiry_at, cease_at, end_at}
 use Rattle.watch_step.specs.Step.{advanced, cut_before, expects_at, price_at, totals_fit}
 use Rattle.watch_step.specs.declared.totals.Totals.{Totals}
-use Rattle.watch_step.proofs.Fits.{month-fit, TotalsFit, totals_fit_lem}
+use Rattle.watch_step.proofs.Fits.{TotalsFit, totals_fit_lem}
 use Rattle.watch_step.proofs.step.advance.Goals as goal
-use Rattle.watch_step.proofs.step.advance.Goals.{Start}
 
 -- ---- the sums
 -- a segment that goes on into a minute has had 29 at most
@@ -115,40 +114,31 @@ so_far s f =
       delivered = fits_parts w32 s.delivered (omega (arith, f.delivered));
     }
 
-pub cut_before-requires : goal.cut_before-requires
-cut_before-requires c = ((month-fit c.args.month.now c.requires.month_value.0).long, c.requires.month_value.2)
-
 pub sum_with-x-requires : goal.sum_with-x-requires
 sum_with-x-requires c =
     let a = c.args in
-    let t = totals_fit_lem a.s c.requires.month_value.1 in
+    let t = totals_fit_lem a.s c.requires.fit in
     let f = so_far a.s t in
     let r = c.expects_at in
     let small = within-up 2000000 r.result r.ensures.1 in (
       λ e. held 116000000 a.s.expected f.expected
           (wider 58000000 116000000 a.s.expected (omega arith)
-          (within-up 58000000 a.s.expected (room a.month.now a.s a.n a.r.minute.0 a.new c.cut_before.result t c.requires.minute_value c.cut_before.ensures e).0)),
+          (within-up 58000000 a.s.expected (room a.i.month.numbers.now a.s a.i.n a.r.minute.0 a.new c.cut_before.result t c.requires.minute_value c.cut_before.ensures e).0)),
       held 4000000 r.result (record { sfits = r.type_inv }) (wider 2000000 4000000 r.result (omega arith) small),
     )
-
-pub bounds-month-1 : goal.bounds-month-1
-bounds-month-1 c = omega (arith, month-fit c.args.month.now c.requires.month_value.0)
 
 pub sum_with-d-requires : goal.sum_with-d-requires
 sum_with-d-requires c =
     let a = c.args in
-    let t = totals_fit_lem a.s c.requires.month_value.1 in
+    let t = totals_fit_lem a.s c.requires.fit in
     let f = so_far a.s t in
     let r = c.delivered_in in (
       λ e. held 116000000 a.s.delivered f.delivered
-          (room a.month.now a.s a.n a.r.minute.0 a.new c.cut_before.result t c.requires.minute_value c.cut_before.ensures e).1,
+          (room a.i.month.numbers.now a.s a.i.n a.r.minute.0 a.new c.cut_before.result t c.requires.minute_value c.cut_before.ensures e).1,
       held 4000000 r.result (record { sfits = r.type_inv }) r.ensures.1,
     )
 
 -- what each sum is, and how large
-pub cut_before-ends-requires : goal.cut_before-ends-requires
-cut_before-ends-requires c = ((month-fit c.args.month.now c.requires.month_value.0).long, c.requires.month_value.2)
-
 both : (month : List ℕ) (s : Totals) (n m : ℕ) (new cut : Bool) (p q x d : ℤ) → totals_fit s ≡ true → (new ≡ false → m ≡ s.minute.0 + 1)
     → cut ≡ cut_before month n m → SFits w32 p → SFits w32 q → Upto 2000000 p → Within 4000000 q
     → x ≡ cond (new || cut) (pos 0) (to_z w32 (of_z w32 s.expected)) +ℤ to_z w32 (of_z w32 p)
@@ -166,27 +156,24 @@ line_kwh-line-requires c =
     let d = c.sum_with-d in
     let p = c.expects_at in
     let q = c.delivered_in in
-    let b = both a.month.now a.s a.n a.r.minute.0 a.new c.cut_before.result p.result q.result x.result d.result
-    c.requires.month_value.1 c.requires.minute_value c.cut_before.ensures (record { sfits = p.type_inv })
+    let b = both a.i.month.numbers.now a.s a.i.n a.r.minute.0 a.new c.cut_before.result p.result q.result x.result d.result
+    c.requires.fit c.requires.minute_value c.cut_before.ensures (record { sfits = p.type_inv })
     (record { sfits = q.type_inv }) p.ensures.1 q.ensures.1 x.ensures d.ensures in (
       up-held 60000000 x.result (record { sfits = x.type_inv }) b.expected,
       held 120000000 d.result (record { sfits = d.type_inv }) b.delivered,
     )
 
-pub line_pence-paid-requires : goal.line_pence-paid-requires
-line_pence-paid-requires c = (c.requires.month_value.0, c.requires.month_value.2, c.line_kwh-line.ensures.1)
-
 pub plus-capped-requires : goal.plus-capped-requires
 plus-capped-requires c =
     let s = c.args.s in (
-      (small s (omega arith) (totals_fit_lem s c.requires.month_value.1)).0,
+      (small s (omega arith) (totals_fit_lem s c.requires.fit)).0,
       wider 500000 100000000000000 c.line_kwh-line.result.0 (omega arith) c.line_kwh-line.ensures.1,
     )
 
 pub plus-pence-requires : goal.plus-pence-requires
 plus-pence-requires c =
     let s = c.args.s in (
-      (small s (omega arith) (totals_fit_lem s c.requires.month_value.1)).1,
+      (small s (omega arith) (totals_fit_lem s c.requires.fit)).1,
       wider 500000000 100000000000000 c.line_pence-paid.result.0 (omega arith) c.line_pence-paid.ensures.1,
     )
 
@@ -198,14 +185,14 @@ returns c =
     let p = c.expects_at in
     let q = c.delivered_in in
     let k = c.line_kwh-line in
-    let f = so_far a.s (totals_fit_lem a.s c.requires.month_value.1) in
+    let f = so_far a.s (totals_fit_lem a.s c.requires.fit) in
     let fp : SFits w32 p.result = record { sfits = p.type_inv } in
     let fq : SFits w32 q.result = record { sfits = q.type_inv } in
     let fx : SFits w32 x.result = record { sfits = x.type_inv } in
     let fd : SFits w32 d.result = record { sfits = d.type_inv } in
     let fs : SFits w32 a.base = c.ranges.base in
     rw (to_z-of_z fx, to_z-of_z fd, to_z-of_z fs)
-    (made a.month.now a.new a.s a.n a.r.minute.0 a.r.kw.0 a.base c.cut_before.result
+    (made a.i.month.numbers.now a.new a.s a.i.n a.r.minute.0 a.r.kw.0 a.base c.cut_before.result
     c.cut_before-ends.result p.result q.result x.result d.result
     k.result.0 c.line_pence-paid.result.0 c.plus-capped.result.0 c.plus-pence.result.0 c.cut_before.ensures
     c.cut_before-ends.ensures p.ensures.0

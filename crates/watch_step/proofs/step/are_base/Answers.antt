@@ -5,6 +5,8 @@ use mathlib.Core.List.{List}
 use lib.IntN.{ℤ}
 use lib.ListN.{length}
 use borrow.Author.Tests.{eq-eqb, ne_eqb}
+use native.Mathlib.Omega.{arith}
+use borrow.Author.Rules.{rules}
 use mir.Syntax.{w32}
 use mir.Val.{SFits}
 use mir.Facts.{to_z-of_z}
@@ -23,18 +25,19 @@ four : (base : List ℤ) (a b c d : Bool) → length base ≡ 4 → a ≡ is_rea
 unfolding are_base all between run
 four base a b c d h ea eb ec ed = rw (eq-eqb (length base) 4 h, ea, eb, ec, ed) (simp (and_assoc, and-true))
 
-pub returns-then-base-ne4 : goal.returns-then-base-ne4
-returns-then-base-ne4 c = not-four c.args.base.now c.if-base-ne4.true
+pub returns-in-len4 : goal.returns-in-len4
+returns-in-len4 c =
+    let base = c.args.base.now in
+    let f0 : SFits w32 (cell base 0) = search rules in
+    let f1 : SFits w32 (cell base 1) = search rules in
+    let f2 : SFits w32 (cell base 2) = search rules in
+    let f3 : SFits w32 (cell base 3) = search rules in
+    four base _ _ _ _ (omega arith) (rw (to_z-of_z f0) at c.is_base_reading.ensures)
+    (rw (to_z-of_z f1) at c.is_base_reading-in-len4.ensures) (rw (to_z-of_z f2) at c.is_base_reading-in-len4-2.ensures)
+    (rw (to_z-of_z f3) at c.is_base_reading-in-len4-3.ensures)
 
-pub returns : goal.returns
-returns c =
-    let p = c.before.before.before.before in
-    let e = p in
-    let base = e.args.base.now in
-    let f0 : SFits w32 (cell base 0) = record { sfits = p.a-1.given } in
-    let f1 : SFits w32 (cell base 1) = record { sfits = p.b-1.given } in
-    let f2 : SFits w32 (cell base 2) = record { sfits = p.c-1.given } in
-    let f3 : SFits w32 (cell base 3) = record { sfits = p.d-1.given } in
-    four base _ _ _ _ e.if-base-ne4.false (rw (to_z-of_z f0) at c.is_base_reading.ensures)
-    (rw (to_z-of_z f1) at c.is_base_reading-2.ensures) (rw (to_z-of_z f2) at c.is_base_reading-3.ensures)
-    (rw (to_z-of_z f3) at c.is_base_reading-4.ensures)
+pub returns-in_default : goal.returns-in_default
+returns-in_default c = not-four c.args.base.now (λ e. omega arith)
+
+pub returns-in_default-2 : goal.returns-in_default-2
+returns-in_default-2 c = not-four c.args.base.now (λ e. omega arith)

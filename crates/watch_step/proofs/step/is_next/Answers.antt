@@ -1,5 +1,5 @@
 -- `watch_step::step::is_next` meets its contract: the three cases are the definition's, with the times of the table. Assumes nothing.
-use mathlib.Core.Path.{◌≡◌, sym}
+use mathlib.Core.Path.{◌≡◌, refl, sym}
 use mathlib.Core.Bool.{false, ◌&&◌, ◌||◌, and-false}
 use mathlib.Core.List.{List}
 use Prim.Native.Nat.{ℕ, ◌+◌, ◌≤◌}
@@ -9,9 +9,7 @@ use borrow.Author.Tests.{eq-eqb, ne_eqb}
 use Rattle.watch_step.specs.Month.{start_at, end_at}
 use Rattle.watch_step.specs.Step.{is_next}
 use Rattle.watch_step.specs.declared.totals.Totals.{Totals}
-use Rattle.watch_step.proofs.Fits.{MonthFit, month-fit}
 use Rattle.watch_step.proofs.step.is_next.Goals as goal
-use Rattle.watch_step.proofs.step.is_next.Goals.{Start}
 
 module _ (month : List ℕ) (s : Totals) (n m end : ℕ) (e-end : end ≡ end_at month n) where
   -- of the same instruction
@@ -30,31 +28,14 @@ none : (month : List ℕ) (s : Totals) (n m : ℕ) → n ≤ 64 → 64 ≤ s.ins
 unfolding is_next
 none month s n m h k e = rw (ne_eqb n s.instruction e, ne_eqb n (s.instruction + 1) (λ p. omega arith)) (sym (and-false (ltb m (end_at month n))))
 
-fit : (s : Start) → MonthFit s.args.month.now
-fit s = month-fit s.args.month.now s.requires.0
-
 pub returns-then-n-last : goal.returns-then-n-last
-returns-then-n-last c =
-    let a = c.args in
-    on a.month.now a.s a.n a.m _ c.time_at-end.ensures c.if-n-last.true
+returns-then-n-last c = let a = c.args in on a.i.month.numbers.now a.s a.i.n a.m _ c.time_at-end.ensures c.if-n-last.true
 
 pub returns-then-last-lt-INSTRUCTIONS_MOST : goal.returns-then-last-lt-INSTRUCTIONS_MOST
 returns-then-last-lt-INSTRUCTIONS_MOST c =
-    let e = c.before in
-    let a = e.args in
-    first a.month.now a.s a.n a.m _ e.time_at-end.ensures _ _ e.if-n-last.false c.time_at-start.ensures c.time_at-ended.ensures
+    let a = c.args in
+    first a.i.month.numbers.now a.s a.i.n a.m _ c.time_at-end.ensures _ _ c.if-n-last.false c.time_at-start.ensures refl
 
 pub returns : goal.returns
 returns c =
-    let e = c.before.before in
-    let s = e in
-    none s.args.month.now s.args.s s.args.n s.args.m s.requires.1 c.if-last-lt-INSTRUCTIONS_MOST.false e.if-n-last.false
-
-pub time_at-end-requires : goal.time_at-end-requires
-time_at-end-requires c = let s = c.before.before.before in omega (arith, fit s, s.requires.1)
-
-pub time_at-start-requires : goal.time_at-start-requires
-time_at-start-requires c = let s = c.before.before.before.before.before.before in omega (arith, fit s, s.requires.1)
-
-pub time_at-ended-requires : goal.time_at-ended-requires
-time_at-ended-requires c = let s = c.before.before.before.before.before.before.before in omega (arith, fit s, c.if-last-lt-INSTRUCTIONS_MOST.true)
+    let a = c.args in none a.i.month.numbers.now a.s a.i.n a.m a.i.few c.if-last-lt-INSTRUCTIONS_MOST.false c.if-n-last.false

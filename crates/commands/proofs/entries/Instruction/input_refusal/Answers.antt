@@ -1,8 +1,12 @@
--- `commands::entries::Instruction::input_refusal` meets its contract.
+-- `commands::entries::Instruction::input_refusal` meets its contract. Assumes nothing.
 use mathlib.Core.Path.{refl}
 use mathlib.Core.Bool.{◌&&◌}
-use Rattle.commands.proofs.Input.{input_picked}
+use Rattle.energy.proofs.Ranges.{contains_by, minutes_tested}
+use Rattle.commands.proofs.Input.{input_only}
 use Rattle.commands.proofs.entries.Instruction.input_refusal.Goals as goal
 
 pub returns : goal.returns
-returns c = input_picked _ c.pick.ensures (λ i. c.minutes_from_to.ensures i && c.minutes_from_to-2.ensures i) refl
+returns c =
+    input_only _ c.refuse_if.ensures
+    (λ i. contains_by minutes_tested _ c.new.ensures.start c.new.ensures.end c.new.ensures.exhausted c.contains.ensures.value i && contains_by minutes_tested _ c.new-2.ensures.start c.new-2.ensures.end c.new-2.ensures.exhausted c.contains-2.ensures.value i)
+    refl
