@@ -1,7 +1,6 @@
 -- What a command is answered at a book, from what the code asks one after the other: its own operands, the book, and what is beside it; and the
 -- entry that comes of the answer.
 use mathlib.Core.Path.{◌≡◌, refl, sym, ap, ◌∙◌}
-use mathlib.Core.Logic.{◌≢◌}
 use mathlib.Core.Bool.{Bool, true, false, not, cond}
 use mathlib.Core.Option.{Option, none, some}
 use Prim.Native.Nat.{ℕ, zero, suc, ◌<◌}
@@ -10,6 +9,7 @@ use lib.Dec.{eqb, ltb}
 use lib.ListN.{length}
 use borrow.Author.Tests.{ne_eqb}
 use Rattle.std.specs.Prelude.{Ok, Err}
+use Rattle.std.specs.Result.{IsErrAnd}
 use Rattle.commands.specs.Input.{input_refusal}
 use Rattle.commands.specs.Refusals.{outcome, refusal_of}
 use Rattle.commands.specs.declared.refusal.Refusal.{Refusal}
@@ -18,7 +18,7 @@ use Rattle.commands.proofs.Input.{numbered}
 use Rattle.commands.proofs.Outcomes.{outcome_none}
 use Rattle.rules.specs.Answer.{Answer}
 use Rattle.rules.specs.Ledger.{is_contract}
-use Rattle.rules.specs.Refusal.{answer_of}
+use Rattle.rules.specs.Refusal.{answer_of, refusal}
 use Rattle.rules.proofs.Taken.{Allowed, allowed}
 use Rattle.book_memory.specs.Meter.{put_meter, Memory, room_in}
 use Rattle.book_refusal.specs.Refusals.{any_refusal}
@@ -29,7 +29,7 @@ use Rattle.commands.specs.declared.entries.Window.{Window}
 use Rattle.commands.specs.declared.entries.Instruction.{Instruction}
 use Rattle.commands.specs.declared.entries.Default.{Default}
 use Rattle.commands.specs.declared.entries.Command.TheVariants.{Window as windowᶜ, Instruction as instructionᶜ, Default as defaultᶜ}
-use Rattle.book.specs.Enter.{AnswersTo, AnswersAt, Enters, EntersAt, enter_book, taken_as}
+use Rattle.book.specs.Enter.{AnswersTo, AnswersAt, Enters, EntersAt, enter_book, entry_of, taken_as}
 use Rattle.book.specs.Sound.{sound}
 use Rattle.book.specs.declared.Book.{Book}
 use Rattle.book.proofs.SoundTests.{Tables, sound-parts}
@@ -41,11 +41,31 @@ unfolding outcome
 answer_numbered zero = refl
 answer_numbered (suc n) = refl
 
--- a refusal has a number
-refused_some : {n : ℕ} {e : Refusal} → ◌≡◌ {A = Answer} (Err e) (outcome n) → n ≢ 0
+-- a refusal as it is; where there is none, what is asked next decides
+abbrev pub next_asked : Answer → Answer → Answer
+next_asked (Err e) next = Err e
+next_asked (Ok u) next = next
+
+next_number : (n m : ℕ) → outcome (cond (eqb n 0) m n) ≡ next_asked (outcome n) (outcome m)
 unfolding outcome
-refused_some {n = zero} q = cc
-refused_some {n = suc n} q = λ h. omega arith
+next_number zero m = refl
+next_number (suc n) m = rw (ne_eqb (suc n) 0 (λ q. omega arith)) refl
+
+next_any : (i : ℕ) (s z a f t : Bool) (m : ℕ)
+    → outcome (cond (eqb (any_refusal i s z a f t) 0) m (any_refusal i s z a f t))
+    ≡ next_asked (outcome i) (next_asked (outcome (any_refusal 0 s z a f t)) (outcome m))
+unfolding any_refusal outcome
+next_any zero s z a f t m = next_number (any_refusal 0 s z a f t) m
+next_any (suc i) s z a f t m = let h = ne_eqb (suc i) 0 (λ q. omega arith) in rw (h, h) refl
+
+-- what a command is answered: its own operands are asked first, then the book, then what is beside it
+pub answered : (b : Book) (meter : Memory) (c : Command)
+    → answer_of (refusal (not (sound b)) (room_in meter) (ledger_in b meter) c)
+    ≡ next_asked (outcome (input_refusal c))
+    (next_asked (outcome (any_refusal 0 (sound b) b.closed b.agreed (is_contract c) (ltb (room_in meter) (cells_of b c)))) (outcome (own_of b meter c)))
+answered b meter c =
+    ap answer_of (by_any b meter c) ∙ answer_numbered _
+    ∙ next_any (input_refusal c) (sound b) b.closed b.agreed (is_contract c) (ltb (room_in meter) (cells_of b c)) (own_of b meter c)
 
 -- what is known of a command to a book where neither its operands nor the book refuse it
 pub record Past (b : Book) (room : ℕ) (c : Command) : Type 0 where
@@ -78,24 +98,16 @@ module _ (b : Book) (room : ℕ) (c : Command) where
 
   -- the operands are refused
   pub by_input : {e : Refusal} → ◌≡◌ {A = Answer} (Err e) (outcome (input_refusal c)) → (meter : Memory) → room_in meter ≡ room → AnswersTo b meter c (Err e)
-  unfolding any_refusal
-  by_input e meter q =
-      let h = ne_eqb (input_refusal c) 0 (refused_some e) in
-      e ∙ sym (ap answer_of (by_any b meter c) ∙ answer_numbered _ ∙ rw (h, h) refl)
+  by_input e meter q = sym (answered b meter c ∙ rw (← e) refl)
 
   -- the book refuses it, its operands being in their ranges
   module _ {u : Unit {0}} {s : Bool} (i : ◌≡◌ {A = Answer} (Ok u) (outcome (input_refusal c))) (k : s ≡ sound b) where
-    first_number : any_refusal 0 s b.closed b.agreed (is_contract c) (ltb room (cells_of b c)) ≡ any_of b room c
-    first_number = rw (k, outcome_none (sym i)) refl
-
     pub by_book : {e : Refusal} → ◌≡◌ {A = Answer} (Err e) (outcome (any_refusal 0 s b.closed b.agreed (is_contract c) (ltb room (cells_of b c))))
         → (meter : Memory) → room_in meter ≡ room → AnswersTo b meter c (Err e)
-    by_book e meter q =
-        let f = rw first_number at e in
-        f ∙ sym (ap answer_of (by_any b meter c) ∙ answer_numbered _ ∙ rw (q, ne_eqb (any_of b room c) 0 (refused_some f)) refl)
+    by_book e meter q = sym (answered b meter c ∙ rw (← i, q, ← k, ← e) refl)
 
     pub past_book : {v : Unit {0}} → ◌≡◌ {A = Answer} (Ok v) (outcome (any_refusal 0 s b.closed b.agreed (is_contract c) (ltb room (cells_of b c)))) → Past b room c
-    past_book e = past_any b room c (sym first_number ∙ outcome_none (sym e))
+    past_book e = past_any b room c (sym (rw (k, outcome_none (sym i)) refl) ∙ outcome_none (sym e))
 
   -- then the conditions of its kind decide
   pub by_own : Past b room c → {x : Answer} (meter : Memory) → room_in meter ≡ room → x ≡ outcome (own_of b meter c) → AnswersTo b meter c x
@@ -105,13 +117,18 @@ module _ (b : Book) (room : ℕ) (c : Command) where
 
 module _ (b : Book) (meter : Memory) (c : Command) {a : Answer} (e : AnswersTo b meter c a) where
   -- a refusal changes nothing
-  pub refused_to : {r : Refusal} → a ≡ Err r → Enters b meter c (record { answer = Err r; book = b }) meter
+  refused_to : {r : Refusal} → a ≡ Err r → Enters b meter c (record { answer = Err r; book = b }) meter
   unfolding enter_book
   refused_to {r} f = go (asked b meter c) refl (sym f ∙ e)
     where
       go : (o : Option ℕ) → asked b meter c ≡ o → ◌≡◌ {A = Answer} (Err r) (answer_of o) → Enters b meter c (record { answer = Err r; book = b }) meter
       go none g h = cc
       go (some n) g h = let same : r ≡ refusal_of n = cc in record { entry = rw (g, same) refl; meter = rw g refl }
+
+  -- the same where `?` hands the refusal on
+  pub handed_to : {r : Refusal} {x : Answer} → a ≡ Err r → IsErrAnd x (λ y. y ≡ r) → Enters b meter c (entry_of x b) meter
+  handed_to {x = Ok u} f h = absurd h
+  handed_to {x = Err d} f h = refused_to (f ∙ ap Err (sym h))
 
   module _ {u : Unit {0}} (f : a ≡ Ok u) where
     -- what is not refused is put into both
@@ -139,8 +156,8 @@ module _ (b : Book) (meter : Memory) (c : Command) {a : Answer} (e : AnswersTo b
 
 -- the same of an entry that leaves lent memory as it is
 module _ (b : Book) (room : ℕ) (c : Command) {a : Answer} (e : AnswersAt b room c a) where
-  pub refused_at : {r : Refusal} → a ≡ Err r → EntersAt b room c (record { answer = Err r; book = b })
-  refused_at f meter q = refused_to b meter c (e meter q) f
+  pub handed_at : {r : Refusal} {x : Answer} → a ≡ Err r → IsErrAnd x (λ y. y ≡ r) → EntersAt b room c (entry_of x b)
+  handed_at f h meter q = handed_to b meter c (e meter q) f h
 
   module _ {u : Unit {0}} (f : a ≡ Ok u) where
     pub taken_at : ((meter : Memory) → put_meter meter c ≡ meter) → EntersAt b room c (taken_as (put_book b c))

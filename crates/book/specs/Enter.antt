@@ -5,6 +5,8 @@ use Rattle.rules.specs.Answer.{Answer}
 use Rattle.rules.specs.Refusal.{refusal, answer_of}
 use Rattle.commands.specs.declared.entries.Command.{Command}
 use Rattle.book_memory.specs.Meter.{put_meter, Memory, room_in}
+use Rattle.book_memory.specs.declared.lent.LentMut.{LentMut}
+use Rattle.book_memory.specs.Lent.{held_mut, Same}
 use Rattle.book.specs.Book.{ledger_in, put_book}
 use Rattle.book.specs.Sound.{sound}
 use Rattle.book.specs.declared.Book.{Book}
@@ -15,13 +17,17 @@ pub record Entered : Type 0 where
   pub entry : Entry
   pub meter : Memory
 
+-- an answer, and the book after it
+abbrev pub entry_of : Answer → Book → Entry
+entry_of a b = record { answer = a; book = b }
+
 -- a command was taken, and this is the book after it
 abbrev pub taken_as : Book → Entry
-taken_as b = record { answer = answer_of none; book = b }
+taken_as b = entry_of (answer_of none) b
 
 -- a command was refused under a number, and this is the book as it was
 abbrev pub refused_as : ℕ → Book → Entry
-refused_as n b = record { answer = answer_of (some n); book = b }
+refused_as n b = entry_of (answer_of (some n)) b
 
 -- a command refused under a number changes nothing; one that is not is put into both
 abbrev pub entered_by : Option ℕ → Book → Memory → Command → Entered
@@ -37,7 +43,11 @@ pub record Enters (b : Book) (before : Memory) (c : Command) (e : Entry) (after 
   pub entry : e ≡ (enter_book b before c).entry
   pub meter : after ≡ (enter_book b before c).meter
 
--- the same of an entry that leaves lent memory as it is, whatever memory of that room is lent
+-- what a method promises of memory that is lent to it: it is the caller's two slices still, with memory after the entry in them
+abbrev pub EntersIn : Book → LentMut → Command → Entry → LentMut → Type 0
+EntersIn b before c e after = Enters b (held_mut before) c e (held_mut after) × Same before after
+
+-- the first of an entry that leaves lent memory as it is, whatever memory of that room is lent
 abbrev pub EntersAt : Book → ℕ → Command → Entry → Type 0
 EntersAt b room c e = (meter : Memory) → room_in meter ≡ room → Enters b meter c e meter
 

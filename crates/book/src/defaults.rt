@@ -1,6 +1,6 @@
 // Defaults.
 ghost use Rattle.std.specs.Prelude.{◌≡◌};
-ghost use Rattle.book.specs.Enter.{AnswersAt, EntersAt};
+ghost use Rattle.book.specs.Enter.{AnswersAt, EntersAt, entry_of};
 ghost use Rattle.book.specs.Sound.{sound as sound_of};
 
 use crate::{Book, Entry};
@@ -14,27 +14,27 @@ impl Book {
         ensures { EntersAt self room (Command.Default d) result }
     {
         let sound = self.sound();
-        self.enter_default(sound, d, room)
+        let answer = self.enter_default(sound, d, room);
+        Entry { answer, book: self }
     }
 
     // The same where it is known whether the book is sound.
-    pub(crate) fn enter_default(mut self, sound: bool, d: Default, room: usize) -> Entry
-        requires { sound ≡ sound_of self }
-        ensures { EntersAt self room (Command.Default d) result }
+    pub(crate) fn enter_default(&mut self, sound: bool, d: Default, room: usize) -> Answer
+        requires { sound ≡ sound_of self.old }
+        ensures { EntersAt self.old room (Command.Default d) (entry_of result self.new) }
     {
-        if let Err(refusal) = self.default_asked(sound, d, room) {
-            return self.refused(refusal);
-        }
+        self.default_asked(sound, d, room)?;
         let n = self.ndefaults;
         self.defaults[n] = d;
         self.ndefaults = n + 1;
-        self.taken()
+        Ok(())
     }
 
     // What it is answered.
-    fn default_asked(self, sound: bool, d: Default, room: usize) -> Answer
-        requires { sound ≡ sound_of self }
-        ensures { AnswersAt self room (Command.Default d) result }
+    #[tactic(auto, using(crate::proofs::Asked::answered))]
+    fn default_asked(&self, sound: bool, d: Default, room: usize) -> Answer
+        requires { sound ≡ sound_of self.now }
+        ensures { AnswersAt self.now room (Command.Default d) result }
     {
         d.input_refusal()?;
         self.first_refusal(sound, room)?;

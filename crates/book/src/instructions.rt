@@ -1,6 +1,6 @@
 // Instructions.
 ghost use Rattle.std.specs.Prelude.{◌≡◌};
-ghost use Rattle.book.specs.Enter.{AnswersAt, EntersAt};
+ghost use Rattle.book.specs.Enter.{AnswersAt, EntersAt, entry_of};
 ghost use Rattle.book.specs.Sound.{sound as sound_of};
 
 use crate::{Book, Entry};
@@ -14,27 +14,27 @@ impl Book {
         ensures { EntersAt self room (Command.Instruction i) result }
     {
         let sound = self.sound();
-        self.enter_instruction(sound, i, room)
+        let answer = self.enter_instruction(sound, i, room);
+        Entry { answer, book: self }
     }
 
     // The same where it is known whether the book is sound.
-    pub(crate) fn enter_instruction(mut self, sound: bool, i: Instruction, room: usize) -> Entry
-        requires { sound ≡ sound_of self }
-        ensures { EntersAt self room (Command.Instruction i) result }
+    pub(crate) fn enter_instruction(&mut self, sound: bool, i: Instruction, room: usize) -> Answer
+        requires { sound ≡ sound_of self.old }
+        ensures { EntersAt self.old room (Command.Instruction i) (entry_of result self.new) }
     {
-        if let Err(refusal) = self.instruction_asked(sound, i, room) {
-            return self.refused(refusal);
-        }
+        self.instruction_asked(sound, i, room)?;
         let n = self.ninstructions;
         self.instructions[n] = i;
         self.ninstructions = n + 1;
-        self.taken()
+        Ok(())
     }
 
     // What it is answered.
-    fn instruction_asked(self, sound: bool, i: Instruction, room: usize) -> Answer
-        requires { sound ≡ sound_of self }
-        ensures { AnswersAt self room (Command.Instruction i) result }
+    #[tactic(auto, using(crate::proofs::Asked::answered))]
+    fn instruction_asked(&self, sound: bool, i: Instruction, room: usize) -> Answer
+        requires { sound ≡ sound_of self.now }
+        ensures { AnswersAt self.now room (Command.Instruction i) result }
     {
         i.input_refusal()?;
         self.first_refusal(sound, room)?;

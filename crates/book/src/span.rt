@@ -10,24 +10,24 @@ use calendar::lost;
 impl Book {
     // The span: a March has an hour less than its cells.
     #[tactic(auto, unfolding(crate::specs::Book::book_span, crate::specs::Book::book_cells))]
-    pub fn span(self) -> usize
-        ensures { result ≡ book_span self }
+    pub fn span(&self) -> usize
+        ensures { result ≡ book_span self.now }
     {
         self.cells().saturating_sub(lost(self.date.month))
     }
 
     // The minutes that lent memory must have room for, as 15 asks.
     #[tactic(auto, unfolding(crate::specs::Book::book_cells))]
-    pub fn cells(self) -> usize
-        ensures { result ≡ book_cells self }
+    pub fn cells(&self) -> usize
+        ensures { result ≡ book_cells self.now }
     {
         full_span(self.contract, self.date.month)
     }
 
     // The span in which readings are taken into lent memory with so much room, 0 where none is. Only a contract, a date and a close change it.
     #[tactic(auto, unfolding(crate::specs::Readings::open_span))]
-    pub fn open_span(self, room: usize) -> usize
-        ensures { result ≡ open_span self room }
+    pub fn open_span(&self, room: usize) -> usize
+        ensures { result ≡ open_span self.now room }
     {
         let span = self.span();
         let cells = self.cells();

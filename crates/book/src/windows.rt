@@ -1,6 +1,6 @@
 // Windows.
 ghost use Rattle.std.specs.Prelude.{◌≡◌};
-ghost use Rattle.book.specs.Enter.{AnswersAt, EntersAt};
+ghost use Rattle.book.specs.Enter.{AnswersAt, EntersAt, entry_of};
 ghost use Rattle.book.specs.Sound.{sound as sound_of};
 
 use crate::{Book, Entry};
@@ -14,27 +14,27 @@ impl Book {
         ensures { EntersAt self room (Command.Window w) result }
     {
         let sound = self.sound();
-        self.enter_window(sound, w, room)
+        let answer = self.enter_window(sound, w, room);
+        Entry { answer, book: self }
     }
 
     // The same where it is known whether the book is sound.
-    pub(crate) fn enter_window(mut self, sound: bool, w: Window, room: usize) -> Entry
-        requires { sound ≡ sound_of self }
-        ensures { EntersAt self room (Command.Window w) result }
+    pub(crate) fn enter_window(&mut self, sound: bool, w: Window, room: usize) -> Answer
+        requires { sound ≡ sound_of self.old }
+        ensures { EntersAt self.old room (Command.Window w) (entry_of result self.new) }
     {
-        if let Err(refusal) = self.window_asked(sound, w, room) {
-            return self.refused(refusal);
-        }
+        self.window_asked(sound, w, room)?;
         let n = self.nwindows;
         self.windows[n] = w;
         self.nwindows = n + 1;
-        self.taken()
+        Ok(())
     }
 
     // What it is answered.
-    fn window_asked(self, sound: bool, w: Window, room: usize) -> Answer
-        requires { sound ≡ sound_of self }
-        ensures { AnswersAt self room (Command.Window w) result }
+    #[tactic(auto, using(crate::proofs::Asked::answered))]
+    fn window_asked(&self, sound: bool, w: Window, room: usize) -> Answer
+        requires { sound ≡ sound_of self.now }
+        ensures { AnswersAt self.now room (Command.Window w) result }
     {
         w.input_refusal()?;
         self.first_refusal(sound, room)?;

@@ -3,3 +3,4 @@ pub mod Lengths
 pub mod TakenReading
 pub mod Examples
 pub mod MarkedHour
+pub mod SameSlices

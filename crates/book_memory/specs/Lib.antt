@@ -1,2 +1,3 @@
 pub mod Meter
 pub mod Examples
+pub mod Lent

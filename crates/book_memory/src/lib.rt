@@ -3,8 +3,8 @@
 #![tactic(auto)]
 
 pub mod gained;
+pub mod lent;
 pub mod revisions;
-pub mod room;
 pub mod taking;
 pub mod unread;
 
@@ -28,7 +28,7 @@ pub fn holds_reading(cell: i32) -> bool
     (LEAST <= cell) & (cell <= MOST)
 }
 
-// A minute's cell, which past the end counts as marked.
+// A minute's cell, which past the end counts as marked. So `revision_at` of bytes: one over both would be std's chain with the mark as a third parameter.
 pub(crate) fn cell_at(meter: &[i32], m: Minutes) -> i32
     ensures { result ≡ get_or meter.now m.0 missing }
 {

@@ -7,6 +7,7 @@ use commands::refusal::{Refusal, refuse_if};
 
 // 11 to 15.
 // sound: some list of commands leaves the book; contract: the command is one; short: lent memory has too little room.
+#[tactic(auto, unfolding(crate::specs::Refusals::any_refusal, commands::specs::Refusals::outcome, commands::specs::Refusals::refusal_of))]
 pub fn any_refusal(
     sound: bool,
     closed: bool,

@@ -17,6 +17,7 @@ pub fn cells_for_date(cells: usize, k: Contract, d: Date) -> usize
 }
 
 // 29 and 30, in a book with this date before it, so many windows and instructions, and a reading in its span or none.
+#[tactic(auto, unfolding(crate::specs::Refusals::date_refusal, commands::specs::Refusals::outcome, commands::specs::Refusals::refusal_of))]
 pub fn date_refusal(
     before: Date,
     windows: usize,

@@ -9,7 +9,8 @@ use commands::contract::Contract;
 use commands::entries::{Default, Window};
 use commands::refusal::{Refusal, refuse_if};
 
-// 16, 21 and 23, beside these windows and after the defaults of the table.
+// 16, 21 and 23, beside these windows, whose order is a clause as in `book_sound::defaults`, and after the defaults of the table.
+#[tactic(auto, unfolding(crate::specs::Refusals::default_refusal, commands::specs::Refusals::outcome, commands::specs::Refusals::refusal_of))]
 pub fn default_refusal(
     span: usize,
     windows: &[Window],

@@ -10,6 +10,7 @@ use commands::entries::{Command, Instruction, end_of};
 use commands::refusal::{Refusal, refuse_if};
 
 // 16, 19, 20 and 23, after the instructions of the table.
+#[tactic(auto, unfolding(crate::specs::Refusals::instruction_refusal, commands::specs::Refusals::outcome, commands::specs::Refusals::refusal_of))]
 pub fn instruction_refusal(
     k: Contract,
     span: usize,
@@ -32,6 +33,7 @@ pub fn instruction_refusal(
 }
 
 // The end of the last instruction plus recovery, 0 where there is none.
+#[tactic(auto, using(crate::proofs::Last::recovered_read))]
 fn ready_after(k: Contract, down: u32, instructions: &[Instruction]) -> usize
     requires { down ≡ down_minutes k }
     ensures { result ≡ recovered k instructions.now }

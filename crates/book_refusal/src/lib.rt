@@ -1,4 +1,4 @@
-// What a command meets at a book as one number, 0 for none: each function on the few numbers that it needs of the book.
+// What a command meets at a book: each function on the few things of the book that it needs.
 #![tactic(auto)]
 
 pub mod any;

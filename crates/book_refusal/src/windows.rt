@@ -9,6 +9,7 @@ use commands::refusal::{Refusal, refuse_if};
 use energy::units::Minutes;
 
 // 16, 17, 18 and 23, after the windows of the table.
+#[tactic(auto, using(energy::proofs::Ranges::minutes_before), unfolding(crate::specs::Refusals::window_refusal, commands::specs::Refusals::outcome, commands::specs::Refusals::refusal_of))]
 pub fn window_refusal(
     service: u8,
     span: usize,

@@ -11,6 +11,7 @@ use commands::entries::{Command, Default, Window};
 use energy::units::Minutes;
 
 // Whether a minute is in one of these windows. As they are in order, the last one that starts by then is the only one that can hold it.
+// Order is a clause here and below: a struct of ordered windows would be made of the book's slice anew before each call.
 pub fn in_window(windows: &[Window], m: Minutes) -> bool
     requires { WindowsInOrder 0 windows.now }
     ensures { result ≡ any (λ w. within w m.0) windows.now }

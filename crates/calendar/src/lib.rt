@@ -66,7 +66,8 @@ pub fn is_leap(year: u16) -> bool
     (year % 4 == 0) & (!(year % 100 == 0) | (year % 400 == 0))
 }
 
-// The days of a month, 0 for a month that no year has.
+// The days of a month, 0 for a month that no year has: a number and no `Option`, since no day is within 0.
+#[tactic(auto, unfolding(crate::specs::Calendar::days_of))]
 pub fn days_of(year: u16, month: u8) -> u8
     ensures { result ≡ days_of year month }
 {
@@ -80,6 +81,7 @@ pub fn days_of(year: u16, month: u8) -> u8
 }
 
 // The minutes that a month gains as clocks go back.
+#[tactic(auto, unfolding(crate::specs::Calendar::gained_in))]
 pub fn gained(month: u8) -> usize
     ensures { result ≡ gained_in month }
 {
@@ -91,6 +93,7 @@ pub fn gained(month: u8) -> usize
 }
 
 // The minutes that a month loses as clocks go on.
+#[tactic(auto, unfolding(crate::specs::Calendar::lost_in))]
 pub fn lost(month: u8) -> usize
     ensures { result ≡ lost_in month }
 {

@@ -33,6 +33,8 @@ fn before_month(year: u16, month: u8) -> usize
     days
 }
 
+// A name and no `From<Date> for usize`, which would not say from which day on these are counted.
+#[tactic(auto, unfolding(crate::specs::Calendar::day_number))]
 pub(crate) fn day_number(year: u16, month: u8, day: u8) -> usize
     ensures { result ≡ day_number year month day }
 {

@@ -1,22 +1,22 @@
 -- Laws of the refusals from the input: how they come out as one number, and the offer for it.
 use mathlib.Core.Path.{◌≡◌, refl, sym, ap, ◌∙◌}
 use mathlib.Core.Logic.{◌≢◌}
-use mathlib.Core.Bool.{Bool, true, false, not, ◌&&◌, ◌||◌, cond, and-false}
+use mathlib.Core.Bool.{Bool, true, false, not, ◌&&◌, ◌||◌, cond}
 use mathlib.Core.List.{List, [], ◌∷◌, ◌++◌}
 use mathlib.Core.Option.{Option, none, some}
-use Prim.Native.Nat.{ℕ, zero, suc, ◌≤◌, ◌<◌}
+use Prim.Native.Nat.{ℕ, zero, suc}
 use native.Mathlib.Omega.{arith}
-use lib.Dec.{T, eqb, leb, ltb}
-use borrow.Author.Tests.{ne_eqb, le-leb, lt-leb}
+use lib.Dec.{T, eqb, ltb}
+use borrow.Author.Tests.{ne_eqb}
 use Rattle.energy.proofs.Tests.{T_and}
-use Rattle.commands.specs.Input.{from_to, in_range, ramp_too_long, bad_window, no_such_date, Condition, input_conditions, first_met, input_refusal, or_zero}
+use Rattle.commands.specs.Input.{in_range, ramp_too_long, bad_window, no_such_date, Condition, input_conditions, first_met, input_refusal, or_zero}
 use Rattle.commands.specs.Input.{offer_for, offer_of}
 use Rattle.commands.specs.declared.contract.Contract.{Contract}
 use Rattle.commands.specs.declared.refusal.Refusal.{Refusal}
 use Rattle.commands.specs.declared.refusal.Refusal.TheVariants.{OutOfRange}
 use Rattle.commands.proofs.Outcomes.{Answered, outcome_ok}
 use Rattle.commands.specs.Refusals.{outcome, refusal_of}
-use Rattle.std.specs.Prelude.{Ok, Err, is_ok}
+use Rattle.std.specs.Prelude.{Result, Ok, Err, is_ok}
 use Rattle.commands.specs.declared.entries.Command.{Command}
 use Rattle.commands.specs.declared.entries.Command.TheVariants.{Contract as contractᶜ}
 
@@ -121,30 +121,20 @@ input_none c = ap (λ n. eqb n 0) (input_cond c) ∙ go (in_range c) (ramp_too_l
 pub input_ok : (c : Command) → is_ok (outcome (input_refusal c)) ≡ (in_range c && (not (ramp_too_long c) && not (no_such_date c || bad_window c)))
 input_ok c = outcome_ok (input_refusal c) ∙ input_none c
 
--- ---- an operand against its range
-
-pub inside : (a b n : ℕ) → a ≤ n → n ≤ b → true ≡ from_to a b n
-inside a b n h k = rw (le-leb a n h, le-leb n b k)
-
-pub below : (a b n : ℕ) → n < a → false ≡ from_to a b n
-below a b n h = rw (lt-leb a n h)
-
-pub above : (a b n : ℕ) → b < n → false ≡ from_to a b n
-above a b n h = rw (lt-leb n b h) (sym (and-false (leb a n)))
-
 -- ---- what is answered for a number
 
-pub offer_agreed : (k : Contract) → input_refusal (contractᶜ k) ≡ 0 → Ok k ≡ offer_of k
-unfolding offer_of
-offer_agreed k e = sym (ap (offer_for k) (input_number (contractᶜ k) ∙ ap numbered e))
+-- the contract where its operands are taken, or their refusal
+abbrev pub offered : Contract → Answered → Result Contract Refusal
+offered k (Ok u) = Ok k
+offered k (Err e) = Err e
 
-pub offer_refused : (k : Contract) (r : Refusal) → Err r ≡ outcome (input_refusal (contractᶜ k)) → Err r ≡ offer_of k
+pub offer_is : (k : Contract) → offer_of k ≡ offered k (outcome (input_refusal (contractᶜ k)))
 unfolding offer_of outcome
-offer_refused k r e = rw (input_number (contractᶜ k)) (go (input_refusal (contractᶜ k)) e)
+offer_is k = rw (input_number (contractᶜ k)) (go (input_refusal (contractᶜ k)))
   where
-    go : (n : ℕ) → Err r ≡ outcome n → Err r ≡ offer_for k (numbered n)
-    go zero q = cc
-    go (suc n) q = cc
+    go : (n : ℕ) → offer_for k (numbered n) ≡ offered k (outcome n)
+    go zero = refl
+    go (suc n) = refl
 
 -- a contract that is agreed to has no number, and is the one that was offered
 pub offer_agrees : (k a : Contract) → offer_of k ≡ Ok a → (k ≡ a) × (input_refusal (contractᶜ k) ≡ 0)

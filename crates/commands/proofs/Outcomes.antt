@@ -116,30 +116,6 @@ numbered_as NoSuchDate = refl
 numbered_as LateDate = refl
 numbered_as OtherMonth = refl
 
--- ---- conditions one after the other, each answered for by `refuse_if`, against the number of the first that holds
-
--- the first of them holds
-pub stopped_at : {b t : Bool} (r : Refusal) (n m : ℕ) {e : Refusal} → ◌≡◌ {A = Answered} (Err e) (cond b (Err r) (Ok tt)) → b ≡ t → outcome n ≡ Err r
-    → Err e ≡ outcome (cond t n m)
-stopped_at {b = true} {t = true} r n m e f g = e ∙ sym g
-stopped_at {b = true} {t = false} r n m e f g = cc
-stopped_at {b = false} r n m e f g = cc
-
--- it does not: those after it decide
-pub gone_past : {b t : Bool} (r : Refusal) (n m : ℕ) {u : Unit {0}} {x : Answered} → ◌≡◌ {A = Answered} (Ok u) (cond b (Err r) (Ok tt)) → b ≡ t → x ≡ outcome m
-    → x ≡ outcome (cond t n m)
-gone_past {b = true} r n m e f g = cc
-gone_past {b = false} {t = true} r n m e f g = cc
-gone_past {b = false} {t = false} r n m e f g = g
-
--- there is none after it
-pub ended_at : {b t : Bool} (r : Refusal) (n : ℕ) {x : Answered} → x ≡ cond b (Err r) (Ok tt) → b ≡ t → outcome n ≡ Err r → x ≡ outcome (cond t n 0)
-unfolding outcome
-ended_at {b = true} {t = true} r n e f g = e ∙ sym g
-ended_at {b = true} {t = false} r n e f g = cc
-ended_at {b = false} {t = true} r n e f g = cc
-ended_at {b = false} {t = false} r n e f g = e
-
 -- what `?` hands on is the refusal that it met
 pub handed_on : {r : Answered} (e : Refusal) {x : Answered} → IsErrAnd r (λ y. y ≡ e) → Err e ≡ x → r ≡ x
 handed_on {r = Ok u} e f g = absurd f

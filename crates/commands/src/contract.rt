@@ -11,7 +11,7 @@ use energy::limits::KW_MOST;
 use energy::ramp::ramp_minutes;
 use energy::units::{Kw, Minutes};
 
-// The operands of a contract, as they stand in the unit file: any of them may be outside its range.
+// The operands of a contract, as they stand in the unit file: any of them may be outside its range, so kind and service are bytes and no enums.
 #[derive(Clone, Copy, Debug, PartialEq, Eq)]
 pub struct Contract {
     pub days: u8,
@@ -142,6 +142,7 @@ impl Contract {
     pub const DAY: Minutes = Minutes(1440);
 
     // The contract of these operands, or the first refusal that they meet.
+    #[tactic(auto, using(crate::proofs::Input::offer_is))]
     pub fn new(
         days: u8,
         kind: u8,
@@ -218,7 +219,8 @@ impl Contract {
         )
     }
 
-    // U: the minutes of the ramp up.
+    // U: the minutes of the ramp up. That the operands are in range is asked, and no part of the type: a contract may hold any bytes of a file until 3 is asked.
+    #[tactic(auto, unfolding(crate::specs::Input::up_minutes))]
     pub fn ramp_up_minutes(self) -> u32
         requires { in_range (contractᶜ self) ≡ true }
         ensures { result ≡ up_minutes self }
@@ -227,6 +229,7 @@ impl Contract {
     }
 
     // V: the minutes of the ramp down.
+    #[tactic(auto, unfolding(crate::specs::Input::down_minutes))]
     pub fn ramp_down_minutes(self) -> u32
         requires { in_range (contractᶜ self) ≡ true }
         ensures { result ≡ down_minutes self }

@@ -16,7 +16,7 @@ use energy::units::{Kw, Minutes};
 pub struct Window {
     pub start: Minutes,
     pub end: Minutes,
-    // 0 accepted, 1 rejected
+    // 0 accepted, 1 rejected; a byte and no enum, since a file's operand may be any, and is written as it was read
     pub verdict: u8,
 }
 
@@ -28,7 +28,7 @@ pub struct Instruction {
 }
 
 // A default. Kinds: 1 data submission, 2 utilisation, 3 availability, 4 delivery.
-// Reaches: 1 the period, 2 the whole window, 3 from that period to the window's end.
+// Reaches: 1 the period, 2 the whole window, 3 from that period to the window's end. Bytes and no enums, as a window's verdict.
 #[derive(Clone, Copy, Debug, PartialEq, Eq)]
 pub struct Default {
     pub minute: Minutes,
@@ -63,6 +63,7 @@ pub enum Command {
 }
 
 // The first refusal that a date's own operands meet, if there is one; so for each entry below.
+#[tactic(auto, using(crate::proofs::Input::input_cond), unfolding(crate::specs::Refusals::outcome, crate::specs::Refusals::refusal_of))]
 pub fn date_input_refusal(d: Date) -> Result<(), Refusal>
     ensures { result ≡ outcome (input_refusal (dateᶜ d)) }
 {
@@ -97,6 +98,7 @@ impl Instruction {
         cease: Minutes(0),
     };
 
+    #[tactic(auto, using(std::proofs::lemmas::Grind::common_steps, crate::proofs::Input::input_cond), unfolding(crate::specs::Refusals::outcome, crate::specs::Refusals::refusal_of))]
     pub fn input_refusal(self) -> Result<(), Refusal>
         ensures { result ≡ outcome (input_refusal (instructionᶜ self)) }
     {
@@ -113,6 +115,7 @@ impl Default {
         reach: 0,
     };
 
+    #[tactic(auto, using(std::proofs::lemmas::Grind::common_steps, crate::proofs::Input::input_cond), unfolding(crate::specs::Refusals::outcome, crate::specs::Refusals::refusal_of))]
     pub fn input_refusal(self) -> Result<(), Refusal>
         ensures { result ≡ outcome (input_refusal (defaultᶜ self)) }
     {
@@ -124,6 +127,7 @@ impl Default {
 }
 
 impl Reading {
+    #[tactic(auto, using(crate::proofs::Input::input_cond), unfolding(crate::specs::Refusals::outcome, crate::specs::Refusals::refusal_of))]
     pub fn input_refusal(self) -> Result<(), Refusal>
         ensures { result ≡ outcome (input_refusal (readingᶜ self)) }
     {

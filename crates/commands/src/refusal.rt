@@ -2,78 +2,51 @@
 ghost use Rattle.std.specs.Prelude.{◌≡◌, cond, Ok, Err};
 ghost use Rattle.commands.specs.Refusals.{number_of};
 
-use energy::limits::OutOfRange;
 use std::error::Error;
 use std::fmt;
 
-// The refusals, in the order of their numbers.
+// The refusals, each with the number under which it is known.
 #[derive(Clone, Copy, Debug, PartialEq, Eq)]
 pub enum Refusal {
     // reading: a byte that no command has, and a command cut off
-    UnknownCommand,
-    CutOff,
+    UnknownCommand = 1,
+    CutOff = 2,
     // the operands
-    OutOfRange,
-    RampTooLong,
-    BadWindow,
+    OutOfRange = 3,
+    RampTooLong = 4,
+    BadWindow = 5,
     // the book
-    NotReached,
-    Closed,
-    NoContract,
-    SecondContract,
-    ShortMemory,
+    NotReached = 11,
+    Closed = 12,
+    NoContract = 13,
+    SecondContract = 14,
+    ShortMemory = 15,
     // beside what is entered
-    BeyondSpan,
-    RejectedWindow,
-    OverlappingWindow,
-    CeasedEarly,
-    IssuedEarly,
-    OutsideWindows,
-    SecondReading,
-    FullTable,
+    BeyondSpan = 16,
+    RejectedWindow = 17,
+    OverlappingWindow = 18,
+    CeasedEarly = 19,
+    IssuedEarly = 20,
+    OutsideWindows = 21,
+    SecondReading = 22,
+    FullTable = 23,
     // settling, and writing
-    NotClosed,
-    MissingReading,
-    NoRoom,
+    NotClosed = 24,
+    MissingReading = 25,
+    NoRoom = 26,
     // revisions and dates
-    RevisionHeld,
-    NoSuchDate,
-    LateDate,
-    OtherMonth,
+    RevisionHeld = 27,
+    NoSuchDate = 28,
+    LateDate = 29,
+    OtherMonth = 30,
 }
 
 impl Refusal {
-    // The number under which it is known.
+    // A method and no `From`: `u8::from(refusal)` would not say that it is this number.
     pub fn number(self) -> u8
         ensures { result ≡ number_of self }
     {
-        match self {
-            Refusal::UnknownCommand => 1,
-            Refusal::CutOff => 2,
-            Refusal::OutOfRange => OutOfRange::NUMBER,
-            Refusal::RampTooLong => 4,
-            Refusal::BadWindow => 5,
-            Refusal::NotReached => 11,
-            Refusal::Closed => 12,
-            Refusal::NoContract => 13,
-            Refusal::SecondContract => 14,
-            Refusal::ShortMemory => 15,
-            Refusal::BeyondSpan => 16,
-            Refusal::RejectedWindow => 17,
-            Refusal::OverlappingWindow => 18,
-            Refusal::CeasedEarly => 19,
-            Refusal::IssuedEarly => 20,
-            Refusal::OutsideWindows => 21,
-            Refusal::SecondReading => 22,
-            Refusal::FullTable => 23,
-            Refusal::NotClosed => 24,
-            Refusal::MissingReading => 25,
-            Refusal::NoRoom => 26,
-            Refusal::RevisionHeld => 27,
-            Refusal::NoSuchDate => 28,
-            Refusal::LateDate => 29,
-            Refusal::OtherMonth => 30,
-        }
+        self as u8
     }
 }
 

@@ -39,8 +39,10 @@ appendix2-paid memory records e h =
     let answered = r.answered.1 (met.closed, (complete_given g).0 met.whole, subst (λ n. n ≤ length records) (sym six) h) in
     record {
       result = d.0;
+      statement = answered.0;
       outcome =
           subst (λ n. get_elem? (outcomes appendix2_file (start memory) (steps records)) n ≡ some (settled d.0))
           (length-replicate (length appendix2_file) read) d.1;
-      total = ap (λ s. s.total.0) ((r.statement answered).ruled ∙ figures.F1-statement);
+      answer = answered.1;
+      total = ap (λ s. s.total.0) ((r.statement answered.0 answered.1).ruled ∙ figures.F1-statement);
     }

@@ -19,7 +19,7 @@ use Rattle.file_write.specs.Write.{write_conditions, write_book}
 use Rattle.demands.specs.RoundTrip.{RoundTrip·theorem}
 use Rattle.demands.specs.Dated.{october_book, read_again, DatedAgain·theorem}
 use Rattle.demands.proofs.RoundTrip.{round_trip}
-use Rattle.rules.specs.Answer.{Taken}
+use Rattle.std.specs.Prelude.{Ok}
 
 left : Leads 44700 october
 left = subst (Leads 44700) dates_taken.in_october (leads 44700 october)
@@ -37,7 +37,7 @@ unfolding put_all empty_book
 date = refl
 
 is_written : (memory : Memory) (bytes : List ℕ) → room_in memory ≡ 44700 → length (file_of (ledger_in october_book memory)) ≤ length bytes
-    → (write_book october_book memory bytes).written.answer ≡ Taken
+    → (write_book october_book memory bytes).answer ≡ Ok (length (file_of (ledger_in october_book memory)))
 unfolding write_book write_conditions first_met
 is_written memory bytes room long =
     let s = left.follows.stands.sound in
@@ -50,7 +50,8 @@ is_written memory bytes room long =
 pub dated_again : DatedAgain·theorem
 unfolding DatedAgain·theorem RoundTrip·theorem
 dated_again memory fresh bytes byte room again long =
+    let size : ℕ = length (file_of (ledger_in october_book memory)) in
     let w = is_written memory bytes room long in
-    let same : read_again memory fresh bytes ≡ october_book =
-    (round_trip october_book memory fresh bytes left.follows.stands.shaped byte (again ∙ sym room) w).same_book in
-    record { written = w; date = ap (λ b. b.date) same ∙ date; span = ap book_span same ∙ span }
+    let same : read_again memory fresh bytes size ≡ october_book =
+    (round_trip october_book memory fresh bytes size left.follows.stands.shaped byte (again ∙ sym room) w).same_book in
+    record { size = size; written = w; date = ap (λ b. b.date) same ∙ date; span = ap book_span same ∙ span }

@@ -39,21 +39,20 @@ use Rattle.demands.specs.RoundTrip.{bytes_in, InBytes, SameAgain, RoundTrip·the
 use Rattle.demands.proofs.Along.{Along}
 use Rattle.demands.proofs.Settled.{refused_taken}
 use Rattle.demands.proofs.Files.{file_right, taken_along}
-use Rattle.commands.specs.Refusals.{refusal_of}
 use Rattle.rules.specs.Answer.{Taken, End}
-use Rattle.std.specs.Prelude.{Err}
+use Rattle.std.specs.Prelude.{Ok, Err}
 
 -- ---- what was written
 
 -- the conditions under which a book is written: it is sound, lent memory has the cells for it, and the lent bytes hold its file
-record Writable (b : Book) (memory : Memory) (bytes : List ℕ) : Type 0 where
+record Writable (b : Book) (memory : Memory) (bytes : List ℕ) (size : ℕ) : Type 0 where
   sound : sound b ≡ true
   cells : cells_in (ledger_in b memory) ≤ room_in memory
-  file : bytes_in (write_book b memory bytes) ≡ file_of (ledger_in b memory)
+  file : bytes_in size (write_book b memory bytes) ≡ file_of (ledger_in b memory)
 
-writable : (b : Book) (memory : Memory) (bytes : List ℕ) → (write_book b memory bytes).written.answer ≡ Taken → Writable b memory bytes
+writable : (b : Book) (memory : Memory) (bytes : List ℕ) (size : ℕ) → (write_book b memory bytes).answer ≡ Ok size → Writable b memory bytes size
 unfolding write_book write_conditions
-writable b memory bytes e = go (first_met met) refl e
+writable b memory bytes size e = go (first_met met) refl e
   where
     g : Ledger
     g = ledger_in b memory
@@ -61,15 +60,17 @@ writable b memory bytes e = go (first_met met) refl e
     met : List Condition
     met = write_conditions (not (sound b)) (room_in memory) (length bytes) g
 
-    go : (o : Option ℕ) → first_met met ≡ o → (written_by o g bytes).written.answer ≡ Taken → Writable b memory bytes
+    go : (o : Option ℕ) → first_met met ≡ o → (written_by o g bytes).answer ≡ Ok size → Writable b memory bytes size
     go none q h =
         let c : Clear met = clear met q in
+        let whole : length (file_of g) ≡ size = cc in
         record {
           sound = of_T (sound b) (off_not (sound b) c.0);
           cells = ltb-false (room_in memory) (cells_in g) c.1.0;
-          file = ap (λ o. bytes_in (written_by o g bytes)) q ∙ take-append_seam (file_of g) (drop (length (file_of g)) bytes);
+          file =
+              ap (λ o. bytes_in size (written_by o g bytes)) q ∙ rw (← whole) (take-append_seam (file_of g) (drop (length (file_of g)) bytes));
         }
-    go (some n) q h = absurd (refused_taken (refusal_of n) h)
+    go (some n) q h = cc
 
 -- ---- loaded again
 
@@ -140,7 +141,7 @@ again b memory fresh s byte e h n =
 
 pub round_trip : RoundTrip·theorem
 unfolding RoundTrip·theorem
-round_trip b memory fresh bytes s byte n e =
-    let w : Writable b memory bytes = writable b memory bytes e in
+round_trip b memory fresh bytes size s byte n e =
+    let w : Writable b memory bytes size = writable b memory bytes size e in
     subst⁻¹ (λ file. SameAgain b memory file (load file empty_book fresh)) w.file
     (again b memory fresh s byte w.sound (omega (arith, n, w.cells, cells_sound b memory w.sound)) n)

@@ -4,13 +4,13 @@ use mathlib.Core.Path.{◌≡◌, refl, sym, ap, ◌∙◌, subst, subst⁻¹}
 use mathlib.Core.Logic.{◌↔◌, ⊎_elim}
 use mathlib.Core.Bool.{Bool, false}
 use mathlib.Core.List.Memᴰ
-use mathlib.Core.List.{List, [], ◌∷◌, Memᴰ}
+use mathlib.Core.List.{List, [], ◌∷◌, ◌++◌, Memᴰ}
 use mathlib.Core.Option.{Option, none, some, none-ne-some}
 use Prim.Native.Nat.{ℕ, ◌≤◌}
 use native.Mathlib.Omega.{arith}
 use borrow.Author.Tests.{ltb-false, le-ltb}
 use lib.Dec.{T}
-use lib.ListN.{length, drop, length-map}
+use lib.ListN.{length, take, drop, length-map}
 use lib.Seq.{take-append_seam, drop-append_seam}
 use Rattle.book_memory.specs.Meter.{Memory, room_in}
 use Rattle.energy.specs.Lists.{all, is_some}
@@ -27,13 +27,14 @@ use Rattle.rules.proofs.Taken.{Clear, clear}
 use Rattle.rules.proofs.FileLength.{cells_fit}
 use Rattle.rules.proofs.Partition.{partition}
 use Rattle.rules.proofs.Bounds.{bounds}
+use Rattle.rules.specs.declared.statement.Statement.{Statement}
 use Rattle.book.specs.declared.Book.{Book}
 use Rattle.settle.specs.Settle.{settle_book, settled_by}
 use Rattle.demands.specs.Demand3.{Needed, Given, SettlementRight, StatementRight}
 use Rattle.demands.proofs.Along.{Along, settles}
 use Rattle.commands.specs.Refusals.{refusal_of}
 use Rattle.rules.specs.Answer.{Taken}
-use Rattle.std.specs.Prelude.{Err}
+use Rattle.std.specs.Prelude.{Result, Ok, Err}
 use Rattle.commands.specs.declared.refusal.Refusal.{Refusal}
 use Rattle.rules.specs.Answer.{Answer}
 
@@ -107,9 +108,16 @@ refused_taken n e = let z : ◌≡◌ {A = ℕ} 0 1 = cc in omega arith
 
 -- ---- the settlement
 
-statement_right : (g : Ledger) → StatementRight g (record { answer = Taken; statement = statement_of g }) (lines g)
+statement_right : (g : Ledger) → StatementRight g (statement_of g) (lines g)
 unfolding statement_of
 statement_right g = record { ruled = refl; ruled_lines = refl; partition = partition g; halves = bounds g }
+
+-- a statement is no refusal, and of two statements answered they are one
+one_statement : {s u : Statement} → ◌≡◌ {A = Result Statement Refusal} (Ok s) (Ok u) → s ≡ u
+one_statement e = cc
+
+no_statement : {A : Type 0} {s : Statement} (r : Refusal) → ◌≡◌ {A = Result Statement Refusal} (Err r) (Ok s) → A
+no_statement r e = cc
 
 module _ (size : ℕ) (t : List Command) (records : List Line) (fits : cells_in (ledger_of t) ≤ size) where
   abbrev g : Ledger
@@ -124,24 +132,26 @@ module _ (size : ℕ) (t : List Command) (records : List Line) (fits : cells_in 
           let s : Settleable (length records) g = settleable size (length records) g e in
           record {
             number = ap answer_of (sym e);
-            answered = (λ d. (s.closed, (complete_given g).0 s.whole, s.enough), λ h. refl);
-            statement = λ d.
-                subst⁻¹ (λ l. StatementRight g (record { answer = Taken; statement = statement_of g }) l)
-                (take-append_seam (lines g) (drop (length (lines g)) records)) (statement_right g);
-            kept = drop-append_seam (lines g) (drop (length (lines g)) records);
-            refused_kept = λ n d. absurd (refused_taken n (sym d));
+            answered = (λ d. (s.closed, (complete_given g).0 s.whole, s.enough), λ h. (statement_of g, refl));
+            statement = λ u d.
+                subst (λ u. StatementRight g u (take u.lines (lines g ++ drop (length (lines g)) records))) (one_statement d)
+                (subst⁻¹ (λ l. StatementRight g (statement_of g) l) (take-append_seam (lines g) (drop (length (lines g)) records)) (statement_right g));
+            kept = λ u d.
+                subst (λ (u : Statement). drop u.lines (lines g ++ drop (length (lines g)) records) ≡ drop u.lines records) (one_statement d)
+                (drop-append_seam (lines g) (drop (length (lines g)) records));
+            refused_kept = λ x d. no_statement x (sym d);
           }
       go (some n) e =
           record {
             number = ap answer_of (sym e);
             answered = (
-              λ d. absurd (refused_taken (refusal_of n) d),
+              λ d. no_statement (refusal_of n) d.1,
               λ h.
                   let s : Settleable (length records) g = record { closed = h.0; whole = (complete_given g).1 h.1; enough = h.2 } in
                   absurd (none-ne-some n (sym (not_refused size (length records) g fits s) ∙ e)),
             );
-            statement = λ d. absurd (refused_taken (refusal_of n) d);
-            kept = refl;
+            statement = λ u d. no_statement (refusal_of n) d;
+            kept = λ u d. no_statement (refusal_of n) d;
             refused_kept = λ m d. refl;
           }
 

@@ -13,11 +13,11 @@ use Rattle.rules.specs.Lines.{Partition}
 use Rattle.rules.specs.File.{commands_in}
 use Rattle.commands.specs.declared.entries.Command.{Command}
 use Rattle.rules.specs.declared.statement.Line.{Line}
-use Rattle.settle.specs.Settle.{Settled}
-use Rattle.settle.specs.declared.Settlement.{Settlement}
+use Rattle.rules.specs.declared.statement.Statement.{Statement}
+use Rattle.settle.specs.Settle.{Settled, answer_in}
 use Rattle.demands.specs.Steps.{Step, enter, settle, entered, settled, start, after_all, outcomes, outset, place_from, reads_to, ruled_from, left_at}
 use Rattle.rules.specs.Answer.{Taken}
-use Rattle.std.specs.Prelude.{Err}
+use Rattle.std.specs.Prelude.{Ok, Err}
 use Rattle.commands.specs.declared.refusal.Refusal.{Refusal}
 
 -- ---- what a settlement must be answered, for the commands taken before it
@@ -31,28 +31,28 @@ pub record Given (g : Ledger) (m : ℕ) : Type 0 where
   pub held : Metered
   pub read : g.reading m ≡ some held
 
--- a statement, the answer s with the lines ls that it counts, is right
-pub record StatementRight (g : Ledger) (s : Settlement) (ls : List Line) : Type 0 where
+-- a statement s with the lines ls that it counts is right
+pub record StatementRight (g : Ledger) (s : Statement) (ls : List Line) : Type 0 where
   -- it is the rules' own
-  pub ruled : s.statement ≡ statement_of g
+  pub ruled : s ≡ statement_of g
   pub ruled_lines : ls ≡ lines g
   -- each active minute of every instruction taken belongs to exactly one line, and no line is without one
   pub partition : Partition g ls
   -- total capped energy and the total paid are within half a unit for each rounding of the exact sums
-  pub halves : WithinHalves g s.statement ls
+  pub halves : WithinHalves g s ls
 
 -- a settlement's outcome is right for the room of lent memory, the commands t taken before it and the line records lent to it
 pub record SettlementRight (size : ℕ) (t : List Command) (records : List Line) (r : Settled) : Type 0 where
   -- its number is the one that the rules give, also where that is 24, 25 or 26
-  pub number : r.settlement.answer ≡ answer_of (settle_refusal false size (length records) (ledger_of t))
+  pub number : answer_in r.answer ≡ answer_of (settle_refusal false size (length records) (ledger_of t))
   -- a statement exactly when these commands closed the book and gave every needed minute a reading, and there are records enough
   pub answered :
-      (r.settlement.answer ≡ Taken)
+      ((s : Statement) × (r.answer ≡ Ok s))
       ↔ (T (ledger_of t).closed × ((m : ℕ) → Needed (ledger_of t) m → Given (ledger_of t) m) × (length (lines (ledger_of t)) ≤ length records))
-  pub statement : r.settlement.answer ≡ Taken → StatementRight (ledger_of t) r.settlement (take r.settlement.statement.lines r.memory)
+  pub statement : (s : Statement) → r.answer ≡ Ok s → StatementRight (ledger_of t) s (take s.lines r.memory)
   -- records after the lines keep their contents, and a refusal leaves all of them
-  pub kept : drop r.settlement.statement.lines r.memory ≡ drop r.settlement.statement.lines records
-  pub refused_kept : (x : Refusal) → r.settlement.answer ≡ Err x → r.memory ≡ records
+  pub kept : (s : Statement) → r.answer ≡ Ok s → drop s.lines r.memory ≡ drop s.lines records
+  pub refused_kept : (x : Refusal) → r.answer ≡ Err x → r.memory ≡ records
 
 -- ---- the list
 

@@ -1,5 +1,5 @@
 -- Demand 2, second half: a book written as a unit file and read again is the same book with the same readings and revisions.
-use Rattle.std.specs.Prelude.{◌≡◌, List, ℕ, ◌≤◌, length, take}
+use Rattle.std.specs.Prelude.{◌≡◌, List, ℕ, ◌≤◌, length, take, Ok}
 use Rattle.book_memory.specs.Meter.{Memory, room_in, revision_at}
 use Rattle.rules.specs.declared.statement.Line.{Line}
 use Rattle.book.specs.Book.{ledger_in, empty_book}
@@ -10,9 +10,9 @@ use Rattle.file_load.specs.Load.{LoadedFile, load}
 use Rattle.file_write.specs.Write.{write_book, WrittenBytes}
 use Rattle.rules.specs.Answer.{Taken}
 
--- the bytes that a file has in the lent bytes
-abbrev pub bytes_in : WrittenBytes → List ℕ
-bytes_in w = take w.written.size w.memory
+-- the bytes of a file of such a size in the lent bytes
+abbrev pub bytes_in : ℕ → WrittenBytes → List ℕ
+bytes_in size w = take size w.memory
 
 -- revision memory holds bytes, which it does anyway in the language
 abbrev pub InBytes : Memory → Type 0
@@ -32,9 +32,9 @@ pub record SameAgain (b : Book) (memory : Memory) (bytes : List ℕ) (l : Loaded
 -- every book that is written is loaded again as itself, from the empty one, into fresh memory of the same room and any contents
 unfoldable pub RoundTrip·theorem : Type 0
 RoundTrip·theorem =
-    (b : Book) (memory fresh : Memory) (bytes : List ℕ)
+    (b : Book) (memory fresh : Memory) (bytes : List ℕ) (size : ℕ)
     → Shaped b
     → InBytes memory
     → room_in fresh ≡ room_in memory
-    → (write_book b memory bytes).written.answer ≡ Taken
-    → SameAgain b memory (bytes_in (write_book b memory bytes)) (load (bytes_in (write_book b memory bytes)) empty_book fresh)
+    → (write_book b memory bytes).answer ≡ Ok size
+    → SameAgain b memory (bytes_in size (write_book b memory bytes)) (load (bytes_in size (write_book b memory bytes)) empty_book fresh)

@@ -29,7 +29,7 @@ use mir.Syntax.{Width, w64}
 use mir.Val.{SFits, to_z, of_z, hbits}
 use mir.Facts.{to_z-of_z}
 use lib.Pow.{pow_pos}
-use Rattle.energy.specs.Number.{up, down, Within, Upto}
+use Rattle.energy.specs.Number.{up, down, Upto}
 use Rattle.energy.proofs.Tests.{either}
 use borrow.Author.Tests.{leb-true, leb-false, ltb-true, ltb-false, le-leb, lt-leb, lt-ltb, le-ltb}
 
@@ -161,20 +161,6 @@ pub fits_product : (w : Width) (a b : ℤ)
     → (up a * up b + down a * down b < 2 ^ hbits w) × (up a * down b + down a * up b ≤ 2 ^ hbits w)
     → SFits w (a *ℤ b)
 fits_product w a b h = fits_parts w (a *ℤ b) (omega (arith, mul-parts a b))
-
--- two amounts and their sum fit the machine's 64 bits
-pub record Added (a b : ℤ) : Type 0 where
-  pub first : SFits w64 a
-  pub second : SFits w64 b
-  pub both : SFits w64 (a +ℤ b)
-
-pub added : (a b : ℤ) → Within 100000000000000 a → Within 100000000000000 b → Added a b
-added a b h k =
-    record {
-      first = fits_parts w64 a (omega arith);
-      second = fits_parts w64 b (omega arith);
-      both = fits_parts w64 (a +ℤ b) (omega (arith, add_parts a b));
-    }
 
 pub abs-parts : (z : ℤ) → nat_abs z ≡ up z + down z
 abs-parts (pos n) = omega arith

@@ -14,7 +14,6 @@ use Rattle.energy.specs.declared.units.Minutes.{Minutes}
 use Rattle.energy.specs.contracts.units.KwPartialOrd.TheImpl as kw
 use Rattle.energy.specs.contracts.units.MinutesPartialOrd.TheImpl as minutes
 use Rattle.std.specs.contracts.prelude.U8PartialOrd.TheImpl as u8
-use Rattle.std.specs.contracts.prelude.U16PartialOrd.TheImpl as u16
 use Rattle.std.specs.contracts.prelude.U32PartialOrd.TheImpl as u32
 
 -- a comparison's order is a test
@@ -29,9 +28,6 @@ contains_by p {a = a} {b = b} x e f g h = h ∙ rw (e, f, g, p.tests a x, p.test
 
 pub u8_tested : Tested u8.partial_cmp-value.it leb
 u8_tested = record { tests = λ x y. grind (arith, common_steps) }
-
-pub u16_tested : Tested u16.partial_cmp-value.it leb
-u16_tested = record { tests = λ x y. grind (arith, common_steps) }
 
 pub u32_tested : Tested u32.partial_cmp-value.it leb
 u32_tested = record { tests = λ x y. grind (arith, common_steps) }

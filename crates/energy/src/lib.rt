@@ -2,7 +2,6 @@
 #![tactic(auto)]
 
 pub mod limits;
-pub mod magnitude;
 pub mod money;
 pub mod quarters;
 pub mod ramp;

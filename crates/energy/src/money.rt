@@ -1,5 +1,5 @@
 // Quarter kW-minutes as kWh, and kWh as pence. What may be negative is first raised by so many wholes that it is not, and these are taken off the
-// rounded number again: a single unsigned division then rounds.
+// rounded number again: a single unsigned division then rounds. Bounds are asked here and no part of the types, which document 01 names and which hold any number.
 ghost use Rattle.std.specs.Prelude.{◌≡◌, ◌≤◌, nat_abs, pos};
 ghost use Rattle.energy.specs.Answers.{paid_for, paid_for_period};
 ghost use Rattle.energy.specs.Energy.{capped, kwh, payment, pence_of_parts, period_parts};

@@ -19,6 +19,7 @@ pub fn total(meter: &[i32], from: usize, to: usize) -> i32
 }
 
 // What the minutes `from` to `to` - 1 deliver over the base load `base`, the sum of four readings. The base load is taken off once, not in each minute.
+// Its bound is a clause, since C lends and keeps it as a plain number.
 pub fn delivered(kind: u8, base: i32, meter: &[i32], from: usize, to: usize) -> i32
     requires readable { Readable meter.now from to }
     requires within { Within 2000000 base }

@@ -2,7 +2,7 @@
 use mathlib.Core.Path.{◌≡◌, refl, sym, ap, ◌∙◌}
 use mathlib.Core.List.{List, [], ◌∷◌, ◌++◌}
 use mathlib.Core.Logic.{◌⊎◌, inl, inr}
-use mathlib.Core.Option.{none, some}
+use mathlib.Core.Option.{none}
 use Prim.Native.Nat.{ℕ, zero, suc, ◌+◌, ◌-◌, ◌≤◌}
 use native.Mathlib.Nat.{add-sub_cancel_left}
 use native.Mathlib.Omega.{arith}
@@ -13,6 +13,7 @@ use Rattle.energy.specs.Lists.{put_at}
 use Rattle.energy.proofs.Puts.{put_none, put_part, put_put, length_put}
 use Rattle.rules.specs.File.{table, widths_of, total, bytes_of, byte_of, operands_of, write_operands, widths_for, write}
 use Rattle.rules.proofs.Operands.{write_long}
+use Rattle.rules.proofs.Reread.{in_table}
 use Rattle.commands.specs.declared.entries.Command.{Command}
 use Rattle.commands.specs.declared.entries.Command.TheVariants.{Contract as contractᶜ, Date as dateᶜ, Window as windowᶜ, Instruction as instructionᶜ}
 use Rattle.commands.specs.declared.entries.Command.TheVariants.{Default as defaultᶜ, Reading as readingᶜ, Revision as revisionᶜ}
@@ -62,20 +63,8 @@ none_left (w ∷ widths) (n ∷ v) out place after h l = elim h [ inl e ↦ absu
 
 -- ---- commands
 
--- a command's byte is the table's
-known : (c : Command) → widths_of (byte_of c) table ≡ some (widths_for c)
-unfolding table widths_of
-known (contractᶜ k) = refl
-known (dateᶜ d) = refl
-known (windowᶜ w) = refl
-known (instructionᶜ i) = refl
-known (defaultᶜ d) = refl
-known (readingᶜ r) = refl
-known (revisionᶜ v) = refl
-known closeᶜ = refl
-
 pub has_row : (c : Command) (o : Option Row) (Found : Row → Type 0) → MatchOption o (widths_of (byte_of c) table ≡ none) Found → IsSome o
-has_row c None Found h = let e = known c in cc
+has_row c None Found h = let e = in_table c in cc
 has_row c (Some row) Found h = refl
 
 -- its bytes are that byte and its operands by their widths
@@ -92,7 +81,7 @@ encoded closeᶜ = refl
 
 module _ (c : Command) (row : Row) (is : RowOf (byte_of c) row) where
   row_widths : widths_for c ≡ row.widths.now
-  row_widths = let k = known c in let w = is.widths in cc
+  row_widths = let k = in_table c in let w = is.widths in cc
 
   pub row_bytes : write c ≡ row.byte ∷ write_operands row.widths.now (padded (operands_of c))
   row_bytes = rw (is.same, ← row_widths) (encoded c)

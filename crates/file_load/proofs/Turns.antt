@@ -14,47 +14,50 @@ use Rattle.book.specs.declared.Book.{Book}
 use Rattle.book.proofs.StaysSound.{Kept, kept}
 use Rattle.book.proofs.OpenSpan.{reading_enters}
 use Rattle.file_read.proofs.Steps.{got_within}
-use Rattle.file_load.specs.Load.{LoadedFile, carries_on, loads_on}
+use Rattle.file_load.specs.Load.{LoadedFile, ended_at, carries_on, loads_on}
 use Rattle.file_readings.specs.Run.{Stand, stand_by, stand_at, stands, Run}
 use Rattle.file_readings.proofs.Runs.{chosen, stands_room, stays_inside}
-use Rattle.std.proofs.Common.{Continue, Break}
 use Rattle.file_load.specs.Turn.{Turn, goes_by, turn_by, turn_at}
 use Rattle.file_load.proofs.From.{from, from_step}
 use Rattle.rules.specs.Answer.{Answer, Taken, Read, Got, End}
-use Rattle.std.specs.Prelude.{Err}
+use Rattle.std.specs.Prelude.{Ok, Err, Some, None, ⊤}
 
--- what is left of a file after a turn: the commands from a position on, or what the loop ended with
-abbrev pub rest : List ℕ → Turn → Memory → LoadedFile
-rest s (Continue (next, b)) meter = from s next b meter
-rest s (Break l) meter = record { loaded = l; meter = meter }
+-- what is left of a file after a turn: the commands from the next position on, or what the loop ended with, at the turn's own position
+abbrev pub rest : List ℕ → ℕ → Turn → Book → Memory → LoadedFile
+rest s at (Ok (Some next)) b meter = from s next b meter
+rest s at (Ok None) b meter = ended_at at Taken b meter
+rest s at (Err r) b meter = ended_at at (Err r) b meter
 
--- where a turn leads from a position within the file, with a sound book: further on in the file, or to the end, and with a sound book again
+-- where a turn leads from a position within the file: further on in the file, or to the end
 abbrev pub Leads : List ℕ → ℕ → Turn → Type 0
-Leads s at (Continue (next, b)) = (at < next) × (next ≤ length s) × Kept b
-Leads s at (Break l) = (l.at ≤ length s) × Kept l.book
+Leads s at (Ok (Some next)) = (at < next) × (next ≤ length s)
+Leads s at (Ok None) = ⊤
+Leads s at (Err r) = ⊤
 
--- what is known of a turn t at a position, where f was left of the file: its rest is that
-pub record After (s : List ℕ) (at : ℕ) (b : Book) (f : LoadedFile) (t : Turn) (after : Memory) : Type 0 where
-  pub again : f ≡ rest s t after
-  pub leads : at ≤ length s → Kept b → Leads s at t
+-- what is known of a turn t at a position with a sound book, where f was left of the file: its rest is that, and the book is sound again
+pub record After (s : List ℕ) (at : ℕ) (f : LoadedFile) (t : Turn) (b : Book) (after : Memory) : Type 0 where
+  pub again : f ≡ rest s at t b after
+  pub leads : Leads s at t
+  pub kept : Kept b
 
-module _ (s : List ℕ) (at : ℕ) (b : Book) (meter : Memory) where
+module _ (s : List ℕ) (at : ℕ) (b : Book) (meter : Memory) (k : Kept b) where
   -- a turn of the loop, as the code has it
-  pub turned : {t : Turn} {after : Memory} → (t ≡ (turn_at s at b meter).turn) × (after ≡ (turn_at s at b meter).meter)
-      → After s at b (from s at b meter) t after
+  pub turned : {t : Turn} {b' : Book} {after : Memory} → (t ≡ (turn_at s at b meter).turn) × (b' ≡ (turn_at s at b meter).book)
+      × (after ≡ (turn_at s at b meter).meter)
+      → After s at (from s at b meter) t b' after
   unfolding turn_at
-  turned e = rw (e.0, e.1, from_step s at b meter) (go (read_at s at) refl)
+  turned e = rw (e.0, e.1, e.2, from_step s at b meter) (go (read_at s at) refl)
     where
-      answered : (next : ℕ) (a : Answer) (e : Entered) → (at < next) × (next ≤ length s) → (Kept b → Kept e.entry.book)
-          → After s at b (carries_on (λ b m. from s next b m) at a e) (goes_by at next a e.entry.book) e.meter
-      answered next Taken e h k = record { again = refl; leads = λ l sound. (h.0, h.1, k sound) }
-      answered next (Err r) e h k = record { again = refl; leads = λ l sound. (l, k sound) }
+      answered : (next : ℕ) (a : Answer) (e : Entered) → (at < next) × (next ≤ length s) → Kept e.entry.book
+          → After s at (carries_on (λ b m. from s next b m) at a e) (goes_by next a) e.entry.book e.meter
+      answered next Taken e h k = record { again = refl; leads = h; kept = k }
+      answered next (Err r) e h k = record { again = refl; leads = tt; kept = k }
 
       go : (r : Read) → read_at s at ≡ r
-          → After s at b (loads_on (λ next b m. from s next b m) at b meter r) (turn_by at b meter r).turn (turn_by at b meter r).meter
-      go (Got c next) e = answered next (enter_book b meter c).entry.answer (enter_book b meter c) (got_within s at e) (kept b meter c)
-      go (Err r) e = record { again = refl; leads = λ l sound. (l, sound) }
-      go End e = record { again = refl; leads = λ l sound. (l, sound) }
+          → After s at (loads_on (λ next b m. from s next b m) at b meter r) (turn_by b meter r).turn (turn_by b meter r).book (turn_by b meter r).meter
+      go (Got c next) e = answered next (enter_book b meter c).entry.answer (enter_book b meter c) (got_within s at e) (kept b meter c k)
+      go (Err r) e = record { again = refl; leads = tt; kept = k }
+      go End e = record { again = refl; leads = tt; kept = k }
 
 -- ---- a turn without the book
 
@@ -96,24 +99,27 @@ run_again s at b span meter next after r k o =
     rw r.reached at (stands_rest span s x b k.sound o r.turns)
 
 -- ---- readings without the book, and the turn behind them: what is left then is what was left before both
-pub record Led (s : List ℕ) (at : ℕ) (b : Book) (meter : Memory) (t : Turn) (after : Memory) : Type 0 where
-  pub again : from s at b meter ≡ rest s t after
-  here : ℕ
+pub record Led (s : List ℕ) (at : ℕ) (b : Book) (meter : Memory) (here : ℕ) (t : Turn) (b' : Book) (after : Memory) : Type 0 where
+  pub again : from s at b meter ≡ rest s here t b' after
   pub forward : at ≤ here
+  pub inside : here ≤ length s
   pub leads : Leads s here t
+  pub kept : Kept b'
 
-pub led : (s : List ℕ) (at : ℕ) (b : Book) (meter : Memory) {span room here : ℕ} {passed after : Memory} {t : Turn} → Kept b → at ≤ length s
+pub led : (s : List ℕ) (at : ℕ) (b : Book) (meter : Memory) {span room here : ℕ} {passed after : Memory} {t : Turn} {b' : Book} → Kept b → at ≤ length s
     → room ≡ room_in meter
     → span ≡ open_span b room
     → Run span s at meter here passed
     → t ≡ (turn_at s here b passed).turn
+    → b' ≡ (turn_at s here b passed).book
     → after ≡ (turn_at s here b passed).meter
-    → Led s at b meter t after
-led s at b meter {here = here} {passed} k inside asked o run value memory =
-    let turn = turned s here b passed (value, memory) in
+    → Led s at b meter here t b' after
+led s at b meter {here = here} {passed} k inside asked o run value book memory =
+    let turn = turned s here b passed k (value, book, memory) in
     record {
       again = run_again s at b _ meter here passed run k (o ∙ ap (open_span b) asked) ∙ turn.again;
-      here = here;
       forward = run.forward;
-      leads = turn.leads (stays_inside run inside) k;
+      inside = stays_inside run inside;
+      leads = turn.leads;
+      kept = turn.kept;
     }

@@ -1,7 +1,7 @@
 // Commands from their operands.
 ghost use Rattle.std.specs.Prelude.{◌≡◌, [], ◌∷◌, ◌<◌, ◌^◌, List, ℕ, MatchOption};
 ghost use Rattle.std.proofs.Math.Option.{none, some};
-ghost use Rattle.rules.specs.File.{signed_of, contract_from, date_from, window_from, instruction_from, default_from, reading_from, revision_from, table, widths_of, command_of};
+ghost use Rattle.rules.specs.File.{contract_from, date_from, window_from, instruction_from, default_from, reading_from, revision_from, table, widths_of, command_of};
 ghost use Rattle.file_table.specs.Operands.{Sized};
 
 use calendar::Date;
@@ -13,16 +13,7 @@ use file_table::table::{
     REVISION_BYTE, WINDOW_BYTE,
 };
 
-// The signed number of four bytes, two's complement.
-#[tactic(auto, unfolding(rules::specs::File::signed_of))]
-fn signed(number: u64) -> i64
-    requires { number < 2 ^ 32 }
-    ensures { result ≡ signed_of number }
-{
-    i64::from((number as u32).cast_signed())
-}
-
-// Each entry from its operands, in the table's order.
+// Each entry from its operands, in the table's order. No trait: nothing here is generic over entries, so one would only name these functions anew.
 fn contract_of(v: [u64; 11]) -> Contract
     requires { Sized (1 ∷ 1 ∷ 1 ∷ 4 ∷ 4 ∷ 4 ∷ 2 ∷ 2 ∷ 4 ∷ 4 ∷ 4 ∷ []) v }
     ensures { result ≡ contract_from v }
@@ -85,14 +76,15 @@ fn default_of(v: [u64; 11]) -> Default
     }
 }
 
-// A reading from its minute and its kW: a revision has its number between them.
+// A reading from its minute and its kW, which four bytes say in two's complement: a revision has its number between them.
+#[tactic(auto, unfolding(rules::specs::File::signed_of))]
 fn reading_of(minute: u64, kw: u64) -> Reading
     requires { (minute < 2 ^ 16) × (kw < 2 ^ 32) }
     ensures { result ≡ reading_from (minute ∷ kw ∷ []) }
 {
     Reading {
         minute: Minutes(minute as u16),
-        kw: Kw(signed(kw)),
+        kw: Kw((kw as u32).cast_signed().into()),
     }
 }
 

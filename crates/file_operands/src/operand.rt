@@ -28,6 +28,7 @@ pub fn byte_of(command: Command) -> u8
 }
 
 // A signed number as four bytes say it, two's complement; 0 for one that is too far below 0 for them.
+// Not by `i32::cast_unsigned`: a number that four bytes do not hold would have to be wrapped first, and the rules keep it as it is.
 fn unsigned(number: i64) -> u64
     ensures { result ≡ unsigned_of number }
 {

@@ -34,7 +34,7 @@ impl<'a> Reader<'a> {
     }
 }
 
-// What stands at a position, and the position after it.
+// What stands at a position, and the position after it. No `Result`: the position is the reader's, which stands somewhere under either answer.
 #[derive(Clone, Copy)]
 pub struct Step {
     pub read: Read,

@@ -23,7 +23,7 @@ use Rattle.book_memory.specs.Meter.{written_at, put_meter, takes_reading, Memory
 use Rattle.book_memory.proofs.TakenReading.{takes, tests, input_fits}
 use Rattle.file_read.proofs.Finds.{entire, found_reads}
 use Rattle.file_table.proofs.Words.{word_more}
-use Rattle.file_readings.specs.Run.{ranged, Stand, stand_at}
+use Rattle.file_readings.specs.Run.{ranged, Stand, stand_at, Turned}
 use Rattle.rules.specs.Answer.{Got}
 
 -- ---- the kW
@@ -143,10 +143,6 @@ reads-revised s at room byte =
     (again (get_or s (at + 1 + 2) 0) (said s (at + 1) (at + 1 + 2 + 1))) =
     rw (byte, drop-drop 2 (at + 1) s, drop-drop 1 (at + 1 + 2) s, one) in
     found_reads {s = s} {at = at} (entire (omega arith) known (omega arith) found)
-
--- a turn at a position stands at x then, with lent memory `after`
-abbrev pub Turned : ℕ → List ℕ → ℕ → Memory → ℕ → Memory → Type 0
-Turned span s at meter x after = (x ≡ (stand_at span s at meter).at) × (after ≡ (stand_at span s at meter).meter)
 
 -- by whether a reading was taken there
 module _ (span : ℕ) (s : List ℕ) (at next : ℕ) (meter : Memory) (t : Bool) (after : Memory) (turned : Turned span s at meter (cond t next at) after) where

@@ -26,6 +26,10 @@ stand_by span at meter End = record { at = at; meter = meter }
 unfoldable pub stand_at : ℕ → List ℕ → ℕ → Memory → Stand
 stand_at span s at meter = stand_by span at meter (read_at s at)
 
+-- after a turn at a position reading stands at x, and lent memory is as it is then
+abbrev pub Turned : ℕ → List ℕ → ℕ → Memory → ℕ → Memory → Type 0
+Turned span s at meter x after = (x ≡ (stand_at span s at meter).at) × (after ≡ (stand_at span s at meter).meter)
+
 -- nothing is taken at a position
 abbrev pub Still : ℕ → List ℕ → ℕ → Memory → Type 0
 Still span s at meter = stand_at span s at meter ≡ record { at = at; meter = meter }

@@ -15,6 +15,7 @@ pub fn number_in(bytes: &[u8]) -> u64
 }
 
 // A number into all of the lent bytes, from the lowest up. By index: of what `iter_mut().rev()` lent out, a proof knows the length alone.
+// Not by `to_be_bytes`, which makes eight: as many as are lent is promised.
 pub fn put_number(number: u64, out: &mut [u8])
     ensures { out.new ≡ bytes_of (length out.old) number }
 {

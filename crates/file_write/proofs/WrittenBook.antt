@@ -14,7 +14,6 @@ use Rattle.calendar.specs.declared.Date.{Date}
 use Rattle.commands.specs.Input.{first_met, most_minute}
 use Rattle.rules.specs.File.{reading_at, written, file_of}
 use Rattle.commands.specs.declared.contract.Contract.{Contract}
-use Rattle.rules.specs.Answer.{Taken}
 use Rattle.commands.specs.declared.entries.Command.TheVariants.{Contract as contractᶜ, Date as dateᶜ}
 use Rattle.book_memory.specs.Meter.{Memory, room_in, metered_at}
 use Rattle.book.specs.Book.{book_span, book_cells, ledger_in}
@@ -25,8 +24,7 @@ use Rattle.book.proofs.Month.{span_cells, span_sound, cells_sound, cells_most}
 use Rattle.file_write.proofs.WrittenParts.{concat_map_ext}
 use Rattle.file_write.specs.Laid.{file_bytes, Laid, readings, parts, Kept}
 use Rattle.file_write.specs.Write.{write_conditions, write_book}
-use Rattle.file_write.specs.declared.Written.{Written}
-use Rattle.std.specs.Prelude.{Err}
+use Rattle.std.specs.Prelude.{Result, Ok, Err}
 use Rattle.commands.specs.Refusals.{refusal_of}
 use Rattle.commands.specs.declared.refusal.Refusal.{Refusal}
 use Rattle.commands.specs.declared.refusal.Refusal.TheVariants.{NotReached, ShortMemory, NoRoom}
@@ -74,24 +72,20 @@ file_is b meter e =
 -- ---- the answer, and the bytes after it
 
 -- what writing gives
-abbrev Gives : Book → Memory → List ℕ → Written → List ℕ → Type 0
-Gives b meter memory r after = (r ≡ (write_book b meter memory).written) × (after ≡ (write_book b meter memory).memory)
+abbrev Gives : Book → Memory → List ℕ → Result ℕ Refusal → List ℕ → Type 0
+Gives b meter memory r after = (r ≡ (write_book b meter memory).answer) × (after ≡ (write_book b meter memory).memory)
 
--- a refusal
-abbrev no : Refusal → Written
-no r = record { answer = Err r; size = 0 }
-
-pub refused_11 : (b : Book) (meter : Memory) (memory : List ℕ) → sound b ≡ false → Gives b meter memory (no NotReached) memory
+pub refused_11 : (b : Book) (meter : Memory) (memory : List ℕ) → sound b ≡ false → Gives b meter memory (Err NotReached) memory
 unfolding write_book write_conditions first_met refusal_of
 refused_11 b meter memory e = rw e (refl, refl)
 
 module _ (b : Book) (meter : Memory) (memory : List ℕ) (e : sound b ≡ true) where
-  pub refused_15 : room_in meter < book_cells b → Gives b meter memory (no ShortMemory) memory
+  pub refused_15 : room_in meter < book_cells b → Gives b meter memory (Err ShortMemory) memory
   unfolding write_book write_conditions first_met refusal_of
   refused_15 h = rw (e, cells_sound b meter e, lt-ltb (room_in meter) (book_cells b) h) (refl, refl)
 
   module _ (h : book_cells b ≤ room_in meter) where
-    pub refused_26 : length memory < length (file_bytes (parts b meter)) → Gives b meter memory (no NoRoom) memory
+    pub refused_26 : length memory < length (file_bytes (parts b meter)) → Gives b meter memory (Err NoRoom) memory
     unfolding write_book write_conditions first_met refusal_of
     refused_26 short =
         rw (
@@ -103,7 +97,7 @@ module _ (b : Book) (meter : Memory) (memory : List ℕ) (e : sound b ≡ true) 
         ) (refl, refl)
 
     pub written-whole : length (file_bytes (parts b meter)) ≤ length memory → {after : List ℕ} {next : ℕ} → Laid (parts b meter) memory 0 after next
-        → Gives b meter memory (record { answer = Taken; size = next }) after
+        → Gives b meter memory (Ok next) after
     unfolding write_book write_conditions first_met put_at
     written-whole long {after} {next} l =
         let file : file_bytes (parts b meter) ≡ file_of (ledger_in b meter) = sym (file_is b meter e) in
@@ -114,6 +108,6 @@ module _ (b : Book) (meter : Memory) (memory : List ℕ) (e : sound b ≡ true) 
           file_is b meter e,
           le-ltb (length memory) (length (file_bytes (parts b meter))) long,
         ) (
-          ap (λ n. record { answer = Taken; size = n }) (l.ends ∙ zero-add (length (file_bytes (parts b meter))) ∙ ap length file),
+          ap Ok (l.ends ∙ zero-add (length (file_bytes (parts b meter))) ∙ ap length file),
           l.holds ∙ rw (zero-add, file),
         )

@@ -48,6 +48,10 @@ module _ (c : Command) (m : List ℕ) (at : ℕ) (r : Room (c ∷ []) m at) wher
 pub laid_long : {cs : List Command} {m after : List ℕ} {at next : ℕ} → Room cs m at → Laid cs m at after next → length after ≡ length m
 laid_long r l = bytes-long r.fits l
 
+-- some commands, and more after them
+pub laid_then : (cs ds : List Command) {m m₁ m₂ : List ℕ} {at at₁ at₂ : ℕ} → Laid cs m at m₁ at₁ → at₁ ≤ length m → Laid ds m₁ at₁ m₂ at₂ → Laid (cs ++ ds) m at m₂ at₂
+laid_then cs ds l h n = rw (concat_map_append write cs ds) (bytes-both h l n)
+
 module _ (cs ds : List Command) {m : List ℕ} {at : ℕ} (r : Room (cs ++ ds) m at) where
   pub room_first : Room cs m at
   room_first = record { fits = omega (arith, r.fits, length_both cs ds) }
@@ -57,7 +61,7 @@ module _ (cs ds : List Command) {m : List ℕ} {at : ℕ} (r : Room (cs ++ ds) m
     room_next = record { fits = omega (arith, r.fits, length_both cs ds, laid_long room_first l, l.ends) }
 
     pub laid_both : {m₂ : List ℕ} {at₂ : ℕ} → Laid ds m₁ at₁ m₂ at₂ → Laid (cs ++ ds) m at m₂ at₂
-    laid_both n = rw (concat_map_append write cs ds) (bytes-both (omega (arith, r.fits, length_both cs ds, l.ends)) l n)
+    laid_both n = laid_then cs ds l (omega (arith, r.fits, length_both cs ds, l.ends)) n
 
 -- ---- a loop that puts commands, some each turn
 

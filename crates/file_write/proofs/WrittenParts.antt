@@ -26,8 +26,8 @@ use Rattle.rules.proofs.Operands.{write_long}
 use Rattle.rules.proofs.Taken.{concat_map_append}
 use Rattle.book_memory.specs.Meter.{Memory, lent, missing, room_in, cell_reading, kw_at, revision_at, metered_at}
 use Rattle.book.specs.declared.Book.{Book}
-use Rattle.file_write.specs.Laid.{file_bytes, Room, Laid, readings, parts, Kept}
-use Rattle.file_write.proofs.WrittenLaid.{bytes_one, length_both, laid_none, Turns, room_turn, laid_turn}
+use Rattle.file_write.specs.Laid.{file_bytes, readings, parts, Kept}
+use Rattle.file_write.proofs.WrittenLaid.{bytes_one, length_both, Turns}
 
 -- ---- how long a command is
 
@@ -128,23 +128,23 @@ module _ (meter : Memory) where
 
 module _ (b : Book) (meter : Memory) where
   -- the length of the whole is that of the parts
-  pub parts-length :
-      length (file_bytes (cond b.agreed (contractᶜ b.contract ∷ []) []))
+  pub parts_length :
+      length (file_bytes (parts b meter))
+      ≡ length (file_bytes (cond b.agreed (contractᶜ b.contract ∷ []) []))
       + length (file_bytes (cond (not (is_no_date b.date)) (dateᶜ b.date ∷ []) []))
       + length (file_bytes (map windowᶜ (take b.nwindows b.windows))) + length (file_bytes (map instructionᶜ (take b.ninstructions b.instructions)))
       + length (file_bytes (map defaultᶜ (take b.ndefaults b.defaults)))
       + length (file_bytes (readings meter (book_span b)))
       + length (file_bytes (cond b.closed (closeᶜ ∷ []) []))
-      ≡ length (file_bytes (parts b meter))
   unfolding parts
-  parts-length = sym (simp length_both)
+  parts_length = simp length_both
 
   -- and a small number
   pub parts_short : {size : ℕ} → Kept b size → length (file_bytes (parts b meter)) ≤ 2000000
   parts_short kept =
       omega (
         arith,
-        parts-length,
+        parts_length,
         once_short b.agreed (contractᶜ b.contract),
         once_short (not (is_no_date b.date)) (dateᶜ b.date),
         entries_short windowᶜ b.windows b.nwindows kept.windows,
@@ -154,45 +154,6 @@ module _ (b : Book) (meter : Memory) where
         kept.month,
         once_short b.closed closeᶜ,
       )
-
--- the parts one after the other: part k, and those before it
-module _ (b : Book) (meter : Memory) where
-  abbrev pub part : ℕ → List Command
-  part k =
-      get_or
-      (cond b.agreed (contractᶜ b.contract ∷ []) [] ∷ cond (not (is_no_date b.date)) (dateᶜ b.date ∷ []) []
-      ∷ map windowᶜ (take b.nwindows b.windows) ∷ map instructionᶜ (take b.ninstructions b.instructions) ∷ map defaultᶜ (take b.ndefaults b.defaults)
-      ∷ readings meter (book_span b)
-      ∷ cond b.closed (closeᶜ ∷ []) []
-      ∷ [])
-      k []
-
-  abbrev pub before : ℕ → List Command
-  before zero = []
-  before (suc k) = before k ++ part k
-
-  part_turns : Turns before part 7
-  part_turns = record { more = λ k h. rw (add-one k) }
-
-  -- part k is laid where those before it end, and there is room for it
-  pub record Stand (m out : List ℕ) (place k : ℕ) : Type 0 where
-    pub all : Room (before 7) m 0
-    pub laid : Laid (before k) m 0 out place
-
-  pub stand_none : {m : List ℕ} → Room (parts b meter) m 0 → Stand m m 0 0
-  unfolding parts
-  stand_none r = record { all = r; laid = laid_none _ _ }
-
-  module _ {m out : List ℕ} {place k : ℕ} (s : Stand m out place k) (h : k < 7) where
-    pub part_room : Room (part k) out place
-    part_room = room_turn part_turns s.all h s.laid
-
-    pub part_laid : {after : List ℕ} {next : ℕ} → Laid (part k) out place after next → Stand m after next (k + 1)
-    part_laid l = record { all = s.all; laid = laid_turn part_turns s.all h s.laid l }
-
-  pub stand_all : {m out : List ℕ} {place : ℕ} → Stand m out place 7 → Laid (parts b meter) m 0 out place
-  unfolding parts
-  stand_all s = s.laid
 
 -- ---- the minutes of the span alone
 
@@ -204,7 +165,7 @@ module _ (meter : Memory) (span : ℕ) (h : span ≤ room_in meter) where
   abbrev pub cut : Memory
   cut = lent (take span meter.cells) (take span meter.revisions)
 
-  pub cut_long : (span ≡ length cut.cells) × (span ≡ length cut.revisions)
+  cut_long : (span ≡ length cut.cells) × (span ≡ length cut.revisions)
   unfolding room_in
   cut_long = (sym (length-take-le span meter.cells (omega arith)), sym (length-take-le span meter.revisions (omega arith)))
 
@@ -235,6 +196,7 @@ drop_here (x ∷ xs) (suc m) d e = let more = drop_here xs m d e in (omega arith
 pub record Rest (meter : Memory) (left : List ℤ) (others : List ℕ) (m : ℕ) : Type 0 where
   pub cells : left ≡ drop m meter.cells
   pub bytes : others ≡ drop m meter.revisions
+  pub inside : m ≤ room_in meter
 
 module _ (meter : Memory) {left : List ℤ} {others : List ℕ} {m : ℕ} (r : Rest meter left others m) where
   module _ {cell : ℤ} {byte : ℕ} {left' : List ℤ} {others' : List ℕ} (e : left ≡ cell ∷ left') (f : others ≡ byte ∷ others') where
@@ -244,22 +206,23 @@ module _ (meter : Memory) {left : List ℤ} {others : List ℕ} {m : ℕ} (r : R
     second : (m < length meter.revisions) × (revision_at meter m ≡ byte) × (drop (suc m) meter.revisions ≡ others')
     second = drop_here meter.revisions m 0 (sym r.bytes ∙ f)
 
-    pub rest_more : Rest meter left' others' (m + 1)
-    rest_more = record { cells = rw add-one (sym first.2); bytes = rw add-one (sym second.2) }
-
     pub minute_inside : m < room_in meter
     unfolding room_in
     minute_inside = omega (arith, first.0, second.0)
 
+    pub rest_more : Rest meter left' others' (m + 1)
+    rest_more = record { cells = rw add-one (sym first.2); bytes = rw add-one (sym second.2); inside = omega (arith, minute_inside) }
+
     pub turn_here : turn meter m ≡ reading_at (cell_reading cell byte) m
     turn_here = rw (first.1, second.1)
 
-  pub rest_none : (length left ≡ 0) ⊎ (length others ≡ 0) → room_in meter ≤ m
+  -- with none left those before are all
+  pub rest_none : (length left ≡ 0) ⊎ (length others ≡ 0) → room_in meter ≡ m
   unfolding room_in
   rest_none h =
       let cells = ap length r.cells in
       let bytes = ap length r.bytes in
-      omega (arith, h, length-drop m meter.cells, length-drop m meter.revisions)
+      omega (arith, h, r.inside, length-drop m meter.cells, length-drop m meter.revisions)
 
   -- and its bytes are counted
   pub longer_here : {cell : ℤ} {byte n k : ℕ} {left' : List ℤ} {others' : List ℕ} → left ≡ cell ∷ left' → others ≡ byte ∷ others'

@@ -2,12 +2,14 @@
 ghost use Rattle.std.specs.Prelude.{cond, [], ◌∷◌, ◌≤◌, map};
 ghost use Rattle.commands.specs.Input.{most_minute};
 ghost use Rattle.rules.specs.File.{reading_at};
-ghost use Rattle.book_memory.specs.Meter.{cell_reading, lent, room_in};
+ghost use Rattle.book_memory.specs.Lent.{held};
+ghost use Rattle.book_memory.specs.Meter.{cell_reading, room_in};
 ghost use Rattle.file_write.specs.Laid.{Room, Laid, readings, parts, Kept};
 
 use crate::entries::{Entry, reading_of};
 use book::Book;
 use book_memory::holds_reading;
+use book_memory::lent::Lent;
 use commands::entries::Command;
 use energy::units::Minutes;
 use file_encode::write_at;
@@ -49,22 +51,23 @@ fn put_cell(minute: Minutes, cell: i32, byte: u8, out: &mut [u8], at: usize) -> 
 }
 
 // The readings of the first minutes, a cell and a byte each, by rising minute.
-fn put_readings(meter: &[i32], revisions: &[u8], out: &mut [u8], at: usize) -> usize
-    requires { (room_in (lent meter.now revisions.now) ≤ most_minute)
-        × Room (readings (lent meter.now revisions.now) (room_in (lent meter.now revisions.now))) out.old at }
-    ensures { Laid (readings (lent meter.now revisions.now) (room_in (lent meter.now revisions.now))) out.old at out.new result }
+fn put_readings(memory: Lent<'_>, out: &mut [u8], at: usize) -> usize
+    requires { (room_in (held memory) ≤ most_minute)
+        × Room (readings (held memory) (room_in (held memory))) out.old at }
+    ensures { Laid (readings (held memory.entry) (room_in (held memory.entry))) out.old at out.new result }
 {
     let mut place = at;
-    for (m, (cell, byte)) in meter.iter().zip(revisions).enumerate() {
+    for (m, (cell, byte)) in memory.meter.iter().zip(memory.revisions).enumerate() {
         place = put_cell(Minutes(m as u16), *cell, *byte, out, place);
     }
     place
 }
 
 // A book's file from the first byte on; its length. Each name is the position where that part starts.
-pub(crate) fn put_book(b: &Book, meter: &[i32], revisions: &[u8], out: &mut [u8]) -> usize
-    requires { Kept b.now (room_in (lent meter.now revisions.now)) × Room (parts b.now (lent meter.now revisions.now)) out.old 0 }
-    ensures { Laid (parts b.now (lent meter.now revisions.now)) out.old 0 out.new result }
+#[tactic(auto, using(crate::proofs::WrittenParts::parts_length))]
+pub(crate) fn put_book(b: &Book, memory: Lent<'_>, out: &mut [u8]) -> usize
+    requires { Kept b.now (room_in (held memory)) × Room (parts b.now (held memory)) out.old 0 }
+    ensures { Laid (parts b.now (held memory.entry)) out.old 0 out.new result }
 {
     let span = b.span();
     let date = put_if(b.agreed, Command::Contract(b.contract), out, 0);
@@ -72,6 +75,6 @@ pub(crate) fn put_book(b: &Book, meter: &[i32], revisions: &[u8], out: &mut [u8]
     let instructions = put_entries(&b.windows[..b.nwindows], out, windows);
     let defaults = put_entries(&b.instructions[..b.ninstructions], out, instructions);
     let readings = put_entries(&b.defaults[..b.ndefaults], out, defaults);
-    let close = put_readings(&meter[..span], &revisions[..span], out, readings);
+    let close = put_readings(memory.first(span), out, readings);
     put_if(b.closed, Command::Close, out, close)
 }

@@ -11,8 +11,9 @@ use Rattle.host_tables.specs.Tables.{Tables, book_of, entire}
 use Rattle.file_write.specs.Write.{WrittenBytes, write_book}
 use Rattle.watch_month.specs.MonthOf.{MonthLaid, month_book}
 use Rattle.rules.specs.Answer.{Answer, Taken}
-use Rattle.std.specs.Prelude.{Err}
+use Rattle.std.specs.Prelude.{Result, Ok, Err}
 use Rattle.commands.specs.Refusals.{number_of as number_of_refusal}
+use Rattle.commands.specs.declared.refusal.Refusal.{Refusal}
 
 -- ---- a file entered
 
@@ -65,6 +66,11 @@ settle_file file meter lines sums =
 
 -- ---- a book written
 
+-- what writing is answered as: its size, or the refusal's number with 0
+abbrev pub packed_size : Result ℕ Refusal → ℕ
+packed_size (Ok size) = packed 0 size
+packed_size (Err r) = packed (number_of_refusal r) 0
+
 -- the answer, and file memory after it
 pub record WrittenFile : Type 0 where
   pub answer : ℕ
@@ -79,7 +85,7 @@ unfoldable pub write_tables : Tables → Memory → List ℕ → WrittenFile
 write_tables t meter file =
     cond (entire t)
     (let w : WrittenBytes = write_book (book_of t) meter file in
-    written_file (packed (number_of w.written.answer) w.written.size) w.memory)
+    written_file (packed_size w.answer) w.memory)
     (written_file (packed 11 0) file)
 
 -- ---- a file entered and written
@@ -99,7 +105,7 @@ rewritten_file answer meter written = record { answer = answer; meter = meter; w
 abbrev pub writes_by : Answer → LoadedFile → List ℕ → RewrittenFile
 writes_by Taken l memory =
     let w : WrittenBytes = write_book l.loaded.book l.meter memory in
-    rewritten_file (packed (number_of w.written.answer) w.written.size) l.meter w.memory
+    rewritten_file (packed_size w.answer) l.meter w.memory
 writes_by (Err r) l memory = rewritten_file (packed (number_of_refusal r) l.loaded.at) l.meter memory
 
 -- a whole file, entered and written

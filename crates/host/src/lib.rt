@@ -1,23 +1,27 @@
 // The package for hosts in C or Rust: whole unit files, and tables of numbers, entered and settled into numbers, or written as a unit file; and running
 // totals, by the numbers of a month and one step for each active minute.
 // Every call is total: it answers for every length and every contents of what is lent. Each promise is one equation: the answer and all lent memory
-// after the call are what the definition of the call gives for what was lent.
+// after the call are what the definition of the call gives for what was lent. Each matches its own answer: a closure for `map_or_else` would hold the
+// memory that is lent to be written, and std does not promise that a closure which is not called leaves it.
+// Meter and revision memory come as two slices, as C lends them, and are one struct from each call's door on.
 #![tactic(auto)]
 
-ghost use Rattle.std.specs.Prelude.{◌≡◌, MatchResult};
+ghost use Rattle.std.specs.Prelude.{◌≡◌};
 ghost use Rattle.book.specs.Book.{empty_book};
+ghost use Rattle.book_memory.specs.Lent.{held};
 ghost use Rattle.book_memory.specs.Meter.{lent};
 ghost use Rattle.file_load.specs.Load.{load};
 ghost use Rattle.file_write.specs.Write.{write_book};
 ghost use Rattle.host.specs.Calls.{enter_file, settle_file, settle_tables, write_file, write_tables};
 ghost use Rattle.host.specs.Calls.{entered_file, rewritten_file, settled_file, written_file};
 ghost use Rattle.host.specs.Calls.{day_file, day_tables, watch_file, watch_tables, watched_book, watched_file};
-ghost use Rattle.host.specs.Entered.{EnteredWhole, StoppedAt, written_book};
+ghost use Rattle.host.specs.Entered.{written_book};
 ghost use Rattle.host_settle.specs.SettleInto.{settled_book};
 ghost use Rattle.host_tables.specs.Tables.{tables};
 ghost use Rattle.host_watch.specs.StepNumbers.{step_numbers, stepped_numbers};
 
 use book::Book;
+use book_memory::lent::{Lent, LentMut};
 use file_load::file::load_file;
 use file_write::write_book;
 use host_day::answer_day;
@@ -27,19 +31,6 @@ use host_tables::Tables;
 use host_watch::step_numbers;
 use watch_month::month_of;
 
-// Enters a whole unit file: its book and its length, or what is answered of a file with a refused command.
-fn entered(file: &[u8], meter: &mut [i32], revisions: &mut [u8]) -> Result<(Book, usize), u64>
-    ensures outcome { let l = load file.now empty_book (lent meter.old revisions.old) in
-        MatchResult result (λ p. EnteredWhole l p.0 p.1) (StoppedAt l) }
-    ensures memory { lent meter.new revisions.new ≡ (load file.now empty_book (lent meter.old revisions.old)).meter }
-{
-    let l = load_file(file, meter, revisions);
-    match l.answer {
-        Ok(()) => Ok((l.book, l.at)),
-        Err(refusal) => Err(pack(refusal.number(), l.at)),
-    }
-}
-
 // Enters a whole unit file. The answer is the refusal's number, or 0, and 256 times the offset of the refused command, or the file's length.
 #[unsafe(no_mangle)]
 #[tactic(auto, unfolding(crate::specs::Calls::enter_file))]
@@ -47,7 +38,7 @@ pub extern "C" fn stor_enter_file(file: &[u8], meter: &mut [i32], revisions: &mu
     ensures { entered_file result (lent meter.new revisions.new)
         ≡ enter_file file.now (lent meter.old revisions.old) }
 {
-    let l = load_file(file, meter, revisions);
+    let l = load_file(file, &mut LentMut { meter, revisions });
     pack(number_of(l.answer), l.at)
 }
 
@@ -64,9 +55,11 @@ pub extern "C" fn stor_settle_file(
     ensures { settled_file result (lent meter.new revisions.new) lines.new sums.new
         ≡ settle_file file.now (lent meter.old revisions.old) lines.old sums.old }
 {
-    match entered(file, meter, revisions) {
-        Ok((book, at)) => pack(settle_book(book, meter, revisions, lines, sums), at),
-        Err(unsettled) => unsettled,
+    let mut memory = LentMut { meter, revisions };
+    let l = load_file(file, &mut memory);
+    match l.answer {
+        Ok(()) => pack(settle_book(l.book, memory.read(), lines, sums), l.at),
+        Err(unsettled) => pack(unsettled.number(), l.at),
     }
 }
 
@@ -88,24 +81,20 @@ pub extern "C" fn stor_settle_tables(
         (tables contract.now windows.now instructions.now defaults.now)
         (lent meter.now revisions.now) lines.old sums.old }
 {
-    let tables = Tables {
-        contract,
-        windows,
-        instructions,
-        defaults,
-    };
-    match tables.book() {
-        Some(book) => settle_book(book, meter, revisions, lines, sums),
-        None => 11,
+    match Tables::of(contract, windows, instructions, defaults).book() {
+        Ok(book) => settle_book(book, Lent { meter, revisions }, lines, sums),
+        Err(unsettled) => unsettled.number(),
     }
 }
 
 // Writes a book as a unit file. The answer is the refusal's number, or 0, and 256 times the file's length, 0 on a refusal.
-fn write(b: Book, meter: &[i32], revisions: &[u8], file: &mut [u8]) -> u64
-    ensures { written_file result file.new ≡ written_book (write_book b (lent meter.now revisions.now) file.old) }
+fn write(b: Book, memory: Lent<'_>, file: &mut [u8]) -> u64
+    ensures { written_file result file.new ≡ written_book (write_book b (held memory.entry) file.old) }
 {
-    let w = write_book(b, meter, revisions, file);
-    pack(number_of(w.answer), w.size)
+    match write_book(b, memory, file) {
+        Ok(size) => pack(0, size),
+        Err(refusal) => pack(refusal.number(), 0),
+    }
 }
 
 // Writes the book that tables say as a unit file. The answer is the refusal's number, or 0, and 256 times the file's length, 0 on a refusal.
@@ -125,16 +114,10 @@ pub extern "C" fn stor_write_tables(
         (tables contract.now windows.now instructions.now defaults.now)
         (lent meter.now revisions.now) file.old }
 {
-    let tables = Tables {
-        contract,
-        windows,
-        instructions,
-        defaults,
-    };
-    let Some(book) = tables.book() else {
-        return pack(11, 0);
-    };
-    write(book, meter, revisions, file)
+    match Tables::of(contract, windows, instructions, defaults).book() {
+        Ok(book) => write(book, Lent { meter, revisions }, file),
+        Err(unwritten) => pack(unwritten.number(), 0),
+    }
 }
 
 // Enters a whole unit file and writes its book, open, empty or closed, as a unit file into other memory. The answer is the refusal's number, or 0, and
@@ -150,9 +133,11 @@ pub extern "C" fn stor_write_file(
     ensures { rewritten_file result (lent meter.new revisions.new) written.new
         ≡ write_file file.now (lent meter.old revisions.old) written.old }
 {
-    match entered(file, meter, revisions) {
-        Ok((book, _)) => write(book, meter, revisions, written),
-        Err(unwritten) => unwritten,
+    let mut memory = LentMut { meter, revisions };
+    let l = load_file(file, &mut memory);
+    match l.answer {
+        Ok(()) => write(l.book, memory.read(), written),
+        Err(unwritten) => pack(unwritten.number(), l.at),
     }
 }
 
@@ -170,9 +155,11 @@ pub extern "C" fn stor_day_file(
     ensures { entered_file result (lent meter.new revisions.new)
         ≡ day_file file.now (lent meter.old revisions.old) day holidays.now }
 {
-    match entered(file, meter, revisions) {
-        Ok((book, _)) => answer_day(book, day, holidays),
-        Err(unasked) => unasked,
+    let mut memory = LentMut { meter, revisions };
+    let l = load_file(file, &mut memory);
+    match l.answer {
+        Ok(()) => answer_day(l.book, day, holidays),
+        Err(unasked) => pack(unasked.number(), l.at),
     }
 }
 
@@ -191,15 +178,9 @@ pub extern "C" fn stor_day_tables(
         (tables contract.now windows.now instructions.now defaults.now)
         day holidays.now }
 {
-    let tables = Tables {
-        contract,
-        windows,
-        instructions,
-        defaults,
-    };
-    match tables.book() {
-        Some(book) => answer_day(book, day, holidays),
-        None => pack(11, 0),
+    match Tables::of(contract, windows, instructions, defaults).book() {
+        Ok(book) => answer_day(book, day, holidays),
+        Err(unasked) => pack(unasked.number(), 0),
     }
 }
 
@@ -216,9 +197,11 @@ pub extern "C" fn stor_watch_file(
     ensures { watched_file result (lent meter.new revisions.new) month.new
         ≡ watch_file file.now (lent meter.old revisions.old) month.old }
 {
-    match entered(file, meter, revisions) {
-        Ok((book, at)) => pack(number_of(month_of(book, month)), at),
-        Err(unwatched) => unwatched,
+    let mut memory = LentMut { meter, revisions };
+    let l = load_file(file, &mut memory);
+    match l.answer {
+        Ok(()) => pack(number_of(month_of(l.book, month)), l.at),
+        Err(unwatched) => pack(unwatched.number(), l.at),
     }
 }
 
@@ -237,16 +220,10 @@ pub extern "C" fn stor_watch_tables(
         (tables contract.now windows.now instructions.now defaults.now)
         month.old }
 {
-    let tables = Tables {
-        contract,
-        windows,
-        instructions,
-        defaults,
-    };
-    let Some(book) = tables.book() else {
-        return 11;
-    };
-    number_of(month_of(book, month))
+    match Tables::of(contract, windows, instructions, defaults).book() {
+        Ok(book) => number_of(month_of(book, month)),
+        Err(unwatched) => unwatched.number(),
+    }
 }
 
 // One step of the running totals, by a month's numbers and the reading of its minute. The answer is 0, or from 101 on why the totals are as they were.

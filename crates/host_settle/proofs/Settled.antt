@@ -6,11 +6,9 @@ use mathlib.Core.List.{List, [], ◌∷◌, ◌++◌}
 use mathlib.Core.Option.{Option, none, some}
 use Prim.Native.Nat.{ℕ, ◌*◌, ◌/◌, ◌≤◌}
 use native.Mathlib.Omega.{arith}
-use lib.Dec.{ltb}
 use lib.IntN.{ℤ}
 use lib.ListN.{length, drop}
-use borrow.Author.Tests.{ltb-false}
-use Rattle.book_memory.specs.Meter.{Memory, room_in}
+use Rattle.book_memory.specs.Meter.{Memory}
 use Rattle.energy.specs.Lists.{concat_map}
 use Rattle.rules.specs.Ledger.{Ledger}
 use Rattle.commands.specs.Refusals.{refusal_of}
@@ -20,25 +18,25 @@ use Rattle.rules.specs.Statement.{lines, settle_conditions, settle_refusal, stat
 use Rattle.rules.specs.declared.statement.Line.{Line}
 use Rattle.rules.proofs.LineBound.{lines-segments}
 use Rattle.book.specs.Book.{ledger_in}
+use Rattle.rules.specs.declared.statement.Statement.{Statement}
 use Rattle.book.specs.Sound.{sound}
 use Rattle.book.specs.declared.Book.{Book}
+use Rattle.settle.specs.Settle.{refusal_for}
+use Rattle.settle.proofs.Refusal.{open_for}
+use Rattle.std.specs.Prelude.{Ok}
 use Rattle.settle_numbers.specs.Numbers.{numbers_of, number_book, numbered_by}
 use Rattle.host_settle.specs.SettleInto.{short_number}
 
 -- a statement's lines fit the memory lent for them: else it gets 26
-few_by : (u m c k : Bool) (g : Ledger) (memory : List ℤ) (room : ℕ) (r : Bool) → ltb room (length (segments g)) ≡ r
-    → (numbered_by (first_met ((11 when u) ∷ (15 when m) ∷ (24 when c) ∷ (25 when k) ∷ (26 when r) ∷ [])) g memory).settlement.statement.lines ≤ room
-unfolding first_met statement_of
-few_by true m c k g memory room r e = omega arith
-few_by false true c k g memory room r e = omega arith
-few_by false false true k g memory room r e = omega arith
-few_by false false false true g memory room r e = omega arith
-few_by false false false false g memory room true e = omega arith
-few_by false false false false g memory room false e = omega (arith, ltb-false room (length (segments g)) e, lines-segments g)
+few_by : (o : Option ℕ) (g : Ledger) (memory : List ℤ) (room : ℕ) (s : Statement) → (o ≡ none → length (segments g) ≤ room)
+    → Ok s ≡ (numbered_by o g memory).answer → s.lines ≤ room
+unfolding statement_of
+few_by none g memory room s h e = let same : s.lines ≡ length (lines g) = cc e in omega (arith, h refl, lines-segments g, same)
+few_by (some n) g memory room s h e = cc
 
-pub few_lines_lem : (b : Book) (meter : Memory) (memory : List ℤ) → (number_book b meter memory).settlement.statement.lines ≤ length memory / 8
-unfolding number_book settle_refusal settle_conditions
-few_lines_lem b meter memory = few_by (not (sound b)) _ _ _ (ledger_in b meter) memory (length memory / 8) _ refl
+pub few_lines_lem : (b : Book) (meter : Memory) (memory : List ℤ) (s : Statement) → Ok s ≡ (number_book b meter memory).answer → s.lines ≤ length memory / 8
+unfolding number_book
+few_lines_lem b meter memory s = few_by (refusal_for b meter (length memory / 8)) (ledger_in b meter) memory (length memory / 8) s (λ e. (open_for e).few)
 
 -- ---- no room for a line
 
@@ -47,21 +45,19 @@ unfolding concat_map
 empty [] h = refl
 empty (l ∷ ls) h = absurd (omega arith)
 
-nothing_by : (o : Option ℕ) (g : Ledger) → (numbered_by o g []).settlement.statement.lines ≤ 0 → (numbered_by o g []).memory ≡ []
-unfolding statement_of
-nothing_by none g h = empty (lines g) h
+nothing_by : (o : Option ℕ) (g : Ledger) → (o ≡ none → length (segments g) ≤ 0) → (numbered_by o g []).memory ≡ []
+nothing_by none g h = empty (lines g) (omega (arith, h refl, lines-segments g))
 nothing_by (some n) g h = refl
 
 -- nothing is written where nothing is lent
 pub nothing_written : (b : Book) (meter : Memory) → (number_book b meter []).memory ≡ []
 unfolding number_book
-nothing_written b meter =
-    nothing_by (settle_refusal (not (sound b)) (room_in meter) 0 (ledger_in b meter)) (ledger_in b meter) (few_lines_lem b meter [])
+nothing_written b meter = nothing_by (refusal_for b meter 0) (ledger_in b meter) (λ e. (open_for e).few)
 
 number_by :
     (u m c k r q : Bool) (g : Ledger) (ys : List ℤ)
-    → short_number (numbered_by (first_met ((11 when u) ∷ (15 when m) ∷ (24 when c) ∷ (25 when k) ∷ (26 when r) ∷ [])) g []).settlement.answer
-    ≡ short_number (numbered_by (first_met ((11 when u) ∷ (15 when m) ∷ (24 when c) ∷ (25 when k) ∷ (26 when q) ∷ [])) g ys).settlement.answer
+    → short_number (numbered_by (first_met ((11 when u) ∷ (15 when m) ∷ (24 when c) ∷ (25 when k) ∷ (26 when r) ∷ [])) g []).answer
+    ≡ short_number (numbered_by (first_met ((11 when u) ∷ (15 when m) ∷ (24 when c) ∷ (25 when k) ∷ (26 when q) ∷ [])) g ys).answer
 unfolding first_met refusal_of
 number_by true m c k r q g ys = refl
 number_by false true c k r q g ys = refl
@@ -74,6 +70,6 @@ number_by false false false false false false g ys = refl
 
 -- without room for the sums the number does not depend on the room for lines
 pub same_number : (b : Book) (meter : Memory) (memory : List ℤ)
-    → short_number (number_book b meter []).settlement.answer ≡ short_number (number_book b meter memory).settlement.answer
+    → short_number (number_book b meter []).answer ≡ short_number (number_book b meter memory).answer
 unfolding number_book settle_refusal settle_conditions
 same_number b meter memory = number_by (not (sound b)) _ _ _ _ _ (ledger_in b meter) memory

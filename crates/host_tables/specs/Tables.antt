@@ -1,13 +1,15 @@
 -- Inner, and for hosts: the book that a host's tables say: a contract with its date, windows, instructions and defaults, each a row of numbers, its
 -- operands in the unit file's order. A number past a table's end is 0, as in every unused place, and one that is too wide for its field stands as the field's largest
 -- value, which is in no operand's range.
-use Rattle.std.specs.Prelude.{Bool, true, ◌&&◌, List, map, ℕ, ◌*◌, ◌/◌, ◌%◌, min, eqb, pos, length, get_or, drop}
+use Rattle.std.specs.Prelude.{Bool, true, cond, ◌&&◌, List, map, ℕ, ◌*◌, ◌/◌, ◌%◌, min, eqb, pos, length, get_or, drop, Result, Ok, Err}
 use Rattle.energy.specs.Lists.{between}
 use Rattle.calendar.specs.declared.Date.{Date}
 use Rattle.commands.specs.declared.contract.Contract.{Contract}
 use Rattle.commands.specs.declared.entries.Window.{Window}
 use Rattle.commands.specs.declared.entries.Instruction.{Instruction}
 use Rattle.commands.specs.declared.entries.Default.{Default}
+use Rattle.commands.specs.declared.refusal.Refusal.{Refusal}
+use Rattle.commands.specs.declared.refusal.Refusal.TheVariants.{NotReached}
 use Rattle.book.specs.declared.Book.{Book}
 
 -- the tables of a host, row after row; the contract's has one row
@@ -118,3 +120,7 @@ entire t =
     eqb (length t.contract) contract_numbers && eqb (length t.windows % window_numbers) 0
     && eqb (length t.instructions % instruction_numbers) 0
     && eqb (length t.defaults % default_numbers) 0
+
+-- the book that tables say; tables with a row cut short say none
+abbrev pub said : Tables → Result Book Refusal
+said t = cond (entire t) (Ok (book_of t)) (Err NotReached)

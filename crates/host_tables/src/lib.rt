@@ -1,8 +1,8 @@
 // The book that a host's tables of numbers say.
 #![tactic(auto)]
 
-ghost use Rattle.std.specs.Prelude.{◌≡◌, List, ℕ, ◌+◌, ◌*◌, ◌<◌, ◌^◌, cond};
-ghost use Rattle.host_tables.specs.Tables.{Tables as TablesOf, book_of, entire, entries_of, entry_at, tables};
+ghost use Rattle.std.specs.Prelude.{◌≡◌, List, ℕ, ◌+◌, ◌*◌, ◌<◌, ◌^◌};
+ghost use Rattle.host_tables.specs.Tables.{Tables as TablesOf, entire, entries_of, entry_at, said, tables};
 ghost use Rattle.host_tables.specs.Tables.{byte_at, contract_of_row, date_of_row, number_at, word_at};
 ghost use Rattle.host_tables.specs.Tables.{default_numbers, default_of_row, instruction_numbers, instruction_of_row, window_numbers, window_of_row};
 
@@ -10,6 +10,7 @@ use book::Book;
 use calendar::Date;
 use commands::contract::Contract;
 use commands::entries::{Default, Instruction, Window};
+use commands::refusal::{Refusal, refuse_if};
 use energy::units::{Kw, Minutes};
 use std::array;
 use std::marker::Model;
@@ -30,7 +31,7 @@ fn number_at(r: &[u32], i: usize) -> u32
     r.get(i).copied().unwrap_or(0)
 }
 
-// The number at a place, in a field of one byte.
+// The number at a place, in a field of one byte; so for two bytes below. One function for both would take its type's `MAX` from each caller.
 fn byte_at(r: &[u32], i: usize) -> u8
     ensures { result ≡ byte_at r.now i }
 {
@@ -170,7 +171,24 @@ impl<'a> Model for Tables<'a> {
     ghost view = { λ t. tables t.contract.now t.windows.now t.instructions.now t.defaults.now };
 }
 
-impl Tables<'_> {
+impl<'a> Tables<'a> {
+    // These four.
+    pub fn of(
+        contract: &'a [u32],
+        windows: &'a [u32],
+        instructions: &'a [u32],
+        defaults: &'a [u32],
+    ) -> Tables<'a>
+        ensures { result ≡ tables contract.now windows.now instructions.now defaults.now }
+    {
+        Tables {
+            contract,
+            windows,
+            instructions,
+            defaults,
+        }
+    }
+
     // Whether these hold whole rows alone.
     #[tactic(auto, unfolding(crate::specs::Tables::entire))]
     fn entire(&self) -> bool
@@ -182,15 +200,13 @@ impl Tables<'_> {
             && self.defaults.len() % DEFAULT_NUMBERS == 0
     }
 
-    // The closed book that these say, none where a row is cut short.
+    // The closed book that these say; refused where a row is cut short.
     #[tactic(auto, unfolding(crate::specs::Tables::book_of))]
-    pub fn book(&self) -> Option<Book>
-        ensures { result ≡ cond (entire self.now) (Some (book_of self.now)) None }
+    pub fn book(&self) -> Result<Book, Refusal>
+        ensures { result ≡ said self.now }
     {
-        if !self.entire() {
-            return None;
-        }
-        Some(Book {
+        refuse_if(!self.entire(), Refusal::NotReached)?;
+        Ok(Book {
             agreed: true,
             closed: true,
             contract: contract_in(self.contract),

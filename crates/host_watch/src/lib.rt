@@ -9,7 +9,8 @@ use energy::units::{Kw, Kwh, Minutes, Pence};
 use watch_step::step::{NotStepped, step};
 use watch_step::totals::Totals;
 
-// The totals that the memory holds: seven numbers at least, the first five each in the range of its type.
+// The totals that the memory holds: seven numbers at least, the first five each in the range of its type. `TryFrom<&[i64]>` could stand only beside `Totals`, where
+// no host is known.
 fn totals_in(totals: &[i64]) -> Option<Totals>
     ensures { MatchOption result (are_totals totals.now ≡ false) (λ s. (are_totals totals.now ≡ true) × (s ≡ totals_in totals.now)) }
 {
@@ -58,6 +59,7 @@ fn put_totals(totals: &mut [i64], s: Totals)
 }
 
 // One step over the month's numbers: the answer's number, and the totals after it in the memory where it is taken.
+#[tactic(auto, using(crate::proofs::TotalsHeld::held_long, watch_step::proofs::Widths::plain), unfolding(crate::specs::StepNumbers::step_numbers))]
 pub fn step_numbers(
     month: &[u32],
     totals: &mut [i64],

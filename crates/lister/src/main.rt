@@ -6,6 +6,7 @@ mod output;
 mod piece;
 mod turn;
 
+use book_memory::lent::LentMut;
 use commands::contract::Contract;
 use lister_page::BYTES;
 use std::io;
@@ -19,8 +20,10 @@ fn main(rt: HostRuntime) -> io::Result<()> {
     let n = input::list_input(
         &mut input,
         &mut buffer,
-        &mut meter,
-        &mut revisions,
+        &mut LentMut {
+            meter: &mut meter,
+            revisions: &mut revisions,
+        },
         &mut rows,
     );
     rt.write_all(&rows[..n])

@@ -1,16 +1,17 @@
 // One piece of a file: the bytes in hand are entered up to a command that they cut off, whose bytes are kept for the next piece.
 ghost use Rattle.std.specs.Prelude.{◌≡◌, true, ◌&&◌, ◌+◌, ◌^◌, ◌≤◌, ◌<◌, eqb, length};
-ghost use Rattle.book_memory.specs.Meter.{lent};
+ghost use Rattle.book_memory.specs.Lent.{held_mut};
 ghost use Rattle.book.specs.Sound.{sound};
 ghost use Rattle.demands.specs.Pieces.{unfinished as unfinished_of};
 ghost use Rattle.lister.specs.Input.{EntersPiece};
 
 use book::Book;
+use book_memory::lent::LentMut;
 use commands::refusal::Refusal;
 use file_load::file::load;
 use rules::answer::Answer;
 
-// How a file's entering ended, and the offset of the byte where it did.
+// How a file's entering ended, and the offset of the byte where it did. No `Result`: offset and book count under either answer.
 #[derive(Clone, Copy)]
 pub struct Ended {
     pub answer: Answer,
@@ -43,20 +44,14 @@ pub fn goes_on(answer: Answer, have: usize, buffer: &[u8]) -> bool
     unfinished(answer) & (have == buffer.len())
 }
 
-// Enters the first `have` bytes of the buffer, where entering stood so before them. Buffer and lent memory are parameters and no struct of arrays, so that the
-// promise holds for every size.
-pub fn enter_piece(
-    e: Ended,
-    have: usize,
-    buffer: &mut [u8],
-    meter: &mut [i32],
-    revisions: &mut [u8],
-) -> Piece
+// Enters the first `have` bytes of the buffer, where entering stood so before them. Buffer and lent memory are slices and no arrays, so that the promise
+// holds for every size.
+pub fn enter_piece(e: Ended, have: usize, buffer: &mut [u8], memory: &mut LentMut<'_>) -> Piece
     requires { (sound e.book ≡ true) × (have ≤ length buffer.old) × (e.offset + have < 2 ^ 64) }
-    ensures { EntersPiece e (lent meter.old revisions.old) buffer.old have result
-        (lent meter.new revisions.new) buffer.new }
+    ensures { EntersPiece e (held_mut memory.old) buffer.old have result
+        (held_mut memory.new) buffer.new }
 {
-    let l = load(e.book, &buffer[..have], meter, revisions);
+    let l = load(e.book, &buffer[..have], memory);
     buffer.copy_within(l.at..have, 0);
     let ended = Ended {
         answer: l.answer,

@@ -1,11 +1,12 @@
-// The four kinds of row: a line, a window, the totals, a refusal.
+// The four kinds of row: a line, a window, the totals, a refusal. A chain for each, field by field: a list of fields would need them all of one type
+// first, and they are letters and numbers of five types.
 ghost use Rattle.std.specs.Prelude.{◌≡◌};
 ghost use Rattle.lister_rows.specs.Rows.{line_row, rate_letter, refusal_row, stage_letter, totals_row, window_row};
 
 use crate::row::Row;
 use rules::statement::{Available, Line, Rate, Stage, Statement};
 
-// `From<Stage> for u8` is not for this crate to write: neither type is its own.
+// No `From` of a stage or a rate: it could stand in `rules` alone, and `u8::from(stage)` would not say whether it is the lister's letter or a host's number.
 fn stage_letter(s: Stage) -> u8
     ensures { result ≡ stage_letter s }
 {

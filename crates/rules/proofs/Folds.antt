@@ -9,9 +9,9 @@ use lib.IntN.{ℤ, ◌+ℤ◌, +ℤ_idr}
 use lib.ListN.{length, get_or, take, length-map}
 use lib.Seq.{take-suc, take-length}
 use Rattle.energy.specs.Lists.{any, count, filter, sum, run, between}
-use Rattle.energy.proofs.Sums.{between-snoc, between_ind, length-between, sum-append}
+use Rattle.energy.proofs.Sums.{between-snoc, length-between, sum-append}
 use Rattle.energy.proofs.Tests.{any_snoc}
-use Rattle.rules.proofs.Lists.{count-append, count_yes}
+use Rattle.rules.proofs.Lists.{count-append}
 pub use Rattle.rules.proofs.Taken.{concat_map_snoc}
 
 module _ {A : Type 0} where
@@ -70,11 +70,6 @@ pub count_none : (f : ℕ → Bool) (a : ℕ) → count f (between a a) ≡ 0
 unfolding count between run
 count_none f a = let e : a - a ≡ 0 = omega arith in rw e refl
 
--- one number more, of which t says whether it passes
-pub count-step : (f : ℕ → Bool) (a b c c' : ℕ) (t : Bool) → a ≤ b → c ≡ count f (between a b) → f b ≡ t → c' ≡ c + cond t 1 0 → c' ≡ count f (between a (b + 1))
-count-step f a b c c' t h e k l =
-    l ∙ ap₂ ◌+◌ e (ap (λ z. cond z 1 0) (sym k)) ∙ sym (ap (count f) (between-snoc a b h) ∙ count-snoc f (between a b) b)
-
 count_go : (f g : ℕ → Bool) (a c n : ℕ) → ((m : ℕ) → m < n → f (a + m) ≡ g (c + m)) → count f (run a n) ≡ count g (run c n)
 unfolding count run
 count_go f g a c zero h = refl
@@ -87,11 +82,6 @@ count_go f g a c (suc n) h =
 pub count_shift : (f g : ℕ → Bool) (a b c d : ℕ) → b - a ≡ d - c → ((m : ℕ) → m < b - a → f (a + m) ≡ g (c + m)) → count f (between a b) ≡ count g (between c d)
 unfolding between
 count_shift f g a b c d e h = count_go f g a c (b - a) h ∙ ap (λ n. count g (run c n)) e
-
--- a test that all pass
-pub count-all : (f : ℕ → Bool) (a b : ℕ) → ((m : ℕ) → f m ≡ true) → count f (between a b) ≡ b - a
-unfolding count
-count-all f a b h = between_ind (λ l. count f l ≡ length l) a b refl (λ m l i k r. count_yes f m l (h m) ∙ ap suc r) ∙ length-between a b
 
 -- what f gives of the first n numbers
 module _ {A : Type 0} (f : ℕ → A) where

@@ -119,7 +119,8 @@ ranged c e =
 
 -- ---- one command read where it stands
 
-in_table : (c : Command) → widths_of (byte_of c) table ≡ some (widths_for c)
+-- a command's byte is the table's
+pub in_table : (c : Command) → widths_of (byte_of c) table ≡ some (widths_for c)
 unfolding widths_of table
 in_table (contractᶜ k) = refl
 in_table (dateᶜ d) = refl

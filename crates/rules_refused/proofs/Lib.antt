@@ -1,1 +1,2 @@
+mod Known
 pub mod Refused

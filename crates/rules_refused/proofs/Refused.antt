@@ -7,7 +7,7 @@ use Prim.Native.Nat.{ℕ}
 use lib.ListN.{replicate}
 use Rattle.rules.specs.Ledger.{ledger_of}
 use Rattle.rules.specs.Refusal.{refusal, joined, taken_after, taken}
-use Rattle.rules.specs.Dates.{january, march, october}
+use Rattle.rules.specs.Dates.{march, october}
 use Rattle.commands.specs.declared.entries.Command.{Command}
 use Rattle.commands.specs.declared.entries.Command.TheVariants.{Close as closeᶜ}
 use Rattle.rules_refused.specs.Refused.{EntryCases, SettlementCases, Refusals, last_window}

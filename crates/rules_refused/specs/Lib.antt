@@ -1,1 +1,2 @@
+pub mod Known
 pub mod Refused

@@ -27,7 +27,7 @@ use Rattle.commands.specs.declared.entries.Window.{Window}
 use Rattle.commands.specs.declared.entries.Instruction.{Instruction}
 use Rattle.book_memory.specs.Meter.{missing, cell_reading, Memory, revision_at}
 use Rattle.book.specs.Book.{no_window, no_instruction, no_default, book_span, book_cells, ledger_in}
-use Rattle.book.specs.Sound.{Shaped}
+use Rattle.book.specs.Sound.{Shaped, sound}
 use Rattle.book.specs.declared.Book.{Book}
 use Rattle.settle_terms.specs.declared.Terms.{Terms}
 use Rattle.settle_terms.specs.Terms.{terms_of, period_places, issue_of, cease_of}
@@ -39,7 +39,7 @@ use Rattle.settle_availability.proofs.Firsts.{spans_first, placed_first, availab
 use Rattle.settle_lines.specs.Cursor.{Planned}
 use Rattle.book.proofs.Month.{span_cells, span_is as book-span}
 use Rattle.rules.proofs.Lists.{get_d_within}
-use Rattle.book.proofs.SoundBook.{SoundBook, SoundCall, SoundDefault}
+use Rattle.book.proofs.SoundBook.{SoundBook, SoundCall, SoundDefault, sound_book, closed_agreed}
 use Rattle.settle.proofs.LedgerTables.{TermsOf, WindowsOf, instruction_at, window_at}
 use Rattle.settle.proofs.SurveyRules.{Surveyed, survey_complete}
 use Rattle.settle.proofs.LiveTable.{lives, live_at_lem, number_small}
@@ -77,6 +77,11 @@ pub record Grounds (b : Book) (readings : Memory) : Type 0 where
   pub agreed : b.agreed ≡ true
   pub shape : Shaped b
   pub cells : book_cells b ≤ length readings.cells
+
+pub grounds : (b : Book) (readings : Memory) → sound b ≡ true → b.closed ≡ true → Shaped b → book_cells b ≤ length readings.cells → Grounds b readings
+grounds b readings s c shape room =
+    let agreed : b.agreed ≡ true = closed_agreed b s c in
+    record { sound = sound_book b s agreed; agreed = agreed; shape = shape; cells = room }
 
 module _ {b : Book} {readings : Memory} (G : Grounds b readings) where
   abbrev k : Contract

@@ -129,7 +129,7 @@ fn entry_of(periods: u32, each: Pence) -> Available
     requires { (periods ≤ most_periods) × Upto 250000000 each.0 }
     ensures { result ≡ entry_of periods (nat_abs each.0) }
 {
-    let pence = each.times(periods);
+    let pence = each * periods;
     Available { periods, pence }
 }
 
@@ -163,7 +163,7 @@ fn entries_of(
         entries[i] = entry_of(k, each);
         total += k;
     }
-    let pence = each.times(total);
+    let pence = each * total;
     Entries {
         windows: entries,
         pence,

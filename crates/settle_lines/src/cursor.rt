@@ -16,6 +16,16 @@ use settle_terms::Terms;
 use settle_terms::minutes::{cell_of, place_of};
 use settle_terms::times::base_from;
 
+// What lines are calculated from: a contract's terms, the instructions, the table of live periods and the readings, which have all that a line needs.
+#[derive(Clone, Copy)]
+pub struct Walk<'a> {
+    pub terms: Terms,
+    pub instructions: &'a [Instruction],
+    pub live: &'a [u8],
+    pub meter: &'a [i32],
+    ghost plan: { Plan terms instructions.now live.now meter.now },
+}
+
 // An instruction under way: its times e, cease and f, its base load as the sum of four readings, and whether a live window pays for its ramps.
 #[derive(Clone, Copy)]
 pub struct Active {
@@ -37,7 +47,7 @@ pub struct Cursor {
     pub pence: Pence,
 }
 
-// A line, and the cursor after it.
+// A line, and the cursor after it: a step always has both.
 #[derive(Clone, Copy)]
 pub struct Stepped {
     pub line: Line,
@@ -147,48 +157,6 @@ fn line_of(
     }
 }
 
-// Instruction `at` under way.
-#[tactic(auto, unfolding(crate::specs::Cursor::active_of))]
-fn active_at(
-    t: Terms,
-    instructions: &[Instruction],
-    live: &[u8],
-    meter: &[i32],
-    at: usize,
-) -> Active
-    requires plan { Plan t instructions.now live.now meter.now }
-    requires at_lt_instructions { at < length instructions.now }
-    ensures { result ≡ active_of t instructions.now live.now meter.now at }
-{
-    let x = instructions[at];
-    let expiry = t.expiry(x);
-    Active {
-        expiry,
-        cease: x.cease,
-        end: t.end(x),
-        base: total(meter, base_from(x.issue), cell_of(x.issue) + 1),
-        early: live[place_of(expiry)] != 0,
-        late: live[place_of(Minutes(x.cease.0 - 1))] != 0,
-    }
-}
-
-// The cursor at the start of its instruction, if there is one.
-#[tactic(auto, unfolding(crate::specs::Cursor::active_of, crate::specs::Cursor::enter_of))]
-fn enter(t: Terms, instructions: &[Instruction], live: &[u8], meter: &[i32], c: Cursor) -> Cursor
-    requires { Plan t instructions.now live.now meter.now }
-    ensures { result ≡ enter_of t instructions.now live.now meter.now c }
-{
-    if c.at < instructions.len() {
-        Cursor {
-            minute: t.start(instructions[c.at]),
-            active: active_at(t, instructions, live, meter, c.at),
-            ..c
-        }
-    } else {
-        c
-    }
-}
-
 // The cursor at another place, with a line's energy and money added. Energy added to money does not compile: it was tried.
 fn moved(c: Cursor, at: usize, minute: Minutes, l: Line) -> Cursor
     requires within { Within 100000000000000 c.capped.0 × Within 100000000000000 c.pence.0 }
@@ -198,58 +166,85 @@ fn moved(c: Cursor, at: usize, minute: Minutes, l: Line) -> Cursor
     Cursor {
         at,
         minute,
-        capped: c.capped.plus(l.capped),
-        pence: c.pence.plus(l.pence),
+        capped: c.capped + l.capped,
+        pence: c.pence + l.pence,
         ..c
     }
 }
 
-// The line of the segment that comes next, and the cursor after it.
-#[tactic(auto, unfolding(crate::specs::Cursor::step_of))]
-pub fn step<'b, 'c>(
-    t: Terms,
-    instructions: &'b [Instruction],
-    live: &'b [u8],
-    meter: &'c [i32],
-    c: Cursor,
-) -> Stepped
-    requires { Plan t instructions.now live.now meter.now × Ready t instructions.now live.now meter.now c }
-    ensures { result ≡ step_of t instructions.now live.now meter.now c }
-{
-    let to = segment_end(c.active, c.minute);
-    let line = line_of(t, c.active, live, meter, c.at, c.minute, to);
-    let next = if to.0 < c.active.end.0 {
-        moved(c, c.at, to, line)
-    } else {
-        enter(t, instructions, live, meter, moved(c, c.at + 1, to, line))
-    };
-    Stepped { line, next }
-}
+impl<'a> Walk<'a> {
+    // Instruction `at` under way.
+    #[tactic(auto, unfolding(crate::specs::Cursor::active_of))]
+    fn active_at(self, at: usize) -> Active
+        requires { at < length self.instructions.now }
+        ensures { let w = self.entry in result ≡ active_of w.terms w.instructions.now w.live.now w.meter.now at }
+    {
+        let t = self.terms;
+        let x = self.instructions[at];
+        let expiry = t.expiry(x);
+        Active {
+            expiry,
+            cease: x.cease,
+            end: t.end(x),
+            base: total(self.meter, base_from(x.issue), cell_of(x.issue) + 1),
+            early: self.live[place_of(expiry)] != 0,
+            late: self.live[place_of(Minutes(x.cease.0 - 1))] != 0,
+        }
+    }
 
-// The cursor at the first segment, if there is one.
-pub fn first<'b, 'c>(
-    t: Terms,
-    instructions: &'b [Instruction],
-    live: &'b [u8],
-    meter: &'c [i32],
-) -> Cursor
-    requires { Plan t instructions.now live.now meter.now }
-    ensures { result ≡ cursor_at t instructions.now live.now meter.now 0 }
-{
-    let none = Active {
-        expiry: Minutes(0),
-        cease: Minutes(0),
-        end: Minutes(0),
-        base: 0,
-        early: false,
-        late: false,
-    };
-    let start = Cursor {
-        at: 0,
-        minute: Minutes(0),
-        active: none,
-        capped: Kwh(0),
-        pence: Pence(0),
-    };
-    enter(t, instructions, live, meter, start)
+    // The cursor at the start of its instruction, if there is one.
+    #[tactic(auto, unfolding(crate::specs::Cursor::active_of, crate::specs::Cursor::enter_of))]
+    fn enter(self, c: Cursor) -> Cursor
+        ensures { let w = self.entry in result ≡ enter_of w.terms w.instructions.now w.live.now w.meter.now c }
+    {
+        if c.at < self.instructions.len() {
+            Cursor {
+                minute: self.terms.start(self.instructions[c.at]),
+                active: self.active_at(c.at),
+                ..c
+            }
+        } else {
+            c
+        }
+    }
+
+    // The line of the segment that comes next, and the cursor after it.
+    #[tactic(auto, unfolding(crate::specs::Cursor::step_of))]
+    pub fn step(self, c: Cursor) -> Stepped
+        requires { Ready self.terms self.instructions.now self.live.now self.meter.now c }
+        ensures { let w = self.entry in result ≡ step_of w.terms w.instructions.now w.live.now w.meter.now c }
+    {
+        let to = segment_end(c.active, c.minute);
+        let line = line_of(
+            self.terms, c.active, self.live, self.meter, c.at, c.minute, to,
+        );
+        let next = if to.0 < c.active.end.0 {
+            moved(c, c.at, to, line)
+        } else {
+            self.enter(moved(c, c.at + 1, to, line))
+        };
+        Stepped { line, next }
+    }
+
+    // The cursor at the first segment, if there is one.
+    pub fn first(self) -> Cursor
+        ensures { let w = self.entry in result ≡ cursor_at w.terms w.instructions.now w.live.now w.meter.now 0 }
+    {
+        let none = Active {
+            expiry: Minutes(0),
+            cease: Minutes(0),
+            end: Minutes(0),
+            base: 0,
+            early: false,
+            late: false,
+        };
+        let start = Cursor {
+            at: 0,
+            minute: Minutes(0),
+            active: none,
+            capped: Kwh(0),
+            pence: Pence(0),
+        };
+        self.enter(start)
+    }
 }

@@ -1,6 +1,5 @@
 -- The ends of instructions, side by side, exclude what the instructions do.
-use Rattle.std.proofs.Common.{◌≡◌, refl, ◌||◌, ◌&&◌, List, ℕ, zero, suc, ◌+◌, ◌≤◌, length, get_or, arith}
-use lib.Dec.{ltb}
+use Rattle.std.proofs.Common.{◌≡◌, refl, List, ℕ, zero, suc, ◌≤◌, length, arith}
 use Rattle.commands.specs.declared.entries.Instruction.{Instruction}
 use Rattle.settle_terms.specs.declared.Terms.{Terms}
 use Rattle.settle_live.specs.Live.{Ends, excluded_to, past_to}

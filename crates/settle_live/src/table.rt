@@ -1,4 +1,4 @@
-// A table with a byte for each place: of the month's periods, or of the windows.
+// A table with a byte for each place: of the month's periods.
 ghost use Rattle.std.specs.Prelude.{◌≡◌, ◌≤◌, ◌<◌, get_or, length};
 ghost use Rattle.settle_live.specs.Live.{Marked};
 

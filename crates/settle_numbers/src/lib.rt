@@ -1,24 +1,21 @@
 // Settling a book for a host that cannot hold records of enums: each line is eight numbers, the fields of its row in their order.
 #![tactic(auto)]
 
-ghost use Rattle.std.specs.Prelude.{◌≡◌, ◌++◌, map, ℕ, ◌+◌, ◌*◌, ◌≤◌, ◌<◌, length, take, drop};
-ghost use Rattle.book_memory.specs.Meter.{lent};
-ghost use Rattle.energy.specs.Lists.{between, concat_map};
-ghost use Rattle.settle_lines.specs.Cursor.{Plan, Ready, cursor_at, stepped_line};
-ghost use Rattle.settle_numbers.specs.Numbers.{numbers_per_line, number_book, numbers_of, rate_number, stage_number};
+ghost use Rattle.std.specs.Prelude.{◌≡◌};
+ghost use Rattle.book_memory.specs.Lent.{held};
+ghost use Rattle.settle_numbers.specs.Numbers.{number_book, numbers_of, rate_number, stage_number};
 
 use book::Book;
-use commands::entries::Instruction;
-use rules::statement::{Line, Rate, Stage};
-use settle::Settlement;
-use settle::prepare::{prepare, sum_up};
-use settle_lines::cursor::{Cursor, first, step};
-use settle_terms::Terms;
+use book_memory::lent::Lent;
+use commands::refusal::Refusal;
+use rules::statement::{Line, Rate, Stage, Statement};
+use settle::prepare::{check_book, lay_out, sum_up};
+use settle_lines::cursor::Walk;
 
 // How many numbers a line is.
 const LINE_NUMBERS: usize = 8;
 
-// A stage as a number. The numbers are the host's, not the enum's, and `From` could stand only where the enum does.
+// A stage as a number. No `From` of it, nor of a rate: it could stand in `rules` alone, and `i64::from(stage)` would not say whether it is a host's number or the lister's letter.
 fn stage_number(s: Stage) -> i64
     ensures { result ≡ stage_number s }
 {
@@ -56,40 +53,27 @@ fn numbers_of(l: Line) -> [i64; LINE_NUMBERS]
     ]
 }
 
-// The numbers of n lines, one line after the other, into the first of those lent; and the cursor after the lines, with their sums.
-fn fill_numbers<'a, 'b, 'c>(
-    numbers: &'a mut [i64],
-    t: Terms,
-    instructions: &'b [Instruction],
-    live: &'b [u8],
-    meter: &'c [i32],
-    n: usize,
-) -> Cursor
-    requires { (numbers_per_line * n ≤ length numbers.old)
-        × Plan t instructions.now live.now meter.now
-        × ((k : ℕ) → k < n → Ready t instructions.now live.now meter.now (cursor_at t instructions.now live.now meter.now k)) }
-    ensures value { result ≡ cursor_at t instructions.now live.now meter.now n }
-    ensures numbers_after { numbers.new
-        ≡ concat_map numbers_of (map (stepped_line t instructions.now live.now meter.now) (between 0 n))
-        ++ drop (numbers_per_line * n) numbers.old }
+// Settles a book over lent memory, each line as eight numbers in the first of those lent. A loop of its own, as `settle_records` has one: over chunks of
+// eight, lent by std, nothing is said of what the numbers hold afterwards. Numbers after them keep their contents; a refusal alters none.
+pub fn settle_numbers(b: Book, memory: Lent<'_>, numbers: &mut [i64]) -> Result<Statement, Refusal>
+    ensures value { result ≡ (number_book b (held memory.entry) numbers.old).answer }
+    ensures numbers_after { numbers.new ≡ (number_book b (held memory.entry) numbers.old).memory }
 {
-    let mut c = first(t, instructions, live, meter);
+    let room = numbers.len() / LINE_NUMBERS;
+    let n = check_book(&b, b.sound(), memory, room)?;
+    let p = lay_out(&b, n);
+    let walk = Walk {
+        terms: p.terms,
+        instructions: &b.instructions[..b.ninstructions],
+        live: &p.live,
+        meter: memory.meter,
+    };
+    let mut c = walk.first();
     for k in 0..n {
-        let s = step(t, instructions, live, meter, c);
+        let s = walk.step(c);
         let at = LINE_NUMBERS * k;
         numbers[at..at + LINE_NUMBERS].copy_from_slice(&numbers_of(s.line));
         c = s.next;
     }
-    c
-}
-
-// Settles a book over lent memory, each line as eight numbers in the first of those lent. Numbers after them keep their contents; a refusal alters none.
-pub fn settle_numbers(b: Book, meter: &[i32], revisions: &[u8], numbers: &mut [i64]) -> Settlement
-    ensures value { result ≡ (number_book b (lent meter.now revisions.now) numbers.old).settlement }
-    ensures numbers_after { numbers.new ≡ (number_book b (lent meter.now revisions.now) numbers.old).memory }
-{
-    let p = prepare(b, meter, revisions, numbers.len() / LINE_NUMBERS);
-    let instructions = &b.instructions[..p.instructions];
-    let sums = fill_numbers(numbers, p.terms, instructions, &p.live, meter, p.lines);
-    sum_up(p.settlement, sums)
+    Ok(sum_up(p.statement, c))
 }

@@ -1,11 +1,13 @@
 // Settling a book into records of its own, handed back by value: for a caller that lends none.
 ghost use Rattle.std.specs.Prelude.{◌≡◌};
-ghost use Rattle.book_memory.specs.Meter.{lent};
+ghost use Rattle.book_memory.specs.Lent.{held};
 ghost use Rattle.settle_records.specs.Listed.{list_book, no_line};
 
 use crate::Listing;
-use crate::own::settle_into;
+use crate::lent::settle;
 use book::Book;
+use book_memory::lent::Lent;
+use commands::refusal::Refusal;
 use energy::units::{Kwh, Pence};
 use rules::statement::{LISTED_MOST, Line, Rate, Stage};
 
@@ -26,14 +28,10 @@ pub fn blank() -> Line
 }
 
 // Settles a book over lent memory into as many records as 11 days give lines at most.
-pub fn listed(b: Book, meter: &[i32], revisions: &[u8]) -> Listing
-    ensures { result ≡ list_book b (lent meter.now revisions.now) }
+pub fn listed(b: Book, memory: Lent<'_>) -> Result<Listing, Refusal>
+    ensures { result ≡ list_book b (held memory.entry) }
 {
-    let own = settle_into(b, meter, revisions, LISTED_MOST, blank());
     let mut lines = [blank(); LISTED_MOST];
-    lines.copy_from_slice(&own.lines[..LISTED_MOST]);
-    Listing {
-        settlement: own.settlement,
-        lines,
-    }
+    let statement = settle(b, memory, &mut lines)?;
+    Ok(Listing { statement, lines })
 }

@@ -13,7 +13,7 @@ use settle_terms::Terms;
 use settle_terms::minutes::{cell_of, place_of};
 use settle_terms::times::base_from;
 
-// Of the instructions so far: whether all their readings are there, and the number of their segments.
+// Of the instructions so far: whether all their readings are there, and the number of their segments. Both hold of any readings: no half is an answer.
 #[derive(Clone, Copy)]
 pub struct Survey {
     pub complete: bool,

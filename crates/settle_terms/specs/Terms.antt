@@ -1,5 +1,5 @@
 -- Inner, and proved equal to the rules: what settling reads off a book once: the contract's figures; and the times of an instruction.
-use Rattle.std.specs.Prelude.{List, ℕ, pos, get_or}
+use Rattle.std.specs.Prelude.{List, ℕ, get_or}
 use Rattle.commands.specs.Input.{up_minutes, down_minutes}
 use Rattle.commands.specs.declared.contract.Contract.{Contract}
 use Rattle.commands.specs.declared.entries.Instruction.{Instruction}
@@ -17,19 +17,6 @@ terms_of k =
       downminutes = record { 0 = down_minutes k };
       utilisation = k.utilisation;
       optional = k.optional;
-    }
-
--- the terms of a refusal: zeros
-abbrev pub no_terms : Terms
-no_terms =
-    record {
-      kw = record { 0 = pos 0 };
-      kind = 0;
-      response = record { 0 = 0 };
-      upminutes = record { 0 = 0 };
-      downminutes = record { 0 = 0 };
-      utilisation = 0;
-      optional = 0;
     }
 
 -- the periods of the longest month: an October of 31 days and an hour

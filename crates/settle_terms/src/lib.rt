@@ -4,7 +4,7 @@
 ghost use Rattle.std.specs.Prelude.{◌≡◌, ◌≤◌};
 ghost use Rattle.commands.specs.Input.{down_minutes, up_minutes};
 ghost use Rattle.energy.specs.Number.{Upto};
-ghost use Rattle.settle_terms.specs.Terms.{no_terms, terms_of};
+ghost use Rattle.settle_terms.specs.Terms.{terms_of};
 
 use commands::contract::Contract;
 use energy::ramp::ramp_minutes;
@@ -17,6 +17,7 @@ pub mod times;
 #[derive(Clone, Copy)]
 pub struct Terms {
     pub kw: Kw,
+    // the contract's byte, of which `energy::quarters::delivered` takes any
     pub kind: u8,
     pub response: Minutes,
     // ramp up minutes U and ramp down minutes V
@@ -43,20 +44,5 @@ pub fn terms_of(k: Contract) -> Terms
         downminutes: Minutes(down),
         utilisation: k.utilisation,
         optional: k.optional,
-    }
-}
-
-// The terms of a refusal.
-pub fn no_terms() -> Terms
-    ensures { result ≡ no_terms }
-{
-    Terms {
-        kw: Kw(0),
-        kind: 0,
-        response: Minutes(0),
-        upminutes: Minutes(0),
-        downminutes: Minutes(0),
-        utilisation: 0,
-        optional: 0,
     }
 }

@@ -53,7 +53,7 @@ fn set_entry<T: Copy>(table: &mut [T], at: usize, entry: T) {
     }
 }
 
-// Changes a book as a line says.
+// Changes a book as a line says. A match, as in `run`; so of the fields above.
 pub(crate) fn change(b: &mut Book, line: ScriptLine<'_>) {
     match line.letter() {
         b'b' => set_field(b, line.at(1), line),

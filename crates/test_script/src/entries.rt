@@ -71,6 +71,7 @@ fn revision_of(line: ScriptLine<'_>) -> Revision {
     }
 }
 
+// The command that a line says. A match, as in `run`.
 pub(crate) fn command_of(line: ScriptLine<'_>) -> Command {
     match line.letter() {
         b'C' => Command::Contract(contract_of(line)),

@@ -34,8 +34,8 @@ use crate::run::run_script;
 use std::io;
 use std::io::Read;
 
-// Reads until the buffer is full, the input ends or a read fails; how many bytes it put in front. Not by `read_exact`, which does not tell how many those are.
-// The lister has the same: no crate below both reads input.
+// Reads until the buffer is full, the input ends or a read fails; how many bytes it put in front. Of std's `Read`, `read_exact` does not tell how many
+// those are, and `read_to_end` needs the heap. The lister has the same: no crate below both reads input, and one for these lines alone would be no plainer.
 fn read_full(input: &mut impl Read, buffer: &mut [u8]) -> usize
     ensures { result ≤ length buffer.new }
 {

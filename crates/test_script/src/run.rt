@@ -8,12 +8,12 @@ use crate::memory::{UNWRITTEN, held, put_each};
 use crate::statement::print_month;
 use crate::text::ScriptLine;
 use book::{Book, Entry};
-use book_memory::room::room_of;
+use book_memory::lent;
 use commands::entries::Command;
 use energy::units::{Kwh, Pence};
-use rules::statement::{LINES_MOST, Line, Rate, Stage};
+use rules::statement::{LINES_MOST, LISTED_MOST, Line, Rate, Stage};
+use settle_records::lent::settle;
 use settle_records::listed::{blank, listed};
-use settle_records::own::settle_into;
 use std::io;
 
 // The minutes of a month of 31 days and an hour.
@@ -48,7 +48,8 @@ struct Lent {
 }
 
 // A command by a method of its own, or by `enter`, which contracts, readings and revisions come to in any case, and in a quiet script every command. No method
-// of the session: parts of two fields behind one reference cannot be lent at once.
+// of the session: parts of two fields behind one reference cannot be lent at once. A session's two arrays, of which it lends parts: they are one from the
+// first call on.
 fn entered(
     b: Book,
     c: Command,
@@ -57,16 +58,18 @@ fn entered(
     meter: &mut [i32; CELLS],
     revisions: &mut [u8; CELLS],
 ) -> Entry {
-    let meter = &mut meter[..lent.cells];
-    let revisions = &mut revisions[..lent.bytes];
-    let room = room_of(meter, revisions);
+    let mut memory = lent::LentMut {
+        meter: &mut meter[..lent.cells],
+        revisions: &mut revisions[..lent.bytes],
+    };
+    let room = memory.read().room();
     match c {
-        Command::Date(d) if !quiet => b.date(d, meter, revisions),
+        Command::Date(d) if !quiet => b.date(d, &mut memory),
         Command::Window(w) if !quiet => b.window(w, room),
         Command::Instruction(i) if !quiet => b.instruction(i, room),
         Command::Default(d) if !quiet => b.default(d, room),
         Command::Close if !quiet => b.close(room),
-        _ => b.enter(c, meter, revisions),
+        _ => b.enter(c, &mut memory),
     }
 }
 
@@ -127,20 +130,23 @@ impl Session {
         print_line(rt, line)
     }
 
+    // The parts of both arrays that are lent, to be read.
+    fn readings(&self) -> lent::Lent<'_> {
+        lent::Lent {
+            meter: &self.meter[..self.lent.cells],
+            revisions: &self.revisions[..self.lent.bytes],
+        }
+    }
+
     // A settlement into the records lent.
     fn settle_lent(&self, rt: &impl Print, line: ScriptLine<'_>) -> io::Result<()> {
         let n = self.lent.records;
-        let month = settle_into(
-            self.book,
-            &self.meter[..self.lent.cells],
-            &self.revisions[..self.lent.bytes],
-            n,
-            MARK,
-        );
+        let mut lines = [MARK; LINES_MOST];
+        let statement = settle(self.book, self.readings(), &mut lines[..n]);
         print_month(
             rt,
-            month.settlement,
-            &month.lines[..n],
+            statement,
+            &lines[..n],
             MARK,
             self.book.nwindows,
             line.at(1),
@@ -149,19 +155,19 @@ impl Session {
 
     // A settlement into records of its own.
     fn settle_own(&self, rt: &impl Print, line: ScriptLine<'_>) -> io::Result<()> {
-        let month = listed(
-            self.book,
-            &self.meter[..self.lent.cells],
-            &self.revisions[..self.lent.bytes],
-        );
-        print_month(
-            rt,
-            month.settlement,
-            &month.lines,
-            blank(),
-            self.book.nwindows,
-            line.at(1),
-        )
+        let month = listed(self.book, self.readings());
+        let windows = self.book.nwindows;
+        match month {
+            Ok(listing) => {
+                let lines = listing.lines;
+                let statement = Ok(listing.statement);
+                print_month(rt, statement, &lines, blank(), windows, line.at(1))
+            }
+            Err(refusal) => {
+                let lines = [blank(); LISTED_MOST];
+                print_month(rt, Err(refusal), &lines, blank(), windows, line.at(1))
+            }
+        }
     }
 
     fn put_cells(&mut self, line: ScriptLine<'_>) {
@@ -185,7 +191,7 @@ impl Session {
         print_minute(rt, line, held(&self.meter, at), held(&self.revisions, at))
     }
 
-    // What a line says is set.
+    // What a line says is set. A match and no table of closures, here and below: each letter stands once, beside its step.
     fn set(&mut self, line: ScriptLine<'_>) {
         match line.letter() {
             b'l' => self.lend(line.at(1)),

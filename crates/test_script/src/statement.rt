@@ -1,10 +1,10 @@
 // Rows of a settlement.
 ghost use Rattle.std.specs.Prelude.{◌<◌};
 
+use commands::refusal::Refusal;
 use lister_rows::row::Row;
 use lister_rows::rows::{line_row, totals_row, window_row};
-use rules::statement::{Available, Line};
-use settle::Settlement;
+use rules::statement::{Available, Line, Statement};
 use std::io;
 
 fn print_row(rt: &impl Print, row: Row) -> io::Result<()> {
@@ -32,14 +32,13 @@ fn print_windows(rt: &impl Print, windows: &[Available]) -> io::Result<()> {
 // The rows of a statement, or of a refusal. Of step 0 only the totals.
 fn print_statement(
     rt: &impl Print,
-    s: Settlement,
+    s: Result<Statement, Refusal>,
     records: &[Line],
     nwindows: usize,
     step: u16,
 ) -> io::Result<()> {
-    let t = s.statement;
-    match s.answer {
-        Ok(()) => {
+    match s {
+        Ok(t) => {
             if step > 0 {
                 print_lines(rt, &records[..t.lines.min(records.len())], step as usize)?;
                 print_windows(rt, &t.windows[..nwindows.min(128)])?;
@@ -53,7 +52,7 @@ fn print_statement(
 // A settlement into records, each of which held `before`; and how many still hold it.
 pub(crate) fn print_month(
     rt: &impl Print,
-    s: Settlement,
+    s: Result<Statement, Refusal>,
     records: &[Line],
     before: Line,
     nwindows: usize,
@@ -61,7 +60,10 @@ pub(crate) fn print_month(
 ) -> io::Result<()> {
     print_statement(rt, s, records, nwindows, step)?;
     let all = records.len();
-    let lines = s.statement.lines;
+    let lines = match s {
+        Ok(t) => t.lines,
+        Err(_) => 0,
+    };
     let kept = records.iter().filter(|l| **l == before).count();
     println!(rt; "K {all} {lines} {kept}")
 }

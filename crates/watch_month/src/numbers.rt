@@ -1,4 +1,5 @@
-// The numbers of a month, put into their places: the figures, a column for each time of the instructions, and a number for each period.
+// The numbers of a month, put into their places: the figures, a column for each time of the instructions, and a number for each period. Each function asks
+// that the memory is long enough and the terms fit: a host lends a slice of any length, and a struct of both would be taken apart again in each.
 ghost use Rattle.std.specs.Prelude.{◌≡◌, ℕ, ◌++◌, ◌+◌, ◌≤◌, ◌<◌, drop, get_or, length};
 ghost use Rattle.energy.specs.Lists.{put_at};
 ghost use Rattle.watch_month.specs.MonthBy.{Figured, figures_by, flag_by, month_by, periods_by, times_by};

@@ -34,7 +34,7 @@ impl Called<'_> {
     }
 }
 
-// What a minute with this reading delivers over the base load.
+// What a minute with this reading delivers over the base load, whose bound is a clause as in `energy::quarters`.
 pub(crate) fn delivered_in(kind: u32, base: i32, kw: Kw) -> i32
     requires { Within 2000000 base × Within 500000 kw.0 }
     ensures { (result ≡ delivers kind base kw.0) × Within 4000000 result }

@@ -49,6 +49,7 @@ pub const MONTH_PERIODS: usize = 1491;
 pub const MONTH_NUMBERS: usize = 1816;
 
 // Whether a month has all its numbers, and its figures are in their ranges.
+#[tactic(auto, unfolding(crate::specs::Step::month_fits))]
 fn month_fits(month: &[u32]) -> bool
     ensures { result ≡ month_fits month.now }
 {
@@ -130,6 +131,7 @@ impl Called<'_> {
     }
 
     // The pence per MWh of minute m: by its own window, or by the one that pays for its ramp.
+    #[tactic(auto, unfolding(crate::specs::Step::price_at))]
     pub(crate) fn price_at(self, m: u32) -> u32
         ensures { (result ≡ price_at self.entry.month.numbers.now self.entry.n m) × (result ≤ 1000000) }
     {
@@ -146,6 +148,7 @@ impl Called<'_> {
     }
 
     // Whether a segment does not go on into minute m: a period or a stage begins there, or it is f.
+    #[tactic(auto, unfolding(crate::specs::Step::cut_before))]
     pub(crate) fn cut_before(self, m: u32) -> bool
         ensures { result ≡ cut_before self.entry.month.numbers.now self.entry.n m }
     {

@@ -12,34 +12,30 @@ use commands::entries::Reading;
 use energy::quarters::total;
 use energy::units::Kw;
 
-// Why a step is not taken.
+// Why a step is not taken, each with its number for hosts, who have 0 for a step that is taken.
 #[derive(Clone, Copy, Debug, PartialEq, Eq)]
 pub enum NotStepped {
     // a month or totals that are none
-    Unfit,
+    Unfit = 101,
     // an instruction that is not there
-    NoInstruction,
+    NoInstruction = 102,
     // a minute that is not the next active one
-    NotNext,
+    NotNext = 103,
     // a reading outside its range, or no four base readings where they are due
-    NoReading,
+    NoReading = 104,
 }
 
 impl NotStepped {
-    // Its number for hosts, who have 0 for a step that is taken.
+    // A method and no `From`: `u8::from(e)` would not say that it is this number.
     pub fn number(self) -> u8
         ensures { result ≡ refused_number self }
     {
-        match self {
-            NotStepped::Unfit => 101,
-            NotStepped::NoInstruction => 102,
-            NotStepped::NotNext => 103,
-            NotStepped::NoReading => 104,
-        }
+        self as u8
     }
 }
 
 // Whether minute m of instruction i is the next active one.
+#[tactic(auto, unfolding(crate::specs::Step::is_next))]
 fn is_next(i: Called, s: Totals, m: u32) -> bool
     ensures { result ≡ is_next i.entry.month.numbers.now s i.entry.n m }
 {
@@ -108,7 +104,7 @@ fn base_now(new: bool, s: Totals, base: &[i32]) -> i32
 }
 
 // The totals after a minute of instruction i with this reading, over the base load. In line, as what it calls in each minute: a step is timed against a
-// plain program's, and a call that moves totals through memory costs a fifth of it.
+// plain program's, and a call that moves totals through memory costs a fifth of it. The base load's bound is a clause as in `energy::quarters`.
 #[inline(always)]
 fn advance(i: Called, new: bool, s: Totals, r: Reading, base: i32) -> Totals
     requires fit { totals_fit s ≡ true }
@@ -129,8 +125,8 @@ fn advance(i: Called, new: bool, s: Totals, r: Reading, base: i32) -> Totals
     let ends = i.cut_before(m + 1);
     let line = line_kwh(ends, x, d);
     let paid = i.line_pence(ends, m, line);
-    let capped = s.capped.plus(line);
-    let pence = s.pence.plus(paid);
+    let capped = s.capped + line;
+    let pence = s.pence + paid;
     Totals {
         instruction: i.n,
         minute,
@@ -176,6 +172,7 @@ fn check_readings(new: bool, kw: Kw, base: &[i32]) -> Result<(), NotStepped>
 }
 
 // The totals after the next active minute: minute and reading of instruction n, and its four base readings where this is its first.
+#[tactic(auto, unfolding(crate::specs::Step::step_of, crate::specs::Step::answer_to))]
 pub fn step(
     month: &[u32],
     s: Totals,

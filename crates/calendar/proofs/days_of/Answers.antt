@@ -2,7 +2,6 @@
 use mathlib.Core.Path.{◌≡◌, refl, sym, ◌∙◌}
 use mathlib.Core.Bool.{Bool, true, false, ◌||◌, false≢true}
 use mathlib.Core.List.{List, [], ◌∷◌}
-use mathlib.Core.Logic.{inl, inr}
 use Prim.Native.Nat.{ℕ, ◌<◌, zero-le}
 use mir.Val.{has_key}
 use types.Run.{OneOf, hit}
@@ -38,22 +37,6 @@ returns-then-is_leap c = rw (c.in-2.is, sym c.is_leap.ensures ∙ c.if-is_leap.t
 pub returns-else-is_leap : goal.returns-else-is_leap
 unfolding days_of
 returns-else-is_leap c = rw (c.in-2.is, sym c.is_leap.ensures ∙ c.if-is_leap.false) refl
-
-pub returns-in-4 : goal.returns-in-4
-unfolding days_of
-returns-in-4 c = elim c.in-4.is [ inl e ↦ rw e refl | inr (inl e) ↦ rw e refl | inr (inr (inl e)) ↦ rw e refl | inr (inr (inr e)) ↦ rw e refl ]
-
-pub returns-in-1 : goal.returns-in-1
-unfolding days_of
-returns-in-1 c = elim c.in-1.is [ inl e ↦ rw e refl | inr (inl e) ↦ rw e refl | inr (inr (inl e)) ↦ rw e refl | inr (inr (inr e)) ↦ rw e refl ]
-
-pub returns-in-8 : goal.returns-in-8
-unfolding days_of
-returns-in-8 c = elim c.in-8.is [ inl e ↦ rw e refl | inr (inl e) ↦ rw e refl | inr (inr e) ↦ rw e refl ]
-
-pub returns-in-0 : goal.returns-in-0
-unfolding days_of
-returns-in-0 c = rw c.in-0.in-0-own.keys5 refl
 
 pub returns-in-0-2 : goal.returns-in-0-2
 returns-in-0-2 c = let r = c.in-0.in-0-own.rest in let a = c.args in unlisted a.year a.month r.0.0.0.0.1 r.0.0.0.1 r.0.0.1 r.0.1 r.1

@@ -13,29 +13,27 @@ within : (b : Book) (memory : Memory) {room cells : ℕ} → room ≡ room_in me
 within b memory e f h = omega arith
 
 pub returns-then-not-sound : goal.returns-then-not-sound
-returns-then-not-sound c = rw c.refused.ensures (refused_11 _ _ _ (sym c.if-not-sound.ensures))
+returns-then-not-sound c = refused_11 _ _ _ (sym c.if-not-sound.ensures)
 
 pub returns-then-room-cells : goal.returns-then-room-cells
 returns-then-room-cells c =
-    rw c.refused-then-room-cells.ensures
-    (refused_15 _ _ _ (sym c.if-not-sound.ensures) (omega (arith, c.if-room-cells.true, c.cells.ensures, c.room_of-room.ensures)))
+    refused_15 _ _ _ (sym c.if-not-sound.ensures) (omega (arith, c.if-room-cells.true, c.cells.ensures, c.room-room.ensures))
 
 pub file_length-requires : goal.file_length-requires
-file_length-requires c = kept _ _ (sym c.if-not-sound.ensures) (within _ _ c.room_of-room.ensures c.cells.ensures c.if-room-cells.false)
+file_length-requires c = kept _ _ (sym c.if-not-sound.ensures) (within _ _ c.room-room.ensures c.cells.ensures c.if-room-cells.false)
 
 pub returns-then-out-file_length : goal.returns-then-out-file_length
 returns-then-out-file_length c =
-    rw c.refused-then-out-file_length.ensures
-    (refused_26 _ _ _ (sym c.if-not-sound.ensures) (within _ _ c.room_of-room.ensures c.cells.ensures c.if-room-cells.false)
-    (rw c.file_length.ensures at c.if-out-file_length.true))
+    refused_26 _ _ _ (sym c.if-not-sound.ensures) (within _ _ c.room-room.ensures c.cells.ensures c.if-room-cells.false)
+    (rw c.file_length.ensures at c.if-out-file_length.true)
 
-pub put_book-size-requires : goal.put_book-size-requires
-put_book-size-requires c = (
-  kept _ _ (sym c.if-not-sound.ensures) (within _ _ c.room_of-room.ensures c.cells.ensures c.if-room-cells.false),
+pub put_book-requires : goal.put_book-requires
+put_book-requires c = (
+  kept _ _ (sym c.if-not-sound.ensures) (within _ _ c.room-room.ensures c.cells.ensures c.if-room-cells.false),
   record { fits = omega (arith, rw c.file_length.ensures at c.if-out-file_length.false) },
 )
 
 pub returns : goal.returns
 returns c =
-    written-whole _ _ _ (sym c.if-not-sound.ensures) (within _ _ c.room_of-room.ensures c.cells.ensures c.if-room-cells.false)
-    (rw c.file_length.ensures at c.if-out-file_length.false) c.put_book-size.ensures
+    written-whole _ _ _ (sym c.if-not-sound.ensures) (within _ _ c.room-room.ensures c.cells.ensures c.if-room-cells.false)
+    (rw c.file_length.ensures at c.if-out-file_length.false) c.put_book.ensures

@@ -4,4 +4,4 @@ use Rattle.host.proofs.FewWindows.{of_tables}
 use Rattle.host.proofs.stor_settle_tables.Goals as goal
 
 pub settle_book-requires : goal.settle_book-requires
-settle_book-requires c = of_tables _ _ c.in-Some.ensures (search rules)
+settle_book-requires c = of_tables _ _ c.in-Ok.ensures (search rules)

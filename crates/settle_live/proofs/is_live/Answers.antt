@@ -1,6 +1,5 @@
 -- `settle_live::is_live` meets its contract: what the ends exclude, the instructions do. Assumes nothing.
-use Rattle.std.proofs.Common.{◌≡◌, sym, ◌∙◌, ap, true, false, not, ◌&&◌, length, rules, arith}
-use native.Mathlib.Nat.{le_refl}
+use Rattle.std.proofs.Common.{◌≡◌, ◌∙◌, length, rules, arith}
 use Rattle.settle_live.proofs.Ends.{past_excluded}
 use Rattle.settle_live.specs.Live.{excluded_to, is_live}
 use Rattle.settle_live.proofs.is_live.Goals as goal

@@ -2,32 +2,26 @@
 use mathlib.Core.Path.{sym, ap, ◌∙◌}
 use Rattle.commands.specs.Refusals.{outcome}
 use Rattle.commands.specs.declared.entries.Command.TheVariants.{Default as command}
-use Rattle.commands.proofs.Outcomes.{handed_on}
 use Rattle.book_sound.proofs.Search.{in_order}
 use Rattle.book.proofs.SoundTests.{sound_used}
 use Rattle.book.proofs.Refusals.{default_number}
-use Rattle.book.proofs.Asked.{by_input, by_book, past_book, by_own}
+use Rattle.book.proofs.Asked.{Past, past_book, by_own}
 use Rattle.book.proofs.Book.default_asked.Goals as goal
+use Rattle.book.proofs.Book.default_asked.Goals.{In_ok-first_refusal}
 
-pub returns-in_err-input_refusal : goal.returns-in_err-input_refusal
-returns-in_err-input_refusal c meter q =
-    handed_on _ c.from_residual.ensures.1 (by_input c.args.self c.args.room (command c.args.d) (c.in_err-input_refusal.ensures {u = tt}) meter q)
-
-pub returns-in_err-first_refusal : goal.returns-in_err-first_refusal
-returns-in_err-first_refusal c meter q =
-    handed_on _ c.from_residual-in_err-first_refusal.ensures.1
-    (by_book c.args.self c.args.room (command c.args.d) (c.in_ok-input_refusal.ensures {u = tt}) c.requires (c.in_err-first_refusal.ensures {u = tt}) meter q)
+past : (c : In_ok-first_refusal) → Past c.args.self.now c.args.room (command c.args.d)
+past c = past_book _ _ (command c.args.d) (c.in_ok-input_refusal.ensures {u = tt}) c.requires (c.in_ok-first_refusal.ensures {u = tt})
 
 pub shared_ref_as_front-windows : goal.shared_ref_as_front-windows
-shared_ref_as_front-windows c = (past_book _ _ (command c.args.d) (c.in_ok-input_refusal.ensures {u = tt}) c.requires (c.in_ok-first_refusal.ensures {u = tt})).tables.windows
+shared_ref_as_front-windows c = (past (goal.at.shared_ref_as_front-windows c).In_ok-first_refusal).tables.windows
 
 pub shared_ref_as_front-defaults : goal.shared_ref_as_front-defaults
-shared_ref_as_front-defaults c = (past_book _ _ (command c.args.d) (c.in_ok-input_refusal.ensures {u = tt}) c.requires (c.in_ok-first_refusal.ensures {u = tt})).tables.defaults
+shared_ref_as_front-defaults c = (past (goal.at.shared_ref_as_front-defaults c).In_ok-first_refusal).tables.defaults
 
 pub default_refusal-requires : goal.default_refusal-requires
-default_refusal-requires c = let p = (past_book _ _ (command c.args.d) (c.in_ok-input_refusal.ensures {u = tt}) c.requires (c.in_ok-first_refusal.ensures {u = tt})) in in_order _ _ 0 _ (sound_used _ p.sound p.agreed).windows
+default_refusal-requires c = let p = past (goal.at.default_refusal-requires c).In_ok-first_refusal in in_order _ _ 0 _ (sound_used _ p.sound p.agreed).windows
 
 pub returns : goal.returns
 returns c meter q =
-    let p = past_book c.args.self c.args.room (command c.args.d) (c.in_ok-input_refusal.ensures {u = tt}) c.requires (c.in_ok-first_refusal.ensures {u = tt}) in
-    by_own _ _ _ p meter q ((rw c.span.ensures at c.default_refusal.ensures) ∙ sym (ap outcome (default_number c.args.self meter p.agreed c.args.d)))
+    let p = past (goal.at.returns c).In_ok-first_refusal in
+    by_own _ _ _ p meter q ((rw c.span.ensures at c.default_refusal.ensures) ∙ sym (ap outcome (default_number c.args.self.now meter p.agreed c.args.d)))

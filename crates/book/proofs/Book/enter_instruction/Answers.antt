@@ -2,24 +2,25 @@
 use Rattle.std.proofs.Common.{◌<◌, refl, arith, rules}
 use Rattle.commands.specs.declared.entries.Command.TheVariants.{Instruction as command}
 use Rattle.rules.proofs.Folds.{length_mapped}
-use Rattle.book.proofs.Asked.{refused_at, taken_at, instruction_place}
+use Rattle.book.proofs.Asked.{handed_at, taken_at, instruction_place}
 use Rattle.book.proofs.Book.enter_instruction.Goals as goal
-use Rattle.book.proofs.Book.enter_instruction.Goals.{In_default}
+use Rattle.book.proofs.Book.enter_instruction.Goals.{In_ok-instruction_asked}
 
-pub returns-in-Err : goal.returns-in-Err
-returns-in-Err c = rw c.refused.ensures (refused_at c.args.self c.args.room (command c.args.i) (c.in-Err.ensures {u = tt}) refl)
+pub returns-in_err-instruction_asked : goal.returns-in_err-instruction_asked
+returns-in_err-instruction_asked c =
+    handed_at c.args.self.now c.args.room (command c.args.i) (c.in_err-instruction_asked.ensures {u = tt}) refl c.from_residual.ensures.1
 
-place : (c : In_default) → c.args.self.ninstructions < 64
-place c = instruction_place c.args.self c.args.room c.args.i (c.in_default.ensures {u = tt}) refl (search (length_mapped, rules))
+place : (c : In_ok-instruction_asked) → c.args.self.now.ninstructions < 64
+place c = instruction_place c.args.self.now c.args.room c.args.i (c.in_ok-instruction_asked.ensures {u = tt}) refl (search (length_mapped, rules))
 
 pub offset_bounds-self-n : goal.offset_bounds-self-n
-offset_bounds-self-n c = omega (arith, place c)
+offset_bounds-self-n c = omega (arith, place (goal.at.offset_bounds-self-n c).In_ok-instruction_asked)
 
 pub bounds-self-n : goal.bounds-self-n
-bounds-self-n c = place c
+bounds-self-n c = place (goal.at.bounds-self-n c).In_ok-instruction_asked
 
 pub overflow_add-self : goal.overflow_add-self
-overflow_add-self c = omega (arith, place c)
+overflow_add-self c = omega (arith, place (goal.at.overflow_add-self c).In_ok-instruction_asked)
 
 pub returns : goal.returns
-returns c = rw c.taken.ensures (taken_at c.args.self c.args.room (command c.args.i) (c.in_default.ensures {u = tt}) refl (λ m. refl))
+returns c = taken_at c.args.self.now c.args.room (command c.args.i) (c.in_ok-instruction_asked.ensures {u = tt}) refl (λ m. refl)

@@ -1,4 +1,5 @@
 -- `book_memory::gained::mark_gained` meets its contract: each lent part comes back marked, or cleared.
+use mathlib.Core.Path.{refl}
 use Prim.Native.Nat.{◌*◌}
 use Rattle.calendar.specs.Calendar.{days_of, gained_in}
 use Rattle.book_memory.specs.Meter.{lent, missing}
@@ -11,6 +12,6 @@ returns c =
     let d = c.args.d in
     let at = 1440 * days_of d.year d.month in
     let n = gained_in d.month in
-    let marked = part_filled missing n at c.args.meter.now c.mark.new.meter (rw (c.days_of.ensures, c.gained-n.ensures) at c.mark.ensures) in
-    let cleared = part_filled 0 n at c.args.revisions.now c.clear.new.revisions (rw (c.days_of.ensures, c.gained-n.ensures) at c.clear.ensures) in
-    rw c.days_of.ensures (λ i. lent (marked i) (cleared i))
+    let marked = part_filled missing n at c.args.memory.now.meter.now c.mark.new.meter (rw (c.days_of.ensures, c.gained-n.ensures) at c.mark.ensures) in
+    let cleared = part_filled 0 n at c.args.memory.now.revisions.now c.clear.new.revisions (rw (c.days_of.ensures, c.gained-n.ensures) at c.clear.ensures) in
+    (rw c.days_of.ensures (λ i. lent (marked i) (cleared i)), (refl, refl))

@@ -11,12 +11,6 @@ pub loop-m-init : goal.loop-m-init
 unfolding sum_ℕ between run
 loop-m-init c = (omega arith, omega arith, refl, omega arith)
 
-pub overflow_cast-days : goal.overflow_cast-days
-overflow_cast-days c = omega (arith, c.days_of.ensures, days_most c.args.year c.loop-m.m)
-
-pub overflow_add-days : goal.overflow_add-days
-overflow_add-days c = omega (arith, c.days_of.ensures, days_most c.args.year c.loop-m.m)
-
 pub loop-m-preserved : goal.loop-m-preserved
 loop-m-preserved c =
     let l = c.loop-m in

@@ -11,9 +11,6 @@ pub loop-y-init : goal.loop-y-init
 unfolding sum_ℕ between run
 loop-y-init c = (omega arith, omega arith, refl, omega arith)
 
-pub overflow_add-days : goal.overflow_add-days
-overflow_add-days c = let y = c.loop-y.y in omega (arith, c.year_days-days.ensures, year_days_most y)
-
 pub loop-y-preserved : goal.loop-y-preserved
 loop-y-preserved c =
     let l = c.loop-y in

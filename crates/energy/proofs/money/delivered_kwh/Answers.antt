@@ -5,7 +5,7 @@ use mir.Syntax.{w32, w64}
 use mir.Val.{SFits}
 use mir.Facts.{to_z-of_z}
 use mir.ValLaws.{to_z_pos}
-use Rattle.energy.proofs.Integers.{fits_parts, fits_sum, non_neg_parts}
+use Rattle.energy.proofs.Integers.{fits_parts, fits_sum}
 use Rattle.energy.proofs.Rounding.{Raised, Lowered, raised}
 use Rattle.energy.proofs.money.delivered_kwh.Goals as goal
 use Rattle.energy.proofs.money.delivered_kwh.Goals.{After-half_up, Start}
@@ -24,15 +24,6 @@ fit c = record {
   fz = fits_sum w32 c.args.q (pos 120000000) (omega arith);
   by = raised c.args.q 240 500000 (omega arith) (omega arith);
 }
-
-pub overflow_add-raised : goal.overflow_add-raised
-overflow_add-raised c = let f = fit c in simp (to_z-of_z, f.fq) f.fz
-
-pub overflow_cast-raised : goal.overflow_cast-raised
-overflow_cast-raised c = let f = fit c in simp (to_z-of_z, f.fq, f.fz) (non_neg_parts (z c) f.by.low, omega (arith, f.by.size))
-
-pub half_up-requires : goal.half_up-requires
-half_up-requires c = let f = fit c in simp (to_z-of_z, f.fq, f.fz) (omega arith, omega (arith, f.by.size))
 
 lowered : (c : After-half_up) → Lowered c.args.q 240 500000 c.half_up.result
 lowered c = let f = fit c.before in f.by.lowered c.half_up.result (simp (to_z-of_z, f.fq, f.fz) at c.half_up.ensures)

@@ -41,9 +41,6 @@ fit c =
       by = raised (n c) 1000 500000000 (omega arith) small;
     }
 
-pub overflow_mul-raised : goal.overflow_mul-raised
-overflow_mul-raised c = let f = fit c.before.before in simp (to_z-of_z, f.fk, f.rate) f.fn
-
 pub overflow_add-raised : goal.overflow_add-raised
 overflow_add-raised c = let f = fit c.before.before in simp (to_z-of_z, f.fk, f.rate, f.fn) f.fz
 
@@ -52,11 +49,6 @@ overflow_cast-raised-2 c =
     let s = c.before.before in
     let f = fit s in
     simp (to_z-of_z, f.fk, f.rate, f.fn, f.fz) (non_neg_parts (z s) f.by.low, omega (arith, f.by.size))
-
-pub half_up-requires : goal.half_up-requires
-half_up-requires c =
-    let f = fit c.before.before in
-    simp (to_z-of_z, f.fk, f.rate, f.fn, f.fz) (omega arith, omega (arith, f.by.size))
 
 lowered : (c : After-half_up) → Lowered (n c.before.before.before) 1000 500000000 c.half_up.result
 lowered c =

@@ -32,18 +32,6 @@ most s =
     let rest : 100 - s.args.p ≤ 100 = omega arith in
     record { first = first; all = omega (arith, mul-le-mul first rest) }
 
-pub overflow_cast-parts : goal.overflow_cast-parts
-overflow_cast-parts c = let s = c.before.before in rw (kw s).plain ((kw s).nonneg, omega (arith, s.requires))
-
-pub overflow_mul-parts : goal.overflow_mul-parts
-overflow_mul-parts c = let s = c.before.before in rw (kw s).plain (omega (arith, most s))
-
-pub overflow_mul-parts-2 : goal.overflow_mul-parts-2
-overflow_mul-parts-2 c = let s = c.before.before in rw (kw s).plain (omega (arith, most s))
-
-pub half_up-pence-requires : goal.half_up-pence-requires
-half_up-pence-requires c = let s = c.before.before in rw (kw s).plain (omega (arith, most s))
-
 pence : (c : After-half_up-pence) → c.half_up-pence.result ≤ 250000000
 pence c =
     let s = c.before.before.before in

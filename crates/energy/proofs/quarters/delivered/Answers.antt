@@ -82,9 +82,6 @@ value c =
 pub overflow_mul-above : goal.overflow_mul-above
 overflow_mul-above c = let f = fit c in simp (to_z-of_z, f.fs) f.f4
 
-pub overflow_mul-above-2 : goal.overflow_mul-above-2
-overflow_mul-above-2 c = let f = fit c in simp (to_z-of_z, f.fb, f.fn) f.fm
-
 pub overflow_sub-above-2 : goal.overflow_sub-above-2
 overflow_sub-above-2 c = let f = fit c in simp (to_z-of_z, f.fs, f.fb, f.fn, f.f4, f.fm) f.fa
 

@@ -12,26 +12,11 @@ use Rattle.energy.proofs.quarters.expected.Goals.{Start}
 kw : (s : Start) → Unsigned s.args.kw.0
 kw s = unsigned 500000 s.args.kw.0 (lit< tt) s.requires.0
 
-pub overflow_cast-power : goal.overflow_cast-power
-overflow_cast-power c = let s = c.before.before in rw (kw s).plain ((kw s).nonneg, omega (arith, s.requires))
-
-pub overflow_mul-result : goal.overflow_mul-result
-overflow_mul-result c = let s = c.before.before.before.before in rw (kw s).plain (omega (arith, s.requires))
-
-pub overflow_mul-result-then-steady : goal.overflow_mul-result-then-steady
-overflow_mul-result-then-steady c = let s = c.before.before.before.before in rw (kw s).plain (omega (arith, mul-le-mul s.requires.1 s.requires.0.0))
-
 pub returns-then-steady : goal.returns-then-steady
 unfolding expected_in
 returns-then-steady c =
     let s = c.before.before.before.before in
     rw ((kw s).plain, c.if-steady.true) (refl, omega (arith, mul-le-mul s.requires.1 s.requires.0.0))
-
-pub overflow_mul-result-2 : goal.overflow_mul-result-2
-overflow_mul-result-2 c = let s = c.before.before.before.before in rw (kw s).plain (omega (arith, s.requires))
-
-pub overflow_mul-result-3 : goal.overflow_mul-result-3
-overflow_mul-result-3 c = let s = c.before.before.before.before in rw (kw s).plain (omega (arith, mul-le-mul s.requires.1 s.requires.0.0))
 
 pub returns : goal.returns
 unfolding expected_in

@@ -64,8 +64,3 @@ overflow_add-sum c = let t = turned c in rw t.sum (part-fits c.args.meter.now c.
 pub loop-reading-preserved : goal.loop-reading-preserved
 loop-reading-preserved c =
     let t = turned c in rw t.sum (to_z-of_z (part-fits c.args.meter.now c.args.from c.args.to c.requires _ t.inside))
-
-pub returns : goal.returns
-returns c =
-    let e : c.args.from + c.loop-reading.reading-index ≡ c.args.to = omega (arith, items c.args.meter.now c.args.from c.args.to c.requires) in
-    rw e at c.loop-reading.invariant

@@ -49,15 +49,6 @@ fit c =
       fm = fits_diff w64 (pos 0) (pos (d c)) (omega arith);
     }
 
-pub nonzero_div-q : goal.nonzero_div-q
-nonzero_div-q c = let f = fit c in (c.requires, simp (to_z-of_z, f.fn, f.fd) f.fq)
-
-pub overflow_mul-r : goal.overflow_mul-r
-overflow_mul-r c = let f = fit c in simp (to_z-of_z, f.fn, f.fd, f.fr) f.f2
-
-pub overflow_sub-m : goal.overflow_sub-m
-overflow_sub-m c = let f = fit c.before in simp f.fd f.fm
-
 -- the tests, by the parts of r
 over : (c : Then-r-m) → d c.before + 2 * down (r c.before) ≤ 2 * up (r c.before)
 over c =
@@ -115,9 +106,3 @@ returns c =
     simp (to_z-of_z, f.fn, f.fd, f.fq)
     (nearest_by (n s) (d s) (q s)
     (omega (arith, tests_ℤ, quot_rem (n s) (d s) s.requires, mul-parts (pos 2) (r s), diff_parts (pos 0) (pos (d s)))))
-
-pub nonzero_rem-r : goal.nonzero_rem-r
-nonzero_rem-r c = nonzero_div-q c
-
-pub overflow_mul-r-2 : goal.overflow_mul-r-2
-overflow_mul-r-2 c = overflow_mul-r c.before

@@ -1,6 +1,5 @@
 -- `file_write::layout::put_readings` meets its contract: the readings of the minutes passed are put, and the next one goes after them.
-use Prim.Native.Nat.{◌≤◌}
-use Rattle.book_memory.specs.Meter.{lent, room_in}
+use Rattle.book_memory.specs.Lent.{held}
 use Rattle.file_write.specs.Laid.{Laid, readings}
 use Rattle.file_write.proofs.WrittenParts.{Rest}
 use Rattle.file_write.proofs.layout.put_readings.Given as goal
@@ -9,7 +8,6 @@ abbrev pub invariant-loop-m : goal.invariant-loop-m
 invariant-loop-m l = record {
   can_next : (goal.iterator-loop-m).can_next l.m-iterator;
   is_finite : (goal.iterator-loop-m).is_finite l.m-iterator;
-  inside : l.m-iterator.count ≤ room_in (lent l.meter l.revisions);
-  rest : Rest (lent l.meter l.revisions) l.m-iterator.iter.a.rest.now l.m-iterator.iter.b.rest.now l.m-iterator.count;
-  laid : Laid (readings (lent l.meter l.revisions) l.m-iterator.count) l.initial.out l.at l.out l.place;
+  rest : Rest (held l.memory) l.m-iterator.iter.a.rest.now l.m-iterator.iter.b.rest.now l.m-iterator.count;
+  laid : Laid (readings (held l.memory) l.m-iterator.count) l.initial.out l.at l.out l.place;
 }

@@ -3,34 +3,29 @@ use mathlib.Core.Path.{◌≡◌}
 use Prim.Native.Nat.{◌+◌, ◌≤◌}
 use native.Mathlib.Omega.{arith}
 use lib.ListN.{length}
-use Rattle.book_memory.specs.Meter.{lent}
+use Rattle.book_memory.specs.Lent.{held}
 use Rattle.file_write.specs.Laid.{file_bytes, parts}
-use Rattle.file_write.proofs.WrittenParts.{parts-length, parts_short, cut_long, cut_readings, cut_most, within}
+use Rattle.file_write.proofs.WrittenParts.{parts_length, parts_short, cut_readings, cut_most, within}
 use Rattle.file_write.proofs.length.file_length.Goals as goal
 
-pub slice_bounds-readings_length-end : goal.slice_bounds-readings_length-end
-slice_bounds-readings_length-end c =
-    (cut_long (lent c.args.meter.now c.args.revisions.now) c.span-span.result (within _ _ _ c.requires c.span-span.ensures)).0
-
-pub slice_bounds-readings_length-end-2 : goal.slice_bounds-readings_length-end-2
-slice_bounds-readings_length-end-2 c =
-    (cut_long (lent c.args.meter.now c.args.revisions.now) c.span-span.result (within _ _ _ c.requires c.span-span.ensures)).1
+pub first-requires : goal.first-requires
+first-requires c = within _ _ _ c.requires c.span-span.ensures
 
 pub readings_length-readings-requires : goal.readings_length-readings-requires
 readings_length-readings-requires c =
-    cut_most (lent c.args.meter.now c.args.revisions.now) c.span-span.result (within _ _ _ c.requires c.span-span.ensures)
-    (rw c.span-span.ensures c.requires.month)
+    rw c.first.ensures
+    (cut_most (held c.args.memory) c.span-span.result (within _ _ _ c.requires c.span-span.ensures) (rw c.span-span.ensures c.requires.month))
 
 -- the seven lengths
 whole : (c : goal.After-length_if-close)
-    → let long = length (file_bytes (parts c.args.b.now (lent c.args.meter.now c.args.revisions.now))) in
+    → let long = length (file_bytes (parts c.args.b.now (held c.args.memory))) in
     (c.length_if-contract.result + c.length_if-date.result + c.entries_length-windows.result + c.entries_length-instructions.result
     + c.entries_length-defaults.result
     + c.readings_length-readings.result
     + c.length_if-close.result
     ≡ long) × (long ≤ 2000000)
 whole c =
-    let memory = lent c.args.meter.now c.args.revisions.now in
+    let memory = held c.args.memory in
     omega (
       arith,
       c.length_if-contract.ensures,
@@ -38,9 +33,9 @@ whole c =
       c.entries_length-windows.ensures,
       c.entries_length-instructions.ensures,
       c.entries_length-defaults.ensures,
-      rw (cut_readings memory c.span-span.result (within _ _ _ c.requires c.span-span.ensures), c.span-span.ensures) at c.readings_length-readings.ensures,
+      rw (c.first.ensures, cut_readings memory c.span-span.result (within _ _ _ c.requires c.span-span.ensures), c.span-span.ensures) at c.readings_length-readings.ensures,
       c.length_if-close.ensures,
-      parts-length c.args.b.now memory,
+      parts_length c.args.b.now memory,
       parts_short c.args.b.now memory c.requires,
     )
 

@@ -1,6 +1,7 @@
 -- `lister::input::list_input` meets its contract. The bytes that the buffer holds once it is filled are a part of all bytes so far (`held`), so a turn that
 -- is the last puts their listing, and any other leaves entering as they say, further on.
 use Rattle.std.proofs.Common.{◌∙◌, arith, refl, sym, []}
+use Rattle.book_memory.specs.Lent.{held_mut}
 use Rattle.book_memory.specs.Meter.{lent, room_in}
 use Rattle.book_memory.proofs.Lengths.{room_cells}
 use Rattle.rules.proofs.FileLength.{file_length}
@@ -21,7 +22,7 @@ pub list_piece-requires : goal.list_piece-requires
 list_piece-requires g c =
     let f = c.fill-have in
     let t = c.loop-piece in
-    let before = lent c.args.meter.now c.args.revisions.now in
+    let before = held_mut c.args.memory.now in
     let small = file_length.counted (room_in before) (omega (arith, room_cells before, c.requires)) in
     (t.invariant.keeps, f.ensures.2, omega (arith, far t.invariant.so_far, small, f.ensures.2, f.auto.buffer, t.auto.buffer, c.requires))
 

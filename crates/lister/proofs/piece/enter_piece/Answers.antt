@@ -20,7 +20,7 @@ returns c =
     let inside = c.requires.1 in
     let k = rw (← c.copy_within.ensures.after) at (moved c.args.buffer.now l.result.at c.args.have (search rules) inside) in
     record {
-      stands = rw (← l.ensures.0, ← l.ensures.1, ← k);
+      stands = rw (← l.ensures.0, ← l.ensures.1.0, ← k);
       keeps = l.ensures.2;
       fits = omega (arith, c.copy_within.ensures.len, c.requires.1);
     }

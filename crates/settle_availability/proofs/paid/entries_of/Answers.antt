@@ -42,4 +42,4 @@ returns c =
     let l = c.loop-i in
     let e : l.i ≡ length c.args.windows.now = omega arith in
     let h : l.total ≤ most_periods * 128 = omega (arith, c.requires.0.few, l.invariant) in
-    (rw (c.times-pence.ensures, l.invariant.0, l.invariant.1, e), rw c.times-pence.ensures (omega (arith, mul-le-mul h c.requires.4.0)))
+    (rw (c.mul-pence.ensures, l.invariant.0, l.invariant.1, e), rw c.mul-pence.ensures (omega (arith, mul-le-mul h c.requires.4.0)))

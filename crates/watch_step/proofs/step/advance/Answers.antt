@@ -163,15 +163,15 @@ line_kwh-line-requires c =
       held 120000000 d.result (record { sfits = d.type_inv }) b.delivered,
     )
 
-pub plus-capped-requires : goal.plus-capped-requires
-plus-capped-requires c =
+pub add-capped-requires : goal.add-capped-requires
+add-capped-requires c =
     let s = c.args.s in (
       (small s (omega arith) (totals_fit_lem s c.requires.fit)).0,
       wider 500000 100000000000000 c.line_kwh-line.result.0 (omega arith) c.line_kwh-line.ensures.1,
     )
 
-pub plus-pence-requires : goal.plus-pence-requires
-plus-pence-requires c =
+pub add-pence-requires : goal.add-pence-requires
+add-pence-requires c =
     let s = c.args.s in (
       (small s (omega arith) (totals_fit_lem s c.requires.fit)).1,
       wider 500000000 100000000000000 c.line_pence-paid.result.0 (omega arith) c.line_pence-paid.ensures.1,
@@ -194,8 +194,8 @@ returns c =
     rw (to_z-of_z fx, to_z-of_z fd, to_z-of_z fs)
     (made a.i.month.numbers.now a.new a.s a.i.n a.r.minute.0 a.r.kw.0 a.base c.cut_before.result
     c.cut_before-ends.result p.result q.result x.result d.result
-    k.result.0 c.line_pence-paid.result.0 c.plus-capped.result.0 c.plus-pence.result.0 c.cut_before.ensures
+    k.result.0 c.line_pence-paid.result.0 c.add-capped.result.0 c.add-pence.result.0 c.cut_before.ensures
     c.cut_before-ends.ensures p.ensures.0
     (rw (to_z-of_z fs) at q.ensures.0) (sum_told (a.new || c.cut_before.result) a.s.expected p.result x.result f.expected fp x.ensures)
     (sum_told (a.new || c.cut_before.result) a.s.delivered q.result d.result f.delivered fq d.ensures)
-    (rw (to_z-of_z fx, to_z-of_z fd) at k.ensures.0) c.line_pence-paid.ensures.0 c.plus-capped.ensures c.plus-pence.ensures)
+    (rw (to_z-of_z fx, to_z-of_z fd) at k.ensures.0) c.line_pence-paid.ensures.0 c.add-capped.ensures c.add-pence.ensures)

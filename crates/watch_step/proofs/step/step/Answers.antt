@@ -9,7 +9,6 @@ use borrow.Author.Tests.{not-false, eqb-true}
 use mir.Syntax.{w32}
 use mir.Val.{SFits, to_z, of_z}
 use mir.Facts.{to_z-of_z}
-use Rattle.std.proofs.lemmas.Result.{err_from_is_err_and}
 use Rattle.energy.specs.Number.{Within}
 use Rattle.energy.proofs.Tests.{on_and}
 use Rattle.commands.specs.Input.{is_reading}
@@ -18,47 +17,6 @@ use Rattle.watch_step.specs.Step.{answer_to, are_base, are_readings, is_next, ov
 use Rattle.watch_step.specs.declared.totals.Totals.{Totals}
 use Rattle.watch_step.proofs.Fits.{totals_fit_lem, reading_within}
 use Rattle.watch_step.proofs.step.step.Goals as goal
-
-pub returns-in_err-known : goal.returns-in_err-known
-unfolding step_of answer_to
-returns-in_err-known c =
-    let p = err_from_is_err_and c.from_residual.result c.from_residual.ensures.1 in
-    let h = c.in_err-known.ensures in
-    rw (p.1, p.2, h.0, h.1) refl
-
-pub returns-in_err-check_totals : goal.returns-in_err-check_totals
-unfolding step_of answer_to
-returns-in_err-check_totals c =
-    let p = err_from_is_err_and c.from_residual-in_err-check_totals.result c.from_residual-in_err-check_totals.ensures.1 in
-    let h = c.in_err-check_totals.ensures in
-    rw (p.1, p.2, h.0, c.in_ok-known.ensures.1, h.1) refl
-
-pub returns-in_err-i : goal.returns-in_err-i
-unfolding step_of answer_to
-returns-in_err-i c =
-    let p = err_from_is_err_and c.from_residual-in_err-i.result c.from_residual-in_err-i.ensures.1 in
-    let k = c.in_ok-known.ensures in
-    let h = rw k.0 at c.in_err-i.ensures in
-    rw (p.1, p.2, h.0, k.1, c.in_ok-check_totals.ensures, h.1) refl
-
-pub returns-in_err-check_next : goal.returns-in_err-check_next
-unfolding step_of answer_to
-returns-in_err-check_next c =
-    let p = err_from_is_err_and c.from_residual-in_err-check_next.result c.from_residual-in_err-check_next.ensures.1 in
-    let k = c.in_ok-known.ensures in
-    let i = rw k.0 at c.in_ok-i.ensures in
-    let h = rw (i.0, i.1) at c.in_err-check_next.ensures in
-    rw (p.1, p.2, h.0, k.1, c.in_ok-check_totals.ensures, i.2, h.1) refl
-
-pub returns-in_err-check_readings : goal.returns-in_err-check_readings
-unfolding step_of answer_to
-returns-in_err-check_readings c =
-    let p = err_from_is_err_and c.from_residual-in_err-check_readings.result c.from_residual-in_err-check_readings.ensures.1 in
-    let k = c.in_ok-known.ensures in
-    let i = rw k.0 at c.in_ok-i.ensures in
-    let next = rw (i.0, i.1) at c.in_ok-check_next.ensures in
-    let h = c.in_err-check_readings.ensures in
-    rw (p.1, p.2, h.0, k.1, c.in_ok-check_totals.ensures, i.2, next, h.1) refl
 
 -- ---- what `advance` and the base load ask
 -- a minute of the same instruction is the one after the last

@@ -28,12 +28,6 @@ returns-in_err-refuse_if c =
     let q = refused_by (c.in_err-refuse_if.ensures {u = tt}) in
     rw (p.1, p.2, q.1) (input_out _ (sym c.in_range.ensures ∙ not-true _ q.0))
 
-pub ramp_up_minutes-up-requires : goal.ramp_up_minutes-up-requires
-ramp_up_minutes-up-requires c = fits c
-
-pub ramp_down_minutes-down-requires : goal.ramp_down_minutes-down-requires
-ramp_down_minutes-down-requires c = fits c.before
-
 pub returns : goal.returns
 returns c =
     rw (c.ramp_up_minutes-up.ensures, c.ramp_down_minutes-down.ensures) at c.refuse_if-2.ensures
