@@ -23,6 +23,10 @@ most_p = 30
 abbrev pub most_kwh : ℕ
 most_kwh = 500000
 
+-- the number under which one outside its range is refused
+abbrev pub out_of_range : ℕ
+out_of_range = 3
+
 -- what is asked, where the numbers are inside their ranges
 abbrev pub inside_only : {A : Type 0} → Bool → A → Result A OutOfRange
 inside_only inside a = cond inside (Ok a) (Err (record {}))

@@ -1,4 +1,6 @@
 // How large the numbers are that are paid for. The contract names these as its limits (`commands::contract`), and what a segment delivers follows.
+ghost use Rattle.std.specs.Prelude.{◌≡◌};
+ghost use Rattle.energy.specs.Answers.{out_of_range};
 
 use std::error::Error;
 use std::fmt;
@@ -10,11 +12,17 @@ pub struct OutOfRange;
 impl OutOfRange {
     // the number of this refusal
     pub const NUMBER: u8 = 3;
+
+    pub fn number(self) -> u8
+        ensures { result ≡ out_of_range }
+    {
+        OutOfRange::NUMBER
+    }
 }
 
 impl fmt::Display for OutOfRange {
     fn fmt<W: fmt::Write>(&self, f: &mut fmt::Formatter<W>) -> fmt::Result {
-        write!(f, "refused {}", OutOfRange::NUMBER)
+        write!(f, "refused {}", self.number())
     }
 }
 
