@@ -37,6 +37,31 @@ module _ (P : ℕ → List ℕ → Type 0) (one : (n : ℕ) → n < 10 → P n (
   unfolding digits
   by_digits n = in_steps (suc n) n (omega arith)
 
+-- ---- the recursion
+
+-- any bound above n gives n's digits
+enough : (n : ℕ) (k : ℕ) → n < k → digits_in k n ≡ digits n
+unfolding digits_in
+enough = by_digits (λ n bs. (k : ℕ) → n < k → digits_in k n ≡ bs) one more
+  where
+    one : (n : ℕ) → n < 10 → (k : ℕ) → n < k → digits_in k n ≡ digit n ∷ []
+    one n h zero l = absurd (omega arith)
+    one n h (suc k) l = ap (step k n) (lt-ltb n 10 h)
+
+    more :
+        (n : ℕ) (bs : List ℕ) → 10 ≤ n → ((k : ℕ) → n / 10 < k → digits_in k (n / 10) ≡ bs)
+        → (k : ℕ) → n < k → digits_in k n ≡ bs ++ (digit (n % 10) ∷ [])
+    more n bs h rest zero l = absurd (omega arith)
+    more n bs h rest (suc k) l = ap (step k n) (le-ltb n 10 h) ∙ ap (λ xs. xs ++ (digit (n % 10) ∷ [])) (rest k (omega arith))
+
+pub digits_one : (n : ℕ) → n < 10 → digits n ≡ digit n ∷ []
+unfolding digits digits_in
+digits_one n h = ap (step n n) (lt-ltb n 10 h)
+
+pub digits_more : (n : ℕ) → 10 ≤ n → digits n ≡ digits (n / 10) ++ (digit (n % 10) ∷ [])
+unfolding digits digits_in
+digits_more n h = ap (step n n) (le-ltb n 10 h) ∙ ap (λ xs. xs ++ (digit (n % 10) ∷ [])) (enough (n / 10) n (omega arith))
+
 -- ---- as std prints them
 
 appends : AppendsLastDigit digits_in
