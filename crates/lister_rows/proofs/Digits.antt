@@ -3,15 +3,16 @@ use mathlib.Core.Path.{◌≡◌, refl, sym, ◌∙◌, ap}
 use mathlib.Core.Bool.{Bool, true, false, not}
 use mathlib.Core.List.{List, [], ◌∷◌, ◌++◌}
 use Prim.Native.Nat.{ℕ, zero, suc, ◌+◌, ◌-◌, ◌*◌, ◌/◌, ◌%◌, ◌^◌, ◌≤◌, ◌<◌}
+use native.Mathlib.Nat.{div-lt_iff_lt-mul, pow-suc}
 use native.Mathlib.Omega.{arith}
 use lib.Dec.{T, ltb, leb, eqb, le→leb}
 use lib.IntN.{ℤ, pos, negsuc}
-use lib.ListN.{length}
+use lib.ListN.{length, length-append}
 use borrow.Author.Tests.{ltb-true, ltb-false, lt-ltb, le-ltb, ne_eqb}
 use mir.Syntax.{w64}
 use mir.Val.{SFits}
 use Rattle.std.specs.Fmt.{decimal, signed_decimal}
-use Rattle.std.proofs.lemmas.Fmt.{AppendsLastDigit, decimal_from_appends, length-decimal-le, length-decimal-le_succ}
+use Rattle.std.proofs.lemmas.Fmt.{AppendsLastDigit, decimal_from_appends, length-decimal-le_succ}
 use Rattle.energy.specs.Lists.{all}
 use Rattle.energy.proofs.Tests.{and_T, all_snoc, off-T}
 use Rattle.lister_rows.specs.Rows.{digit, digits, digits_in, signed_digits}
@@ -37,6 +38,31 @@ module _ (P : ℕ → List ℕ → Type 0) (one : (n : ℕ) → n < 10 → P n (
   unfolding digits
   by_digits n = in_steps (suc n) n (omega arith)
 
+-- ---- the recursion
+
+-- any bound above n gives n's digits
+enough : (n : ℕ) (k : ℕ) → n < k → digits_in k n ≡ digits n
+unfolding digits_in
+enough = by_digits (λ n bs. (k : ℕ) → n < k → digits_in k n ≡ bs) one more
+  where
+    one : (n : ℕ) → n < 10 → (k : ℕ) → n < k → digits_in k n ≡ digit n ∷ []
+    one n h zero l = absurd (omega arith)
+    one n h (suc k) l = ap (step k n) (lt-ltb n 10 h)
+
+    more :
+        (n : ℕ) (bs : List ℕ) → 10 ≤ n → ((k : ℕ) → n / 10 < k → digits_in k (n / 10) ≡ bs)
+        → (k : ℕ) → n < k → digits_in k n ≡ bs ++ (digit (n % 10) ∷ [])
+    more n bs h rest zero l = absurd (omega arith)
+    more n bs h rest (suc k) l = ap (step k n) (le-ltb n 10 h) ∙ ap (λ xs. xs ++ (digit (n % 10) ∷ [])) (rest k (omega arith))
+
+pub digits_one : (n : ℕ) → n < 10 → digits n ≡ digit n ∷ []
+unfolding digits digits_in
+digits_one n h = ap (step n n) (lt-ltb n 10 h)
+
+pub digits_more : (n : ℕ) → 10 ≤ n → digits n ≡ digits (n / 10) ++ (digit (n % 10) ∷ [])
+unfolding digits digits_in
+digits_more n h = ap (step n n) (le-ltb n 10 h) ∙ ap (λ xs. xs ++ (digit (n % 10) ∷ [])) (enough (n / 10) n (omega arith))
+
 -- ---- as std prints them
 
 appends : AppendsLastDigit digits_in
@@ -59,18 +85,26 @@ decimal_signed (negsuc n) h = ap (λ l. 45 ∷ l) (decimal_digits (suc n) (omega
 
 -- ---- how many there are
 
-pub digits-length : (n : ℕ) (k : ℕ) → n < 10 ^ suc k → n < 2 ^ 64 → length (digits n) ≤ suc k
-digits-length n k h small = rw (← decimal_digits n small) (length-decimal-le (suc k) n (omega arith) h small)
+-- n has at most k + 1 digits below 10 ^ (k + 1)
+pub digits-length : (n : ℕ) (k : ℕ) → n < 10 ^ suc k → length (digits n) ≤ suc k
+digits-length = by_digits (λ n bs. (k : ℕ) → n < 10 ^ suc k → length bs ≤ suc k) (λ n h k l. omega arith) more
+  where
+    more :
+        (n : ℕ) (bs : List ℕ) → 10 ≤ n → ((k : ℕ) → n / 10 < 10 ^ suc k → length bs ≤ suc k)
+        → (k : ℕ) → n < 10 ^ suc k → length (bs ++ (digit (n % 10) ∷ [])) ≤ suc k
+    more n bs h rest zero l = absurd (omega arith)
+    more n bs h rest (suc k) l =
+        rw length-append (omega (arith, rest k ((div-lt_iff_lt-mul (omega arith)).1 (rw pow-suc at l))))
 
 -- a count of 32 bits has at most 10 digits
 pub count-length : (n : ℕ) → n < 2 ^ 32 → length (digits n) ≤ 10
-count-length n h = digits-length n 9 (omega arith) (omega arith)
+count-length n h = digits-length n 9 (omega arith)
 
 -- a signed 64-bit number has at most 20 bytes
 pub signed_length : (z : ℤ) → SFits w64 z → length (signed_digits z) ≤ 20
 unfolding signed_digits
-signed_length (pos n) h = omega (arith, digits-length n 18 (omega (arith, h.sfits)) (omega (arith, h.sfits)))
-signed_length (negsuc n) h = omega (arith, digits-length (suc n) 18 (omega (arith, h.sfits)) (omega (arith, h.sfits)))
+signed_length (pos n) h = omega (arith, digits-length n 18 (omega (arith, h.sfits)))
+signed_length (negsuc n) h = omega (arith, digits-length (suc n) 18 (omega (arith, h.sfits)))
 
 -- ---- the numeral
 

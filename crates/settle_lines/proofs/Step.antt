@@ -1,10 +1,10 @@
 -- What line memory holds after so many lines, and what follows for the segment at the cursor.
 use mathlib.Core.Path.{◌≡◌, refl, sym, ◌∙◌, ap, subst}
 use mathlib.Core.List.{List, ◌++◌, map, append-nil}
-use Prim.Native.Nat.{ℕ, ◌+◌, ◌-◌, ◌*◌, ◌/◌, ◌≤◌, ◌<◌}
+use Prim.Native.Nat.{ℕ, zero, suc, ◌+◌, ◌-◌, ◌*◌, ◌/◌, ◌≤◌, ◌<◌}
 use native.Mathlib.Omega.{arith}
 use lib.IntN.{ℤ}
-use lib.ListN.{length, take, drop, drop_of_length-le}
+use lib.ListN.{length, take, drop, length-set, drop_of_length-le}
 use lib.Seq.{length-take-le}
 use Rattle.energy.specs.Energy.{cell, Readable}
 use Rattle.energy.specs.Lists.{sum, between}
@@ -20,6 +20,10 @@ use Rattle.settle_lines.specs.declared.cursor.Cursor.{Cursor}
 use Rattle.settle_terms.specs.Terms.{issue_of, cease_of}
 use Rattle.settle_lines.specs.Cursor.{active_of, cut_by, stored, Plan, Ready}
 use Rattle.settle_lines.proofs.First.{sets_first}
+
+pub length-stored : (f : ℕ → Line) (n : ℕ) (ys : List Line) → length (stored f n ys) ≡ length ys
+length-stored f zero ys = refl
+length-stored f (suc n) ys = length-set (stored f n ys) n (f n) ∙ length-stored f n ys
 
 -- the first n lines stand before the records that are as they were
 pub stored-first : (f : ℕ → Line) (n : ℕ) (ys : List Line) → n ≤ length ys → stored f n ys ≡ map f (between 0 n) ++ drop n ys

@@ -1,5 +1,5 @@
 -- Marking a table's places one after the other, and its windows.
-use Rattle.std.proofs.Common.{◌≡◌, refl, ◌∙◌, ap, Bool, cond, ◌&&◌, List, ◌++◌, ℕ, zero, suc, ◌+◌, ◌-◌, ◌≤◌, ◌<◌, length, get_or, take, drop, replicate, arith, length-append, length-drop}
+use Rattle.std.proofs.Common.{◌≡◌, refl, ◌∙◌, ap, Bool, cond, ◌&&◌, List, ◌++◌, ℕ, zero, suc, ◌+◌, ◌-◌, ◌≤◌, ◌<◌, length, get_or, take, drop, replicate, add-one, arith, length-append, length-drop}
 use Rattle.std.proofs.lemmas.List.{get_or_append_left, get_or-append_right, get_or-drop, get_or-replicate, get_or-take, length-replicate, length-take-le}
 use native.Mathlib.Decide.{dec_le, dec_lt}
 use native.Mathlib.Nat.{le_refl}
@@ -7,7 +7,7 @@ use lib.Dec.{leb, ltb}
 use borrow.Author.Tests.{lt-ltb, le-ltb, le-leb, lt-leb}
 use Rattle.commands.specs.declared.entries.Window.{Window}
 use Rattle.rules.specs.Ledger.{no_window}
-use Rattle.settle_live.specs.Live.{Marked, Windows, LiveTable, number_to}
+use Rattle.settle_live.specs.Live.{Marked, WindowMarked, Unmarked, Windows, LiveTable, number_to}
 
 -- the places from a to b − 1 filled with v
 module _ (xs : List ℕ) (a b v : ℕ) (h : a ≤ b) (l : b ≤ length xs) where
@@ -45,6 +45,14 @@ module _ (xs : List ℕ) (a b v : ℕ) (h : a ≤ b) (l : b ≤ length xs) where
       let size : length (take n (drop a xs)) ≡ n = length-take-le n (drop a xs) (omega (arith, length-drop a xs)) in
       let same : length all ≡ length xs = simp length-append (omega (arith, front, mid, length-drop n (drop a xs), length-drop a xs)) in
       rw (e, size) (record { same = same; entry = λ p. entry p (dec_le a p) (dec_lt p b) })
+
+-- no window is marked at first, and then one more
+pub live-none : (f : Window → Bool) (ws : List Window) (live : List ℕ) → Unmarked live → LiveTable f ws 0 live
+live-none f ws live a = record { period = a.none }
+
+pub live_next : (f : Window → Bool) (ws : List Window) (n : ℕ) (live live' : List ℕ) → LiveTable f ws n live
+    → WindowMarked (get_or ws n no_window) (n + 1) (f (get_or ws n no_window)) live live' → LiveTable f ws (n + 1) live'
+live_next f ws n live live' l s = record { period = λ p. rw (s.period p, l.period p, add-one n) refl }
 
 -- the first n windows of a list as a list of their own
 module _ (ws : List Window) (n : ℕ) (h : n ≤ length ws) where

@@ -2,10 +2,10 @@
 use mathlib.Core.Path.{◌≡◌, refl, sym, ◌∙◌, ap, ap₂}
 use mathlib.Core.List.{List, [], ◌∷◌, ◌++◌, append_assoc, map}
 use mathlib.Core.Option.{none, some}
-use Prim.Native.Nat.{ℕ, ◌+◌, ◌*◌, ◌/◌}
+use Prim.Native.Nat.{ℕ, ◌+◌, ◌*◌, ◌/◌, ◌≤◌}
 use native.Mathlib.Omega.{arith}
 use lib.IntN.{ℤ}
-use lib.ListN.{length, take, drop, replicate, length-replicate}
+use lib.ListN.{length, take, drop, replicate, length-append, length-drop, length-replicate}
 use lib.Seq.{take_at, drop_at, drop-drop}
 use Rattle.std.specs.Prelude.{Ok, Err}
 use Rattle.book_memory.specs.Meter.{Memory}
@@ -41,6 +41,10 @@ module _ (f : ℕ → Line) where
 
   length-numbers : (n : ℕ) → length (numbers_to n) ≡ 8 * n
   length-numbers n = long (map f (between 0 n)) ∙ ap (λ m. 8 * m) (length-first f n)
+
+  -- the numbers of the lines take the place of as many
+  pub same_size : (n : ℕ) (ys zs : List ℤ) → 8 * n ≤ length ys → zs ≡ numbers_to n ++ drop (8 * n) ys → length zs ≡ length ys
+  same_size n ys zs h e = ap length e ∙ length-append (numbers_to n) (drop (8 * n) ys) ∙ omega (arith, length-numbers n, length-drop (8 * n) ys)
 
   -- the numbers of one line more
   pub put_next : (n m : ℕ) (ys zs row : List ℤ) → m ≡ 8 → zs ≡ numbers_to n ++ drop (8 * n) ys → row ≡ numbers_of (f n)

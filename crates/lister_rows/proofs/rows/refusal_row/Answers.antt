@@ -14,5 +14,5 @@ returns c =
     row_put _ _ (omega (
       arith,
       count-length a.number (omega (arith, c.ranges.number)),
-      digits-length a.offset 19 (omega (arith, c.ranges.offset)) (omega (arith, c.ranges.offset)),
+      digits-length a.offset 19 (omega (arith, c.ranges.offset)),
     )) (rw (c.put-2.ensures, c.number-2.ensures, c.number.ensures, c.put.ensures, c.empty.ensures, number, offset))
