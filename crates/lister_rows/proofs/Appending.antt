@@ -1,15 +1,24 @@
--- Laws of appending: what a row holds after it.
+-- Laws of a row and of appending: what it holds before and after it.
 use mathlib.Core.Path.{◌≡◌, refl, sym, ap, ◌∙◌}
 use mathlib.Core.List.{List, [], ◌∷◌, ◌++◌, append_assoc}
 use Prim.Native.Nat.{ℕ, zero, suc, ◌+◌, ◌-◌, ◌≤◌, min}
 use native.Mathlib.Omega.{arith}
 use borrow.Rule.Slice.PartMut.{put_mid}
-use lib.ListN.{length, take, length-append}
+use lib.ListN.{length, take, drop, replicate, length-append}
 use lib.Seq.{length-take-le, take-append-add}
-use Rattle.std.proofs.lemmas.List.{length-take, take_all, take_min}
-use Rattle.std.proofs.lemmas.Slice.{take-put_mid}
+use Rattle.std.proofs.lemmas.List.{length-take, take_all, take_min, drop-drop, drop-replicate}
+use Rattle.std.proofs.lemmas.Slice.{take-put_mid, drop-put_mid}
 use Rattle.lister_rows.specs.Row.{appended_to}
 use Rattle.lister_rows.specs.Rows.{fields_of, line_feed, row, space}
+
+-- what is put behind the bytes that count leaves zeros behind it
+pub zeros_put : (bytes part : List ℕ) (at k n : ℕ) → length bytes ≡ 128 → at + n ≤ 128 → k ≡ n → length part ≡ n
+    → drop at bytes ≡ replicate (128 - at) 0 → drop (at + n) (put_mid at k bytes part) ≡ replicate (128 - (at + n)) 0
+zeros_put bytes part at k n size fits same long zeros =
+    drop-put_mid at k bytes part (at + n) (omega (arith, same)) (omega (arith, size)) (long ∙ sym same)
+    ∙ sym (drop-drop n at bytes) ∙ ap (drop n) zeros ∙ drop-replicate n (128 - at) 0 ∙ ap (λ m. replicate m 0) (omega arith)
+
+-- ---- appending
 
 -- the bytes that count, once as many as there is room for stand behind them
 pub text_put : (bytes more part : List ℕ) (at k n : ℕ) → length bytes ≡ 128 → at ≤ 128 → n ≡ min (128 - at) (length more) → part ≡ take n more

@@ -4,7 +4,7 @@ ghost use Rattle.lister_rows.specs.Row.{appended_to};
 ghost use Rattle.lister_rows.specs.Rows.{space};
 
 use crate::row::Row;
-use itoa::{Buffer, Integer};
+use itoa::Integer;
 
 impl Row {
     // A letter.
@@ -14,11 +14,11 @@ impl Row {
         self.text(&[b' ', b])
     }
 
-    // A number: its decimal digits, and a minus sign before them where it is below 0. Not by `write!`, which may fail, and no clause of std says when.
+    // A number as a field.
     #[tactic(auto, using(crate::proofs::Appending::appended_twice))]
-    pub fn number<I: Integer>(self, n: I) -> Row
+    pub fn amount<I: Integer>(self, n: I) -> Row
         ensures { result ≡ appended_to self (space ∷ I.text n) }
     {
-        self.put(b' ').text(Buffer::new().format(n).as_bytes())
+        self.put(b' ').number(n)
     }
 }

@@ -34,14 +34,14 @@ pub fn line_row(l: Line) -> Row
     let rate = rate_letter(l.rate);
     Row::empty()
         .put(b'L')
-        .number(l.instruction)
-        .number(l.period)
+        .amount(l.instruction)
+        .amount(l.period)
         .letter(stage)
         .letter(rate)
-        .number(l.expected.0)
-        .number(l.delivered.0)
-        .number(l.capped.0)
-        .number(l.pence.0)
+        .amount(l.expected.0)
+        .amount(l.delivered.0)
+        .amount(l.capped.0)
+        .amount(l.pence.0)
         .put(b'\n')
 }
 
@@ -51,9 +51,9 @@ pub fn window_row(n: u32, a: Available) -> Row
 {
     Row::empty()
         .put(b'A')
-        .number(n)
-        .number(a.periods)
-        .number(a.pence.0)
+        .amount(n)
+        .amount(a.periods)
+        .amount(a.pence.0)
         .put(b'\n')
 }
 
@@ -63,10 +63,10 @@ pub fn totals_row(s: Statement) -> Row
 {
     Row::empty()
         .put(b'T')
-        .number(s.capped.0)
-        .number(s.utilisation.0)
-        .number(s.availability.0)
-        .number(s.total.0)
+        .amount(s.capped.0)
+        .amount(s.utilisation.0)
+        .amount(s.availability.0)
+        .amount(s.total.0)
         .put(b'\n')
 }
 
@@ -76,7 +76,7 @@ pub fn refusal_row(number: u8, offset: usize) -> Row
 {
     Row::empty()
         .put(b'R')
-        .number(number)
-        .number(offset)
+        .amount(number)
+        .amount(offset)
         .put(b'\n')
 }

@@ -15,4 +15,4 @@ returns c =
       arith,
       count-length a.number (omega (arith, c.ranges.number)),
       digits-length a.offset 19 (omega (arith, c.ranges.offset)),
-    )) (rw (c.put-2.ensures, c.number-2.ensures, c.number.ensures, c.put.ensures, c.empty.ensures, number, offset))
+    )) (rw (c.put-2.ensures, c.amount-2.ensures, c.amount.ensures, c.put.ensures, c.empty.ensures, number, offset))

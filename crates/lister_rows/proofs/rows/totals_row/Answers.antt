@@ -24,10 +24,10 @@ returns c =
       signed_length s.total.0 total,
     )) (rw (
       c.put-2.ensures,
-      c.number-4.ensures,
-      c.number-3.ensures,
-      c.number-2.ensures,
-      c.number.ensures,
+      c.amount-4.ensures,
+      c.amount-3.ensures,
+      c.amount-2.ensures,
+      c.amount.ensures,
       c.put.ensures,
       c.empty.ensures,
     ) (simp (to_z-of_z, capped, utilisation, availability, total, decimal_signed)))

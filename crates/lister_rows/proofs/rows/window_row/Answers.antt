@@ -22,9 +22,9 @@ returns c =
       signed_length a.a.pence.0 pence,
     )) (rw (
       c.put-2.ensures,
-      c.number-3.ensures,
-      c.number-2.ensures,
-      c.number.ensures,
+      c.amount-3.ensures,
+      c.amount-2.ensures,
+      c.amount.ensures,
       c.put.ensures,
       c.empty.ensures,
       to_z-of_z pence,
