@@ -2,7 +2,7 @@
 #![tactic(auto)]
 
 ghost use Rattle.std.specs.Prelude.{◌≡◌, List, ℕ, ◌+◌, ◌*◌, ◌<◌, ◌^◌};
-ghost use Rattle.host_tables.specs.Tables.{Tables as TablesOf, entire, entries_of, entry_at, said, tables};
+ghost use Rattle.host_tables.specs.Tables.{Tables as TablesOf, book_of, entire, entries_of, entry_at, said, tables};
 ghost use Rattle.host_tables.specs.Tables.{byte_at, contract_of_row, date_of_row, number_at, word_at};
 ghost use Rattle.host_tables.specs.Tables.{default_numbers, default_of_row, instruction_numbers, instruction_of_row, window_numbers, window_of_row};
 
@@ -191,7 +191,7 @@ impl<'a> Tables<'a> {
 
     // Whether these hold whole rows alone.
     #[tactic(auto, unfolding(crate::specs::Tables::entire))]
-    fn entire(&self) -> bool
+    pub fn entire(&self) -> bool
         ensures { result ≡ entire self.now }
     {
         self.contract.len() == CONTRACT_NUMBERS
@@ -200,13 +200,13 @@ impl<'a> Tables<'a> {
             && self.defaults.len() % DEFAULT_NUMBERS == 0
     }
 
-    // The closed book that these say; refused where a row is cut short.
+    // The closed book of the rows that these hold, as many entries of each as there are whole ones. In line, since a call would copy the book.
+    #[inline(always)]
     #[tactic(auto, unfolding(crate::specs::Tables::book_of))]
-    pub fn book(&self) -> Result<Book, Refusal>
-        ensures { result ≡ said self.now }
+    pub fn book_of_rows(&self) -> Book
+        ensures { result ≡ book_of self.now }
     {
-        refuse_if(!self.entire(), Refusal::NotReached)?;
-        Ok(Book {
+        Book {
             agreed: true,
             closed: true,
             contract: contract_in(self.contract),
@@ -217,6 +217,14 @@ impl<'a> Tables<'a> {
             ninstructions: self.instructions.len() / INSTRUCTION_NUMBERS,
             defaults: entries(self.defaults),
             ndefaults: self.defaults.len() / DEFAULT_NUMBERS,
-        })
+        }
+    }
+
+    // The same; refused where a row is cut short.
+    pub fn book(&self) -> Result<Book, Refusal>
+        ensures { result ≡ said self.now }
+    {
+        refuse_if(!self.entire(), Refusal::NotReached)?;
+        Ok(self.book_of_rows())
     }
 }

@@ -9,6 +9,9 @@ use energy::units::{Kw, Kwh, Minutes, Pence};
 use watch_step::step::{NotStepped, step};
 use watch_step::totals::Totals;
 
+// How many numbers totals are.
+pub const TOTALS: usize = 7;
+
 // The totals that the memory holds: seven numbers at least, the first five each in the range of its type. `TryFrom<&[i64]>` could stand only beside `Totals`, where
 // no host is known.
 fn totals_in(totals: &[i64]) -> Option<Totals>
