@@ -268,9 +268,10 @@ module _ {b : Book} {readings : Memory} (G : Grounds b readings) where
         let l : j < b.ndefaults = omega (arith, length-take-le b.ndefaults b.defaults room) in
         rw (get_or-take b.ndefaults b.defaults j no_default l) (placed_first live b.windows b.nwindows few (get_or b.defaults j no_default) (numbered j) (placed j l))
 
-    pub available : Spans windows_there (length windows_there) × (length live ≡ period_places)
+    pub available : Spans windows_there (length windows_there) × (length windows_there ≤ length windows_there) × (length windows_there ≤ 128)
+        × (length live ≡ period_places)
         × ((j : ℕ) → j < length defaults_there → Placed live windows_there period_places (get_or defaults_there j no_default))
-    available = (spans_first live b.windows b.nwindows few spans, size, placed_there)
+    available = let s = spans_first live b.windows b.nwindows few spans in (s, omega arith, s.few, size, placed_there)
 
     pub available_same : (kw rate : ℕ)
         → availability_by live windows_there (length windows_there) defaults_there (length defaults_there) kw rate

@@ -6,7 +6,7 @@ ghost use Rattle.energy.specs.Number.{Within};
 ghost use Rattle.commands.specs.Refusals.{number_of};
 ghost use Rattle.book.specs.Sound.{Shaped, sound};
 ghost use Rattle.settle.specs.Settle.{refusal_for};
-ghost use Rattle.settle.specs.Prepared.{Counted, LaidOut, summed, unsummed};
+ghost use Rattle.settle.specs.Prepared.{Counted, LaidOut, Prepares, summed, unsummed};
 
 use book::Book;
 use book_memory::lent::Lent;
@@ -59,6 +59,7 @@ pub fn lay_out(b: &Book, n: usize) -> Prepared
     let e = availability(
         &live,
         windows,
+        windows.len(),
         &b.defaults[..b.ndefaults],
         terms.kw,
         k.availability,
@@ -92,6 +93,16 @@ pub fn check_book(
     refuse_if(!s.complete, Refusal::MissingReading)?;
     refuse_if(room < n, Refusal::NoRoom)?;
     Ok(n)
+}
+
+// What is prepared of any book, or its refusal. `settle` and `settle_numbers` ask the two above instead: a plan in a `Result`, copied, costs them stack.
+pub fn prepare(b: Book, memory: Lent<'_>, room: usize) -> Result<Prepared, Refusal>
+    ensures { MatchResult result
+        (Prepares b (held memory.entry) room)
+        (λ e. refusal_for b (held memory.entry) room ≡ some (number_of e)) }
+{
+    let n = check_book(&b, b.sound(), memory, room)?;
+    Ok(lay_out(&b, n))
 }
 
 // The statement with the sums of the lines.

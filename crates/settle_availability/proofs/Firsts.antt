@@ -23,6 +23,19 @@ module _ (live : List ℕ) (ws : List Window) (n : ℕ) (few : n ≤ length ws) 
         inside = λ i h. rw (get_or-take n ws i no_window h) (s.inside i h);
       })
 
+  module _ (reached : ℕ → Bool) where
+    entries_same : (each k : ℕ) → k ≤ n → entries_to live reached each (take n ws) k ≡ entries_to live reached each ws k
+    entries_same each zero h = refl
+    entries_same each (suc k) h = rw (entries_same each k (omega arith), get_or-take n ws k no_window h) refl
+
+    periods_same : (k : ℕ) → k ≤ n → periods_to live reached (take n ws) k ≡ periods_to live reached ws k
+    periods_same zero h = refl
+    periods_same (suc k) h = rw (periods_same k (omega arith), get_or-take n ws k no_window h) refl
+
+    pub entries_first : (each : ℕ) → entries_by live reached each (take n ws) (length (take n ws)) ≡ entries_by live reached each ws n
+    unfolding entries_by
+    entries_first each = rw (length-take-le n ws few, entries_same each n (omega arith), periods_same n (omega arith)) refl
+
   module _ (x : Default) (own : window_number_of live x ≤ n) where
     window_same : 0 < window_number_of live x → window_of live (take n ws) x ≡ window_of live ws x
     window_same h = get_or-take n ws (window_number_of live x - 1) no_window (omega arith)
@@ -50,15 +63,6 @@ module _ (live : List ℕ) (ws : List Window) (n : ℕ) (few : n ≤ length ws) 
     counted_same : (i k : ℕ) → k ≤ d → counted_to live (take d ds) k i ≡ counted_to live ds k i
     counted_same i zero h = refl
     counted_same i (suc k) h = ap₂ ◌||◌ (counted_same i k (omega arith)) (ap (λ x. counts_in live x i) (get_or-take d ds k no_default h))
-
-    module _ (reached : ℕ → Bool) where
-      entries_same : (each k : ℕ) → k ≤ n → entries_to live reached each (take n ws) k ≡ entries_to live reached each ws k
-      entries_same each zero h = refl
-      entries_same each (suc k) h = rw (entries_same each k (omega arith), get_or-take n ws k no_window h) refl
-
-      periods_same : (k : ℕ) → k ≤ n → periods_to live reached (take n ws) k ≡ periods_to live reached ws k
-      periods_same zero h = refl
-      periods_same (suc k) h = rw (periods_same k (omega arith), get_or-take n ws k no_window h) refl
 
     pub availability_first : (kw rate : ℕ) → d ≤ length ds
         → availability_by live (take n ws) (length (take n ws)) (take d ds) (length (take d ds)) kw rate ≡ availability_by live ws n ds d kw rate

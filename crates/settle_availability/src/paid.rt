@@ -170,25 +170,28 @@ fn entries_of(
     }
 }
 
-// The availability of the windows with these defaults.
+// The availability of the first n windows of a table with these defaults, each of which may be in any window of the table.
 pub fn availability(
     live: &[u8],
     windows: &[Window],
+    n: usize,
     defaults: &[Default],
     kw: Kw,
     rate: u32,
 ) -> Entries
-    requires spans { Spans windows.now (length windows.now)
+    requires spans { Spans windows.now n
+        × (n ≤ length windows.now)
+        × (length windows.now ≤ 128)
         × (length live.now ≡ period_places)
         × ((j : ℕ) → j < length defaults.now → Placed live.now windows.now period_places (get_or defaults.now j no_default)) }
     requires upto { Upto 500000 kw.0 × (rate ≤ 1000000) }
-    ensures { (result ≡ availability_by live.now windows.now (length windows.now) defaults.now (length defaults.now) (nat_abs kw.0) rate)
+    ensures { (result ≡ availability_by live.now windows.now n defaults.now (length defaults.now) (nat_abs kw.0) rate)
         × Within 100000000000000 result.pence.0 }
 {
     let mut reached = [false; PLACES];
     let mut counted = [false; 128];
     mark_defaults(&mut reached, &mut counted, live, windows, defaults);
-    let p = penalty(&counted[..windows.len()]);
+    let p = penalty(&counted[..n]);
     let each = period_pence(kw, rate, p);
-    entries_of(&reached, live, defaults.len(), windows, each)
+    entries_of(&reached, live, defaults.len(), &windows[..n], each)
 }

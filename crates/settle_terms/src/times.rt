@@ -16,7 +16,7 @@ impl Terms {
 
     // e - U: the first minute of the ramp up.
     pub fn start(self, x: Instruction) -> Minutes
-        requires { (x.issue.0 + self.response.0 < 65536) × (self.upminutes.0 ≤ self.response.0) }
+        requires { (x.issue.0 + self.response.0 < 65536) × (self.upminutes.0 ≤ x.issue.0 + self.response.0) }
         ensures { result.0 ≡ x.issue.0 + self.response.0 - self.upminutes.0 }
     {
         Minutes(self.expiry(x).0 - self.upminutes.0)
