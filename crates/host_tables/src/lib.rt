@@ -12,7 +12,6 @@ use commands::contract::Contract;
 use commands::entries::{Default, Instruction, Window};
 use commands::refusal::{Refusal, refuse_if};
 use energy::units::{Kw, Minutes};
-use std::array;
 use std::marker::Model;
 
 // How many numbers a row of each table has.
@@ -148,12 +147,18 @@ fn entry_at<T: FromRow>(table: &[u32], i: usize) -> T
     T::from_row(table.get(T::NUMBERS * i..).unwrap_or(&[]))
 }
 
-// The entries of a table, in the book's places.
-fn entries<T: FromRow, const N: usize>(table: &[u32]) -> [T; N]
-    requires { T.NUMBERS * N < 2 ^ 64 }
+// The entries of a table, in the book's places. The rows that it has are read, and the one that its numbers end in: all places read, as `array::from_fn`
+// would, took a call over small tables twice its time.
+fn entries<T: FromRow + Copy, const N: usize>(table: &[u32]) -> [T; N]
+    requires { (0 < T.NUMBERS) × (T.NUMBERS * N < 2 ^ 64) }
     ensures { result ≡ entries_of T.of_row T.NUMBERS N table.now }
 {
-    array::from_fn(|i| entry_at(table, i))
+    let mut all = [T::from_row(&[]); N];
+    let n = (table.len() / T::NUMBERS + 1).min(N);
+    for i in 0..n {
+        all[i] = entry_at(table, i);
+    }
+    all
 }
 
 // The tables of a host, row after row; the contract's has one row.
