@@ -54,7 +54,7 @@ loop-memory-preserved g c =
     let yes : c.take.result ≡ true = search rules in
     let same : c.LENGTH-in-loop-memory.result ≡ g.K.Kind.LENGTH = search rules in
     let taken = when_taken _ _ _ _ _ c.take.result _ c.take.ensures.0 yes in
-    (rw same (run_more _ _ _ _ l.at (l.at + g.K.Kind.LENGTH) (held_mut l.memory) _ l.invariant.0 taken), same_on l.invariant.1 c.take.ensures.1)
+    (run_more _ _ _ _ l.at (l.at + c.LENGTH-in-loop-memory.result) (held_mut l.memory) _ l.invariant.0 (rw same taken), same_on l.invariant.1 c.take.ensures.1)
 
 pub returns-then-not-take-clause-same : goal.returns-then-not-take-clause-same
 returns-then-not-take-clause-same g c = same_on c.loop-memory.invariant.1 c.take.ensures.1

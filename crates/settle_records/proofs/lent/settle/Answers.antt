@@ -18,6 +18,12 @@ use Rattle.settle_records.proofs.lent.settle.Goals as goal
 stored_next : (f : ℕ → Line) (n : ℕ) (ys zs : List Line) {l : Line} → zs ≡ stored f n ys → l ≡ f n → set zs n l ≡ stored f (n + 1) ys
 stored_next f n ys zs e h = rw (add-one n, e, h) refl
 
+pub returns-in_err-n : goal.returns-in_err-n
+returns-in_err-n c =
+    let a = c.args in
+    let e = refused a.b (held a.memory) a.lines.now _ c.in_err-n.ensures in
+    record { value = handed _ c.from_residual.ensures.1 ∙ ap (λ (s : Settled). s.answer) (sym e); lines_after = ap (λ (s : Settled). s.memory) (sym e) }
+
 pub lay_out-p-requires : goal.lay_out-p-requires
 lay_out-p-requires c = let s = sound_agreed c.in_ok-n.ensures in (s.0, s.1, search (length_mapped, rules))
 
@@ -44,12 +50,6 @@ loop-slot-preserved c =
       rw (x.ensures, l.invariant.0, add-one l.slot-index),
       stored_next _ l.slot-index _ l.slot-items l.invariant.1 (rw (x.ensures, l.invariant.0) refl),
     )
-
-pub returns-in_err-n : goal.returns-in_err-n
-returns-in_err-n c =
-    let a = c.args in
-    let e = refused a.b (held a.memory) a.lines.now _ c.in_err-n.ensures in
-    record { value = handed _ c.from_residual.ensures.1 ∙ ap (λ (s : Settled). s.answer) (sym e); lines_after = ap (λ (s : Settled). s.memory) (sym e) }
 
 pub returns : goal.returns
 returns c =
