@@ -148,7 +148,7 @@ fn entry_at<T: FromRow>(table: &[u32], i: usize) -> T
 }
 
 // The entries of a table, in the book's places. The rows that it has are read, and the one that its numbers end in: all places read, as `array::from_fn`
-// would, took a call over small tables twice its time.
+// would, took a call over small tables twice its instructions.
 fn entries<T: FromRow + Copy, const N: usize>(table: &[u32]) -> [T; N]
     requires { (0 < T.NUMBERS) × (T.NUMBERS * N < 2 ^ 64) }
     ensures { result ≡ entries_of T.of_row T.NUMBERS N table.now }
@@ -205,8 +205,7 @@ impl<'a> Tables<'a> {
             && self.defaults.len() % DEFAULT_NUMBERS == 0
     }
 
-    // The closed book of the rows that these hold, as many entries of each as there are whole ones. In line, since a call would copy the book.
-    #[inline(always)]
+    // The closed book of the rows that these hold, as many entries of each as there are whole ones.
     #[tactic(auto, unfolding(crate::specs::Tables::book_of))]
     pub fn book_of_rows(&self) -> Book
         ensures { result ≡ book_of self.now }
