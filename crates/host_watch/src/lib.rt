@@ -58,7 +58,7 @@ fn put_totals(totals: &mut [i64], s: Totals)
     totals[3] = s.expected as i64;
     totals[4] = s.delivered as i64;
     totals[5] = s.capped.0;
-    totals[6] = s.pence.0;
+    totals[TOTALS - 1] = s.pence.0;
 }
 
 // One step over the month's numbers: the answer's number, and the totals after it in the memory where it is taken.
