@@ -147,8 +147,8 @@ fn entry_at<T: FromRow>(table: &[u32], i: usize) -> T
     T::from_row(table.get(T::NUMBERS * i..).unwrap_or(&[]))
 }
 
-// The entries of a table, in the book's places. The rows that it has are read, and the one that its numbers end in: all places read, as `array::from_fn`
-// would, took a call over small tables twice its instructions.
+// The entries of a table, in the book's places. The rows that it has are read, and the place after them: all places read, as `array::from_fn` would, takes
+// a third more instructions of a call that settles tables of one contract.
 fn entries<T: FromRow + Copy, const N: usize>(table: &[u32]) -> [T; N]
     requires { (0 < T.NUMBERS) × (T.NUMBERS * N < 2 ^ 64) }
     ensures { result ≡ entries_of T.of_row T.NUMBERS N table.now }
