@@ -14,7 +14,7 @@ use host_sums::{SUMS, put_sums};
 use settle_numbers::settle_numbers;
 
 // The number under which settling a book is refused, or 0. Line and sum memory are written only where it is 0.
-#[tactic(auto, using(crate::proofs::Settled::nothing_written, crate::proofs::Settled::same_number), unfolding(crate::specs::SettleInto::settle_into))]
+#[tactic(auto, unfolding(crate::specs::SettleInto::settle_into))]
 pub fn settle_book(b: Book, memory: Lent<'_>, lines: &mut [i64], sums: &mut [i64]) -> u8
     requires { b.nwindows < 2 ^ 63 }
     ensures { settled_book result lines.new sums.new
